@@ -1,0 +1,35 @@
+-- What the contents of a ring are: a list, oldest item first, within a limit; and which place a position names.
+use Rattle.std.specs.Prelude.{◌≡◌, ℕ, ◌+◌, ◌-◌, ◌%◌, ◌<◌, ◌≤◌, List, [], ◌∷◌, length, take, drop, ℤ, pos, negsuc, Option, None, Some}
+
+-- what a limit leaves of a list: its last items, at most so many
+abbrev pub keep_last : {A : Type 0} → Option ℕ → List A → List A
+keep_last None xs = xs
+keep_last (Some limit) xs = drop (length xs - limit) xs
+
+-- a list is no longer than the limit, which is above zero
+abbrev pub IsWithin : {A : Type 0} → List A → Option ℕ → Type 0
+IsWithin xs None = Unit {0}
+IsWithin xs (Some limit) = (0 < limit) × (length xs ≤ limit)
+
+-- the list without its first item
+abbrev pub rest : {A : Type 0} → List A → List A
+rest [] = []
+rest (x ∷ xs) = xs
+
+-- a beginning of the list that is shorter than the whole
+abbrev pub IsCut : {A : Type 0} → List A → List A → Type 0
+IsCut whole part = (length part < length whole) × (part ≡ take (length part) whole)
+
+-- the place that position i names among n items: 0 is the oldest, and positions wrap by n
+abbrev pub place : ℕ → ℕ → ℕ
+place n i = i % n
+
+-- the same for a position with a sign: -1 names the newest
+abbrev pub signed_place : ℕ → ℤ → ℕ
+signed_place n (pos i) = i % n
+signed_place n (negsuc i) = n - (1 + i % n)
+
+-- a count of slot changes went from a to b where the items went from old to new and so many were put in:
+-- it never falls, and rises by at most the items put in plus those removed
+abbrev pub ChangesSlots : {A : Type 0} → ℕ → List A → ℕ → List A → ℕ → Type 0
+ChangesSlots a old b new put = (a ≤ b) × (b + length new ≤ a + length old + (put + put))

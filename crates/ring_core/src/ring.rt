@@ -1,0 +1,277 @@
+//! The trait that every ring buffer implements.
+
+ghost use Rattle.std.specs.Prelude.{◌≡◌, ℕ, ◌-◌, ◌<◌, ◌≤◌, ◌↔◌, List, [], ◌∷◌, ◌++◌, length, All, Contains, IfOk, IfErr, IfSome, IsNone, IsOk, IsSome, IsTrue, OnErr, OnOk, Option, None, slice_get, slice_set};
+ghost use Rattle.std.specs.Borrow.{LendsIf, sem};
+ghost use Rattle.std.specs.Iterator.{IsFiniteIterable};
+ghost use Rattle.std.specs.List.{AllZip, FoldsTo, list_any};
+ghost use Rattle.std.specs.Option.{option_copied, option_copied_mut};
+ghost use Rattle.ring_core.specs.Contents.{ChangesSlots, IsWithin, keep_last, place, rest, signed_place};
+ghost use Rattle.ring_core.specs.Extension.{Extends};
+
+use std::alloc::{AllocError, Global};
+
+/// A ring buffer: items in the order of their pushes, oldest first, within the ring's limit if it has one.
+///
+/// With a limit, as in `ConstGenericRingBuffer` and `AllocRingBuffer`, a push into a full ring drops the oldest item,
+/// and no push is refused. Without one, as in `GrowableAllocRingBuffer`, a push may be refused for want of memory.
+///
+/// A contract sees a ring as its contents, its limit and, with a limit, the number of times that a slot was changed.
+/// A position is taken modulo the length, and the remainder is never negative: 0 is the oldest item, -1 the newest.
+pub trait RingBuffer<T: Drop>: Sized {
+    // The items, oldest first.
+    ghost contents: { Self → List T };
+
+    // The most items that the ring holds, if there is such a number. No call changes it.
+    ghost limit: { Self → Option ℕ };
+
+    // The ring with the item at an index replaced.
+    ghost with_item: { Self → ℕ → T → Self };
+
+    // How often slots were changed. Nothing is said of it for a ring without a limit.
+    ghost slot_changes: { Self → ℕ } = { λ _. 0 };
+
+    /// How many items the ring holds.
+    fn len(&self) -> usize
+        ensures value { result ≡ length (contents self.now) }
+        ensures within { IsWithin (contents self.now) (limit self.now) };
+
+    /// Whether the ring holds no item.
+    fn is_empty(&self) -> bool
+        ensures { IsTrue result ↔ (contents self.now ≡ []) }
+    {
+        self.len() == 0
+    }
+
+    /// Whether the ring holds as many items as `capacity` says. The next push into a full ring drops the oldest item if
+    /// the ring has a limit, and asks for memory if it has none.
+    fn is_full(&self) -> bool
+        ensures { IfSome (limit self.now) (λ n. IsTrue result ↔ (length (contents self.now) ≡ n)) }
+    {
+        self.len() == self.capacity()
+    }
+
+    /// The limit of a ring that has one. Without a limit, how many items there is room for before the next request for
+    /// memory.
+    fn capacity(&self) -> usize
+        ensures value { IfSome (limit self.now) (λ n. result ≡ n) }
+        ensures holds { length (contents self.now) ≤ result }
+        ensures within { IsWithin (contents self.now) (limit self.now) };
+
+    /// How many items the ring's memory has room for, which may be more than its capacity.
+    fn buffer_size(&self) -> usize
+        ensures room { IfSome (limit self.now) (λ n. n ≤ result) }
+        ensures holds { length (contents self.now) ≤ result };
+
+    /// Puts the item last. A ring that is at its limit drops its oldest item for it.
+    ///
+    /// # Errors
+    ///
+    /// Hands the item back where memory was refused, which no ring with a limit meets.
+    fn push(&mut self, item: T) -> Result<(), T>
+        ensures ok { OnOk result (contents self.new ≡ keep_last (limit self.old) (contents self.old ++ item ∷ [])) }
+        ensures err { IfErr result (λ x. (x ≡ item) × (contents self.new ≡ contents self.old)) }
+        ensures limit { limit self.new ≡ limit self.old }
+        ensures changes { IsSome (limit self.old) → ChangesSlots (slot_changes self.old) (contents self.old) (slot_changes self.new) (contents self.new) 1 }
+        ensures succeeds { IsSome (limit self.old) → IsOk result };
+
+    /// Another name for `push`.
+    ///
+    /// # Errors
+    ///
+    /// As `push`.
+    fn enqueue(&mut self, item: T) -> Result<(), T>
+        ensures ok { OnOk result (contents self.new ≡ keep_last (limit self.old) (contents self.old ++ item ∷ [])) }
+        ensures err { IfErr result (λ x. (x ≡ item) × (contents self.new ≡ contents self.old)) }
+        ensures limit { limit self.new ≡ limit self.old }
+        ensures changes { IsSome (limit self.old) → ChangesSlots (slot_changes self.old) (contents self.old) (slot_changes self.new) (contents self.new) 1 }
+        ensures succeeds { IsSome (limit self.old) → IsOk result }
+    {
+        self.push(item)
+    }
+
+    /// Pushes the items of a source that ends, in order.
+    ///
+    /// # Errors
+    ///
+    /// Where memory was refused, which no ring with a limit meets. The items pushed until then stay, and the one that
+    /// was refused is dropped with the rest of the source.
+    fn extend<I: IntoIterator<Item = T>>(&mut self, items: I) -> Result<(), AllocError>
+    where
+        I::IntoIter: Drop,
+        requires { IsFiniteIterable I.into_iter_gives I.IntoIter.can_next I.IntoIter.remaining items }
+        ensures extends { Extends I.into_iter_gives I.IntoIter.next_gives items (limit self.old) (contents self.old) (contents self.new) (slot_changes self.old) (slot_changes self.new) result }
+        ensures limit { limit self.new ≡ limit self.old }
+        ensures succeeds { IsSome (limit self.old) → IsOk result };
+
+    /// Takes out the oldest item.
+    fn dequeue(&mut self) -> Option<T>
+        ensures value { result ≡ slice_get (contents self.old) 0 }
+        ensures rest { contents self.new ≡ rest (contents self.old) }
+        ensures limit { limit self.new ≡ limit self.old }
+        ensures changes { IsSome (limit self.old) → ChangesSlots (slot_changes self.old) (contents self.old) (slot_changes self.new) (contents self.new) 0 };
+
+    /// Drops the oldest item. Does nothing to an empty ring.
+    fn skip(&mut self)
+        ensures rest { contents self.new ≡ rest (contents self.old) }
+        ensures limit { limit self.new ≡ limit self.old }
+        ensures changes { IsSome (limit self.old) → ChangesSlots (slot_changes self.old) (contents self.old) (slot_changes self.new) (contents self.new) 0 }
+    {
+        let _ = self.dequeue();
+    }
+
+    /// Drops all items.
+    fn clear(&mut self)
+        ensures empty { contents self.new ≡ [] }
+        ensures limit { limit self.new ≡ limit self.old }
+        ensures changes { IsSome (limit self.old) → ChangesSlots (slot_changes self.old) (contents self.old) (slot_changes self.new) (contents self.new) 0 };
+
+    /// Drops all items, and then pushes as many answers of `make` as `capacity` said before. An item counts as held
+    /// only after it is stored.
+    ///
+    /// # Errors
+    ///
+    /// Where memory was refused, which no ring with a limit meets. The answers pushed until then stay.
+    fn fill_with<F: FnMut() -> T + Drop>(&mut self, make: F) -> Result<(), AllocError>
+        requires { F.IsAlwaysCallable make }
+        ensures made { (last : F) × FoldsTo F.step make (contents self.new) last }
+        ensures full { IfSome (limit self.old) (λ n. length (contents self.new) ≡ n) }
+        ensures limit { limit self.new ≡ limit self.old }
+        ensures changes { IsSome (limit self.old) → ChangesSlots (slot_changes self.old) (contents self.old) (slot_changes self.new) (contents self.new) (length (contents self.new)) }
+        ensures succeeds { IsSome (limit self.old) → IsOk result };
+
+    /// Fills the ring with default values, as `fill_with` does.
+    ///
+    /// # Errors
+    ///
+    /// As `fill_with`.
+    fn fill_default(&mut self) -> Result<(), AllocError>
+    where
+        T: Default,
+        ensures items { All T.is_default (contents self.new) }
+        ensures full { IfSome (limit self.old) (λ n. length (contents self.new) ≡ n) }
+        ensures limit { limit self.new ≡ limit self.old }
+        ensures changes { IsSome (limit self.old) → ChangesSlots (slot_changes self.old) (contents self.old) (slot_changes self.new) (contents self.new) (length (contents self.new)) }
+        ensures succeeds { IsSome (limit self.old) → IsOk result }
+    {
+        self.fill_with(|| T::default())
+    }
+
+    /// Drops all items, and then pushes as many clones of `value` as `capacity` said before. The value itself is dropped.
+    ///
+    /// # Errors
+    ///
+    /// Where a clone was refused or, on a ring without a limit, memory was. The clones pushed until then stay.
+    fn fill(&mut self, value: T) -> Result<(), AllocError>
+    where
+        T: Clone,
+        ensures items { All (T.is_clone value) (contents self.new) }
+        ensures full { OnOk result (IfSome (limit self.old) (λ n. length (contents self.new) ≡ n)) }
+        ensures short { OnErr result (IfSome (limit self.old) (λ n. length (contents self.new) < n)) }
+        ensures limit { limit self.new ≡ limit self.old }
+        ensures changes { IsSome (limit self.old) → ChangesSlots (slot_changes self.old) (contents self.old) (slot_changes self.new) (contents self.new) (length (contents self.new)) }
+    {
+        self.clear();
+        for _ in 0..self.capacity() {
+            let Ok(()) = self.push(value.clone()?) else {
+                return Err(AllocError);
+            };
+        }
+        Ok(())
+    }
+
+    /// The item at a position, or `None` if the ring is empty.
+    fn get(&self, index: usize) -> Option<&T>
+        ensures { option_copied result ≡ slice_get (contents self.now) (place (length (contents self.now)) index) };
+
+    /// The item at a position that may be negative, or `None` if the ring is empty.
+    fn get_signed(&self, index: isize) -> Option<&T>
+        ensures { option_copied result ≡ slice_get (contents self.now) (signed_place (length (contents self.now)) index) };
+
+    /// The item that `get` answers, for writing. A write changes that place alone.
+    fn get_mut(&mut self, index: usize) -> Option<&mut T>
+        ensures* writes_back { sem 𝓛 (LendsIf Self.row T.row self.entry result (with_item self.old (place (length (contents self.old)) index)) self.old) }
+        ensures value { option_copied_mut result ≡ slice_get (contents self.old) (place (length (contents self.old)) index) }
+        ensures none { IsNone result ↔ (contents self.old ≡ []) };
+
+    /// The item that `get_signed` answers, for writing. A write changes that place alone.
+    fn get_mut_signed(&mut self, index: isize) -> Option<&mut T>
+        ensures* writes_back { sem 𝓛 (LendsIf Self.row T.row self.entry result (with_item self.old (signed_place (length (contents self.old)) index)) self.old) }
+        ensures value { option_copied_mut result ≡ slice_get (contents self.old) (signed_place (length (contents self.old)) index) }
+        ensures none { IsNone result ↔ (contents self.old ≡ []) };
+
+    /// The oldest item. It is the next to be dropped by a push only if the ring is full.
+    fn peek(&self) -> Option<&T>
+        ensures { option_copied result ≡ slice_get (contents self.now) 0 }
+    {
+        self.get(0)
+    }
+
+    /// The oldest item.
+    fn front(&self) -> Option<&T>
+        ensures { option_copied result ≡ slice_get (contents self.now) 0 }
+    {
+        self.get(0)
+    }
+
+    /// The oldest item, for writing.
+    fn front_mut(&mut self) -> Option<&mut T>
+        ensures* writes_back { sem 𝓛 (LendsIf Self.row T.row self.entry result (with_item self.old 0) self.old) }
+        ensures value { option_copied_mut result ≡ slice_get (contents self.old) 0 }
+        ensures none { IsNone result ↔ (contents self.old ≡ []) }
+    {
+        self.get_mut(0)
+    }
+
+    /// The newest item.
+    fn back(&self) -> Option<&T>
+        ensures { option_copied result ≡ slice_get (contents self.now) (length (contents self.now) - 1) }
+    {
+        self.get_signed(-1)
+    }
+
+    /// The newest item, for writing.
+    fn back_mut(&mut self) -> Option<&mut T>
+        ensures* writes_back { sem 𝓛 (LendsIf Self.row T.row self.entry result (with_item self.old (length (contents self.old) - 1)) self.old) }
+        ensures value { option_copied_mut result ≡ slice_get (contents self.old) (length (contents self.old) - 1) }
+        ensures none { IsNone result ↔ (contents self.old ≡ []) }
+    {
+        self.get_mut_signed(-1)
+    }
+
+    /// Clones of the items, in order.
+    ///
+    /// # Errors
+    ///
+    /// Where memory or a clone was refused. The ring is as it was.
+    fn to_vec(&self, alloc: Global) -> Result<Vec<T>, AllocError>
+    where
+        T: Clone,
+        ensures { IfOk result (λ v. AllZip T.is_clone (contents self.now) v.items) }
+    {
+        let mut items = Vec::with_capacity(alloc, self.len())?;
+        for i in 0..self.len() {
+            items.push(self.get(i).unwrap().clone()?)?;
+        }
+        Ok(items)
+    }
+
+    /// Whether an item equals `x`.
+    fn contains(&self, x: &T) -> bool
+    where
+        T: PartialEq,
+        ensures { result ≡ list_any (λ y. T.eq y x.now) (contents self.now) }
+    {
+        for i in 0..self.len() {
+            if *self.get(i).unwrap() == *x {
+                return true;
+            }
+        }
+        false
+    }
+
+    // What a write at an index does to the contents.
+    ghost sets_item: { (s : Self) (i : ℕ) (x : T) → contents (with_item s i x) ≡ slice_set (contents s) i x };
+
+    // A write leaves the limit as it is.
+    ghost keeps_limit: { (s : Self) (i : ℕ) (x : T) → limit (with_item s i x) ≡ limit s };
+}
