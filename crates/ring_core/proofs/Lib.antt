@@ -1,2 +1,4 @@
 pub mod Filling
+pub mod Lending
 pub mod Reading
+pub mod Walks

@@ -1,18 +1,28 @@
 -- What a walk over a ring by position reads: at each index below the length, the item that the contents have there.
-use Rattle.std.proofs.Common.{◌≡◌, ℕ, ◌+◌, ◌<◌, Bool, false, true, List, [], ◌∷◌, ◌++◌, length, take, get_or, Option, Some, refl, sym, ap, ◌∙◌, Bor, add-one}
+use Rattle.std.proofs.Common.{◌≡◌, ℕ, ◌+◌, ◌<◌, ◌≤◌, Bool, false, true, List, [], ◌∷◌, ◌++◌, length, take, get_or, Option, None, Some, refl, sym, ap, ◌∙◌, Bor, add-one, arith, inl, inr}
 use Rattle.std.specs.List.{AllZip, list_any, slice_get}
 use Rattle.std.specs.Option.{option_copied}
-use Rattle.std.proofs.lemmas.Option.{get_or_from_slice_get}
+use Rattle.std.proofs.lemmas.Option.{get_or_from_slice_get, slice_get_cases}
 use Rattle.std.proofs.lemmas.List.Folds.{list_any_at, list_any_more}
 use Rattle.std.proofs.Math.Nat.{mod-eq_of_lt}
 use Rattle.std.proofs.Math.Seq.{take-suc}
 use Rattle.ring_core.specs.Contents.{place}
 
+-- a position below the length is the index itself
+pub slice_get-place : {A : Type 0} (xs : List A) (i : ℕ) → i < length xs → slice_get xs (place (length xs) i) ≡ slice_get xs i
+slice_get-place xs i below = ap (slice_get xs) (mod-eq_of_lt below)
+
 -- `get` at an index below the length answers the item there
 pub get_or_read : {A : Type 0} (xs : List A) (i : ℕ) (o : Option (Bor A)) (x : Bor A) → i < length xs
     → option_copied o ≡ slice_get xs (place (length xs) i) → o ≡ Some x → get_or xs i x.now ≡ x.now
 get_or_read xs i o x below copied is_some =
-    get_or_from_slice_get xs i x.now x.now (sym (ap (slice_get xs) (mod-eq_of_lt below)) ∙ sym copied ∙ ap option_copied is_some)
+    get_or_from_slice_get xs i x.now x.now (sym (slice_get-place xs i below) ∙ sym copied ∙ ap option_copied is_some)
+
+-- `get` at an index below the length never answers None
+pub get_answers : {A : Type 0} (xs : List A) (i : ℕ) → i < length xs → None ≡ slice_get xs (place (length xs) i) → ⊥
+get_answers xs i below none =
+    let unread : None ≡ slice_get xs i = none ∙ slice_get-place xs i below in
+    elim (slice_get_cases xs i).1 [ inl (x, _, is_some, _) ↦ (let e : None ≡ Some x = unread ∙ is_some in cc) | inr past ↦ (let beyond : length xs ≤ i = past.0 in absurd (omega arith)) ]
 
 -- the items up to and with the one just read
 pub take_read : {A : Type 0} (xs : List A) (i : ℕ) (o : Option (Bor A)) (x : Bor A) → i < length xs

@@ -1,2 +1,4 @@
 pub mod Contents
+pub mod Cursor
 pub mod Extension
+pub mod Walk

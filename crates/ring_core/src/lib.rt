@@ -1,6 +1,10 @@
 //! The interface of a ring buffer and what stands on it alone: the trait `RingBuffer`, its iterators, and runs of commands.
 #![tactic(auto)]
 
+mod iter;
 mod ring;
 
+pub use iter::{
+    RingBufferDrainingIterator, RingBufferIntoIterator, RingBufferIterator, RingBufferMutIterator,
+};
 pub use ring::RingBuffer;

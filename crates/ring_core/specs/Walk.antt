@@ -1,0 +1,37 @@
+-- What the walks over a ring have still to come.
+use Rattle.std.specs.Prelude.{◌≡◌, ℕ, Option, List, length, take, drop}
+use Rattle.std.specs.Iterator.{YieldsFirst}
+use Rattle.ring_core.specs.declared.iter.RingBufferDrainingIterator.{RingBufferDrainingIterator}
+use Rattle.ring_core.specs.declared.iter.RingBufferIntoIterator.{RingBufferIntoIterator}
+use Rattle.ring_core.specs.declared.iter.RingBufferIterator.{RingBufferIterator}
+use Rattle.ring_core.specs.declared.iter.RingBufferMutIterator.{RingBufferMutIterator}
+
+-- the part of a list from one number up to the other, or up to the list's end
+abbrev pub to_come : {A : Type 0} → List A → ℕ → ℕ → List A
+to_come xs front back = drop front (take back xs)
+
+module _ {T RB : Type 0} (contents : RB → List T) where
+  -- what a reading walk has still to come
+  abbrev pub unread : RingBufferIterator T RB → List T
+  unread s = to_come (contents s.ring.now) s.front s.back
+
+  -- what a cursor has still to come
+  abbrev pub unvisited : RingBufferMutIterator T RB → List T
+  unvisited s = to_come (contents s.ring.now) s.front s.back
+
+  -- a new cursor is before all items
+  abbrev pub StartsOver : RingBufferMutIterator T RB → Type 0
+  StartsOver s = (s.front ≡ 0) × (s.back ≡ length (contents s.ring.now))
+
+  -- what a drain has still to come: the contents of the ring that it holds
+  abbrev pub undrained : RingBufferDrainingIterator T RB → List T
+  undrained s = contents s.ring.now
+
+  -- what an owning walk has still to come: the contents of its ring
+  abbrev pub unmoved : RingBufferIntoIterator T RB → List T
+  unmoved s = contents s.ring
+
+module _ {T RB : Type 0} (contents : RB → List T) (limit : RB → Option ℕ) where
+  -- a drain takes the first item out of its ring, whose limit stays
+  abbrev pub DrainsFirst : RingBufferDrainingIterator T RB → Option T → RingBufferDrainingIterator T RB → Type 0
+  DrainsFirst s r t = YieldsFirst (undrained contents) s r t × (t.ring.ghost_name ≡ s.ring.ghost_name) × (limit t.ring.now ≡ limit s.ring.now)

@@ -1,0 +1,230 @@
+//! Walks over any ring buffer: reading, writing, and taking the items out.
+
+ghost use Rattle.std.specs.Prelude.{◌≡◌, ◌-◌, ◌↔◌, [], length, IfSome, IsNone, Some, slice_get};
+ghost use Rattle.std.specs.Borrow.{sem};
+ghost use Rattle.std.specs.Iterator.{YieldsFirst, YieldsFirstRef, YieldsLastRef, UpTo, at_most, item_count};
+ghost use Rattle.std.specs.Iterator.Runs.{YieldsRefsInOrder, YieldsRefsInReverse};
+ghost use Rattle.std.specs.Iterator.SizeHint.{IsWithinCount};
+ghost use Rattle.std.specs.Option.{option_copied_mut};
+ghost use Rattle.ring_core.specs.Walk.{DrainsFirst, StartsOver, undrained, unmoved, unread, unvisited};
+
+use crate::ring::RingBuffer;
+use std::iter::FusedIterator;
+use std::marker::PhantomData;
+
+/// A walk over the items of a ring, from either end.
+#[derive(Drop)]
+pub struct RingBufferIterator<'rb, T, RB> {
+    ring: &'rb RB,
+    front: usize,
+    back: usize,
+    items: PhantomData<&'rb T>,
+}
+
+impl<'rb, T: Drop, RB: RingBuffer<T>> RingBufferIterator<'rb, T, RB> {
+    /// A walk over all items of the ring.
+    pub fn new(ring: &'rb RB) -> Self
+        ensures left { unread RB.contents result ≡ RB.contents ring.now }
+        ensures runs { YieldsRefsInOrder (YieldsFirstRef (unread RB.contents)) (unread RB.contents) }
+        ensures runs_back { YieldsRefsInReverse (YieldsLastRef (unread RB.contents)) (unread RB.contents) }
+    {
+        RingBufferIterator {
+            ring,
+            front: 0,
+            back: ring.len(),
+            items: PhantomData,
+        }
+    }
+}
+
+impl<'rb, T: Drop, RB: RingBuffer<T>> Iterator for RingBufferIterator<'rb, T, RB> {
+    type Item = &'rb T;
+
+    ghost next_gives = { YieldsFirstRef (unread RB.contents) };
+
+    ghost remaining = { item_count (unread RB.contents) };
+
+    fn next(&mut self) -> Option<&'rb T> {
+        let at = self.front;
+        if at >= self.back || at >= self.ring.len() {
+            return None;
+        }
+        self.front = at + 1;
+        self.ring.get(at)
+    }
+
+    fn size_hint(&self) -> (usize, Option<usize>)
+        ensures lower { IsWithinCount result.0 (at_most (length (unread RB.contents self.now))) }
+        ensures upper { IfSome result.1 (UpTo (at_most (length (unread RB.contents self.now)))) }
+        ensures exact { result ≡ (length (unread RB.contents self.now), Some (length (unread RB.contents self.now))) }
+    {
+        let left = self.len();
+        (left, Some(left))
+    }
+}
+
+impl<'rb, T: Drop, RB: RingBuffer<T>> DoubleEndedIterator for RingBufferIterator<'rb, T, RB> {
+    ghost next_back_gives = { YieldsLastRef (unread RB.contents) };
+
+    fn next_back(&mut self) -> Option<&'rb T> {
+        let end = self.back.min(self.ring.len());
+        if self.front >= end {
+            return None;
+        }
+        self.back = end - 1;
+        self.ring.get(end - 1)
+    }
+}
+
+impl<'rb, T: Drop, RB: RingBuffer<T>> ExactSizeIterator for RingBufferIterator<'rb, T, RB> {
+    fn len(&self) -> usize {
+        self.back.min(self.ring.len()).saturating_sub(self.front)
+    }
+}
+
+impl<'rb, T: Drop, RB: RingBuffer<T>> FusedIterator for RingBufferIterator<'rb, T, RB> {}
+
+/// A cursor over the items of a ring, which lends one item at a time for writing, from either end.
+#[derive(Drop)]
+pub struct RingBufferMutIterator<'rb, T, RB> {
+    ring: &'rb mut RB,
+    front: usize,
+    back: usize,
+    items: PhantomData<T>,
+}
+
+impl<'rb, T: Drop, RB: RingBuffer<T>> RingBufferMutIterator<'rb, T, RB> {
+    ghost use Rattle.ring_core.specs.Cursor.{lends_back, lends_front};
+
+    /// A cursor over all items of the ring.
+    pub fn new(ring: &'rb mut RB) -> Self
+        ensures same_reference { result.ring.ghost_name ≡ ring.entry.ghost_name }
+        ensures ring { result.ring.now ≡ ring.entry.now }
+        ensures starts { StartsOver RB.contents result }
+    {
+        let back = ring.len();
+        RingBufferMutIterator {
+            ring,
+            front: 0,
+            back,
+            items: PhantomData,
+        }
+    }
+
+    /// Lends the first item that is still to come, or answers `None` for good once nothing is left.
+    pub fn next(&mut self) -> Option<&mut T>
+        ensures* writes_back { sem 𝓛 (lends_front T.row RB.row self.entry RB.with_item result) }
+        ensures value { option_copied_mut result ≡ slice_get (unvisited RB.contents self.old) 0 }
+        ensures none { IsNone result ↔ (unvisited RB.contents self.old ≡ []) }
+    {
+        let at = self.front;
+        if at >= self.back || at >= self.ring.len() {
+            return None;
+        }
+        self.front = at + 1;
+        self.ring.get_mut(at)
+    }
+
+    /// Lends the last item that is still to come, or answers `None` for good once nothing is left.
+    pub fn next_back(&mut self) -> Option<&mut T>
+        ensures* writes_back { sem 𝓛 (lends_back T.row RB.row self.entry RB.contents RB.with_item result) }
+        ensures value { option_copied_mut result ≡ slice_get (unvisited RB.contents self.old) (length (unvisited RB.contents self.old) - 1) }
+        ensures none { IsNone result ↔ (unvisited RB.contents self.old ≡ []) }
+    {
+        let end = self.back.min(self.ring.len());
+        if self.front >= end {
+            return None;
+        }
+        self.back = end - 1;
+        self.ring.get_mut(end - 1)
+    }
+
+    /// How many items are still to come, as both bounds.
+    pub fn size_hint(&self) -> (usize, Option<usize>)
+        ensures { result ≡ (length (unvisited RB.contents self.now), Some (length (unvisited RB.contents self.now))) }
+    {
+        let left = self.back.min(self.ring.len()).saturating_sub(self.front);
+        (left, Some(left))
+    }
+}
+
+/// A walk that takes the items out of a ring, oldest first. Those that it didn't hand out stay in the ring, in order.
+#[derive(Drop)]
+pub struct RingBufferDrainingIterator<'rb, T, RB> {
+    ring: &'rb mut RB,
+    items: PhantomData<T>,
+}
+
+impl<'rb, T: Drop, RB: RingBuffer<T>> RingBufferDrainingIterator<'rb, T, RB> {
+    /// A walk that takes out what the ring holds.
+    pub fn new(ring: &'rb mut RB) -> Self
+        ensures same_reference { result.ring.ghost_name ≡ ring.entry.ghost_name }
+        ensures ring { result.ring.now ≡ ring.entry.now }
+    {
+        RingBufferDrainingIterator {
+            ring,
+            items: PhantomData,
+        }
+    }
+}
+
+impl<'rb, T: Drop, RB: RingBuffer<T>> Iterator for RingBufferDrainingIterator<'rb, T, RB> {
+    type Item = T;
+
+    ghost next_gives = { DrainsFirst RB.contents RB.limit };
+
+    ghost remaining = { item_count (undrained RB.contents) };
+
+    fn next(&mut self) -> Option<T> {
+        self.ring.dequeue()
+    }
+
+    fn size_hint(&self) -> (usize, Option<usize>)
+        ensures lower { IsWithinCount result.0 (at_most (length (undrained RB.contents self.now))) }
+        ensures upper { IfSome result.1 (UpTo (at_most (length (undrained RB.contents self.now)))) }
+        ensures exact { result ≡ (length (undrained RB.contents self.now), Some (length (undrained RB.contents self.now))) }
+    {
+        let left = self.ring.len();
+        (left, Some(left))
+    }
+}
+
+/// A walk over a ring that it owns, oldest item first. The ring is dropped with it, and what it still holds.
+#[derive(Drop)]
+pub struct RingBufferIntoIterator<T, RB> {
+    ring: RB,
+    items: PhantomData<T>,
+}
+
+impl<T: Drop, RB: RingBuffer<T>> RingBufferIntoIterator<T, RB> {
+    /// A walk over what the ring holds.
+    pub fn new(ring: RB) -> Self
+        ensures { unmoved RB.contents result ≡ RB.contents ring }
+    {
+        RingBufferIntoIterator {
+            ring,
+            items: PhantomData,
+        }
+    }
+}
+
+impl<T: Drop, RB: RingBuffer<T> + Drop> Iterator for RingBufferIntoIterator<T, RB> {
+    type Item = T;
+
+    ghost next_gives = { YieldsFirst (unmoved RB.contents) };
+
+    ghost remaining = { item_count (unmoved RB.contents) };
+
+    fn next(&mut self) -> Option<T> {
+        self.ring.dequeue()
+    }
+
+    fn size_hint(&self) -> (usize, Option<usize>)
+        ensures lower { IsWithinCount result.0 (at_most (length (unmoved RB.contents self.now))) }
+        ensures upper { IfSome result.1 (UpTo (at_most (length (unmoved RB.contents self.now)))) }
+        ensures exact { result ≡ (length (unmoved RB.contents self.now), Some (length (unmoved RB.contents self.now))) }
+    {
+        let left = self.ring.len();
+        (left, Some(left))
+    }
+}
