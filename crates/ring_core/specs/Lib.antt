@@ -1,4 +1,5 @@
 pub mod Contents
 pub mod Cursor
 pub mod Extension
+pub mod Facts
 pub mod Walk

@@ -1,0 +1,91 @@
+//! Generic code over `RingBuffer<T>`, proved from the trait's contract alone.
+
+ghost use Rattle.std.specs.Prelude.{◌≡◌, ◌+◌, ◌%◌, ◌<◌, ◌^◌, [], ◌∷◌, ◌++◌, All, IfOk, IsSome, IsTrue, drop, map, reverse, slice_set, sum};
+ghost use Rattle.ring_core.specs.Contents.{ChangesSlots, keep_last};
+
+use std::alloc::{AllocError, Global};
+
+use ring_core::{
+    RingBuffer, RingBufferDrainingIterator, RingBufferIterator, RingBufferMutIterator,
+};
+
+/// Pushes two items onto a ring with a limit.
+pub fn push_two<T: Drop, R: RingBuffer<T>>(ring: &mut R, x: T, y: T)
+    requires { IsSome (R.limit ring.old) }
+    ensures contents { R.contents ring.new ≡ keep_last (R.limit ring.old) (R.contents ring.old ++ x ∷ y ∷ []) }
+    ensures changes { ChangesSlots (R.slot_changes ring.old) (R.contents ring.old) (R.slot_changes ring.new) (R.contents ring.new) 2 }
+{
+    let _ = ring.push(x);
+    let _ = ring.push(y);
+}
+
+/// Pushes an item onto a ring with a limit, and then replaces the newest item, which is that one.
+pub fn push_then_replace<T: Drop, R: RingBuffer<T>>(ring: &mut R, x: T, y: T)
+    requires { IsSome (R.limit ring.old) }
+    ensures contents { R.contents ring.new ≡ keep_last (R.limit ring.old) (R.contents ring.old ++ y ∷ []) }
+    ensures limit { R.limit ring.new ≡ R.limit ring.old }
+{
+    let _ = ring.push(x);
+    if let Some(newest) = ring.get_mut_signed(-1) {
+        *newest = y;
+    }
+}
+
+/// The sum of the items.
+pub fn total<R: RingBuffer<u32>>(ring: &R) -> u32
+    requires { sum (R.contents ring.now) < 2 ^ 32 }
+    ensures { result ≡ sum (R.contents ring.now) }
+{
+    RingBufferIterator::new(ring).copied().sum()
+}
+
+/// The two oldest items, taken out by a drain that is then dropped.
+pub fn drain_two<T: Drop, R: RingBuffer<T>>(ring: &mut R)
+    ensures contents { R.contents ring.new ≡ drop 2 (R.contents ring.old) }
+    ensures limit { R.limit ring.new ≡ R.limit ring.old }
+{
+    let mut drain = RingBufferDrainingIterator::new(ring);
+    let _ = drain.next();
+    let _ = drain.next();
+}
+
+/// Replaces the oldest item, if there is one.
+pub fn replace_oldest<T: Drop, R: RingBuffer<T>>(ring: &mut R, x: T)
+    ensures contents { R.contents ring.new ≡ slice_set (R.contents ring.old) 0 x }
+    ensures limit { R.limit ring.new ≡ R.limit ring.old }
+{
+    let mut walk = RingBufferMutIterator::new(ring);
+    if let Some(item) = walk.next() {
+        *item = x;
+    }
+}
+
+/// The items, newest first.
+pub fn newest_first<R: RingBuffer<u32>>(alloc: Global, ring: &R) -> Result<Vec<u32>, AllocError>
+    ensures { IfOk result (λ v. v.items ≡ reverse (R.contents ring.now)) }
+{
+    RingBufferIterator::new(ring).rev().copied().collect(alloc)
+}
+
+/// Whether every item is below a bound.
+pub fn all_below<R: RingBuffer<u32>>(ring: &R, bound: u32) -> bool
+    ensures { IsTrue result → All (λ x. x < bound) (R.contents ring.now) }
+{
+    for x in RingBufferIterator::new(ring) {
+        if *x >= bound {
+            return false;
+        }
+    }
+    true
+}
+
+/// Adds one to each item, wrapping at the type's end.
+pub fn increment_each<R: RingBuffer<u32>>(ring: &mut R)
+    ensures contents { R.contents ring.new ≡ map (λ x. (x + 1) % (2 ^ 32)) (R.contents ring.old) }
+    ensures limit { R.limit ring.new ≡ R.limit ring.old }
+{
+    let mut walk = RingBufferMutIterator::new(ring);
+    while let Some(item) = walk.next() {
+        *item = item.wrapping_add(1);
+    }
+}
