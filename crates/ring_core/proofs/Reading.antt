@@ -1,6 +1,6 @@
 -- What a walk over a ring by position reads: at each index below the length, the item that the contents have there.
 use Rattle.std.proofs.Common.{◌≡◌, ℕ, ◌+◌, ◌<◌, ◌≤◌, Bool, false, true, List, [], ◌∷◌, ◌++◌, length, take, get_or, Option, None, Some, refl, sym, ap, ◌∙◌, Bor, add-one, arith, inl, inr}
-use Rattle.std.specs.List.{AllZip, list_any, slice_get}
+use Rattle.std.specs.List.{list_any, slice_get}
 use Rattle.std.specs.Option.{option_copied}
 use Rattle.std.proofs.lemmas.Option.{get_or_from_slice_get, slice_get_cases}
 use Rattle.std.proofs.lemmas.List.Folds.{list_any_at, list_any_more}
@@ -43,11 +43,3 @@ pub list_any_read_on : {A : Type 0} (test : A → Bool) (xs : List A) (i : ℕ) 
 list_any_read_on test xs i o x below copied is_some fails none_before =
     let item : test (get_or xs i x.now) ≡ false = ap test (get_or_read xs i o x below copied is_some) ∙ fails in
     rw (list_any_more test xs i x.now below, none_before, item) refl
-
--- one more pair of items
-pub AllZip-append : {A B : Type 0} (R : A → B → Type 0) (xs : List A) (ys : List B) (x : A) (y : B) → AllZip R xs ys → R x y
-    → AllZip R (xs ++ x ∷ []) (ys ++ y ∷ [])
-AllZip-append R [] [] x y all one = (one, tt)
-AllZip-append R [] (w ∷ ws) x y all one = absurd all
-AllZip-append R (w ∷ ws) [] x y all one = absurd all
-AllZip-append R (v ∷ vs) (w ∷ ws) x y all one = (all.0, AllZip-append R vs ws x y all.1 one)

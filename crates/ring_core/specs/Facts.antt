@@ -1,10 +1,25 @@
 -- What follows of the words of `Contents`, for the proofs of callers.
-use Rattle.std.specs.Prelude.{◌≡◌, ℕ, zero, suc, ◌+◌, ◌-◌, ◌%◌, ◌<◌, ◌≤◌, List, [], ◌∷◌, ◌++◌, length, drop, Option, None, Some, IfSome, refl, slice_set, negsuc}
-use Rattle.std.proofs.Common.{◌∙◌, ap, arith, length-append}
+use Rattle.std.specs.Prelude.{◌≡◌, ℕ, zero, suc, ◌+◌, ◌-◌, ◌<◌, List, [], ◌∷◌, ◌++◌, length, drop, Option, None, Some, IfSome, refl, slice_set, negsuc}
+use Rattle.std.specs.List.{AllZip}
+use Rattle.std.proofs.Common.{◌∙◌, ap, sym, arith, length-append, length-drop}
 use Rattle.std.proofs.Math.Nat.{zero-mod}
 use Rattle.std.proofs.Math.Seq.{set-append_seam}
-use Rattle.std.proofs.lemmas.List.{drop-append-le, drop_all}
-use Rattle.ring_core.specs.Contents.{keep_last, signed_place}
+use Rattle.std.proofs.lemmas.List.{drop-append-le, drop-drop, drop_all}
+use Rattle.ring_core.specs.Contents.{IsWithin, keep_last, signed_place}
+
+-- a list within its limit loses nothing
+pub keep_last_within : {A : Type 0} (limit : Option ℕ) (xs : List A) → IsWithin xs limit → keep_last limit xs ≡ xs
+keep_last_within None xs within = refl
+keep_last_within (Some n) xs within = let none_over : length xs - n ≡ 0 = omega arith in rw none_over refl
+
+-- what a limit leaves does not depend on how often it was applied before
+pub keep_last-keep_last : {A : Type 0} (limit : Option ℕ) (xs ys : List A) → keep_last limit (keep_last limit xs ++ ys) ≡ keep_last limit (xs ++ ys)
+keep_last-keep_last None xs ys = refl
+keep_last-keep_last (Some n) xs ys =
+    let cut = length xs - n in
+    let joined : drop cut xs ++ ys ≡ drop cut (xs ++ ys) = sym (drop-append-le cut xs ys (omega arith)) in
+    let all_cut : cut + (length (drop cut (xs ++ ys)) - n) ≡ length (xs ++ ys) - n = omega (arith, length-drop cut (xs ++ ys), length-append xs ys) in
+    rw (joined, drop-drop, all_cut) refl
 
 -- what stays before a pushed item does not depend on the item
 pub keep_last_before : {A : Type 0} (limit : Option ℕ) (xs : List A) → IfSome limit (λ n. 0 < n)
@@ -30,3 +45,11 @@ newest_replaced limit xs now x y pushed some =
     let above : IfSome limit (λ n. 0 < n) = above_zero limit (xs ++ x ∷ []) (λ none. some (pushed ∙ none)) in
     let (before, ends) = keep_last_before limit xs above in
     rw (pushed, ends x, signed_place-newest before x, ends y) (set-append_seam before x [] y)
+
+-- one more pair of items
+pub AllZip-append : {A B : Type 0} (R : A → B → Type 0) (xs : List A) (ys : List B) (x : A) (y : B) → AllZip R xs ys → R x y
+    → AllZip R (xs ++ x ∷ []) (ys ++ y ∷ [])
+AllZip-append R [] [] x y all one = (one, tt)
+AllZip-append R [] (w ∷ ws) x y all one = absurd all
+AllZip-append R (w ∷ ws) [] x y all one = absurd all
+AllZip-append R (v ∷ vs) (w ∷ ws) x y all one = (all.0, AllZip-append R vs ws x y all.1 one)
