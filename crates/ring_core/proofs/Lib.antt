@@ -1,4 +1,5 @@
 pub mod Filling
 pub mod Lending
+pub mod MeaningLemmas
 pub mod Reading
 pub mod Walks

@@ -2,4 +2,5 @@ pub mod Contents
 pub mod Cursor
 pub mod Extension
 pub mod Facts
+pub mod Meaning
 pub mod Walk

@@ -3,8 +3,10 @@
 
 mod iter;
 mod ring;
+mod run;
 
 pub use iter::{
     RingBufferDrainingIterator, RingBufferIntoIterator, RingBufferIterator, RingBufferMutIterator,
 };
 pub use ring::RingBuffer;
+pub use run::{Command, Refused, Reply, RunFault, Stopped, apply, run_into, runs_join};

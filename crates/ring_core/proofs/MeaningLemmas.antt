@@ -1,0 +1,69 @@
+-- Runs of commands in parts, and the places of their replies.
+use Rattle.std.proofs.Common.{◌≡◌, ℕ, ◌+◌, ◌-◌, ◌<◌, List, [], ◌∷◌, ◌++◌, length, map, set, replicate, slice_get, Option, Some, None, refl, ap, arith, append-nil, append_assoc, length-append, suc}
+use Rattle.std.proofs.lemmas.List.{length-map, map-append, set_at, take_at}
+use Rattle.std.proofs.lemmas.List.{length_push}
+use Rattle.ring_core.specs.declared.run.Command.{Command}
+use Rattle.ring_core.specs.declared.run.Reply.{Reply}
+use Rattle.ring_core.specs.declared.run.Refused.{Refused}
+use Rattle.ring_core.specs.declared.run.Refused.TheVariants as refused
+use Rattle.ring_core.specs.Meaning.{after_one, after_all, reply_to, replies_to, places, IsRefused, LeavesPart, StopsAt}
+
+module _ {T : Type 0} (limit : Option ℕ) where
+  -- By induction on the first list.
+  pub after_all-append : (l : List T) (xs ys : List (Command T)) → after_all limit l (xs ++ ys) ≡ after_all limit (after_all limit l xs) ys
+  after_all-append l [] ys = refl
+  after_all-append l (c ∷ xs) ys = after_all-append (after_one limit l c) xs ys
+
+  -- By induction on the first list.
+  pub replies_to-append : (l : List T) (xs ys : List (Command T)) → replies_to limit l (xs ++ ys) ≡ replies_to limit l xs ++ replies_to limit (after_all limit l xs) ys
+  replies_to-append l [] ys = refl
+  replies_to-append l (c ∷ xs) ys = ap (λ rs. reply_to l c ∷ rs) (replies_to-append (after_one limit l c) xs ys)
+
+  -- There is one reply a command.
+  pub length-replies_to : (l : List T) (cs : List (Command T)) → length (replies_to limit l cs) ≡ length cs
+  length-replies_to l [] = refl
+  length-replies_to l (c ∷ cs) = ap (λ n. suc n) (length-replies_to (after_one limit l c) cs)
+
+-- The reply that follows goes into the next place.
+pub places-more : {T : Type 0} (n : ℕ) (replies : List (Reply T)) (r : Reply T) → length replies < n → set (places n replies) (length replies) (Some r) ≡ places n (replies ++ r ∷ [])
+places-more n replies r room =
+    let next : n - length replies ≡ suc (n - length (replies ++ r ∷ [])) = omega (arith, length_push replies r) in
+    rw (next, map-append, append_assoc) (set_at (map Some replies) None (replicate (n - length (replies ++ r ∷ [])) None) (Some r) (length replies) (length-map replies Some))
+
+-- Once all commands are answered, no place is left.
+pub places_all : {T : Type 0} (limit : Option ℕ) (l : List T) (cs : List (Command T)) → places (length cs) (replies_to limit l cs) ≡ map Some (replies_to limit l cs)
+places_all limit l cs =
+    let none : length cs - length (replies_to limit l cs) ≡ 0 = omega (arith, length-replies_to limit l cs) in
+    rw (none, append-nil) refl
+
+-- One more command is done: what it leaves of what the others left.
+pub after_all-turn : {T : Type 0} (limit limit' : Option ℕ) (start now next : List T) (done : List (Command T)) (c : Command T)
+    → limit' ≡ limit → now ≡ after_all limit start done → next ≡ after_one limit' now c → next ≡ after_all limit start (done ++ c ∷ [])
+after_all-turn limit limit' start now next done c same left is = rw (after_all-append limit start done (c ∷ [])) (cc)
+
+-- One more command is answered: its reply goes into the place with its number.
+pub places-turn : {T : Type 0} (limit : Option ℕ) (start now : List T) (done todo all : List (Command T)) (c : Command T) (at : ℕ) (replies next : List (Option (Reply T))) (r : Reply T)
+    → done ++ c ∷ todo ≡ all → at ≡ length done → now ≡ after_all limit start done → replies ≡ places (length all) (replies_to limit start done)
+    → r ≡ reply_to now c → next ≡ set replies at (Some r) → next ≡ places (length all) (replies_to limit start (done ++ c ∷ []))
+places-turn limit start now done todo all c at replies next r whole count left answered is written =
+    let so_far = replies_to limit start done in
+    let parts : length all ≡ length done + suc (length todo) = rw (← whole) (length-append done (c ∷ todo)) in
+    let answers = length-replies_to limit start done in
+    let room : length so_far < length all = omega arith in
+    rw (replies_to-append limit start done (c ∷ [])) (cc (places-more (length all) so_far r room))
+
+-- The item at a place after so many others.
+slice_get-at : {A : Type 0} (xs : List A) (y : A) (ys : List A) → slice_get (xs ++ y ∷ ys) (length xs) ≡ Some y
+slice_get-at [] y ys = refl
+slice_get-at (x ∷ xs) y ys = slice_get-at xs y ys
+
+-- A push that was refused took none of its one item.
+LeavesPart-refused : {T : Type 0} (c : Command T) (old new : List T) (r : Refused T) → IsRefused c old new r → LeavesPart old c new
+LeavesPart-refused c old new (refused.Push x) (is, same) = rw is ([], (omega arith, refl), rw append-nil same)
+LeavesPart-refused c old new refused.Extend (items, is, part) = part
+
+-- What a refused command leaves, said by its number.
+pub StopsAt-refused : {T : Type 0} (limit : Option ℕ) (old : List T) (done todo : List (Command T)) (c : Command T) (new : List T) (r : Refused T)
+    → IsRefused c (after_all limit old done) new r → StopsAt limit old (done ++ c ∷ todo) (length done) new
+StopsAt-refused limit old done todo c new r by =
+    (c, slice_get-at done c todo, rw (take_at done (c ∷ todo) (length done) refl) (LeavesPart-refused c _ new r by))

@@ -1,0 +1,51 @@
+-- An extension by a vector takes the vector's items in order: all of them, or a cut beginning at a refusal.
+use Rattle.std.proofs.Common.{◌≡◌, ℕ, List, ◌++◌, length, Option, Some, None, IfSome, IsSome, Global, sym, ◌∙◌, refl, map-id}
+use Rattle.std.specs.Iterator.{Drains, YieldsThen}
+use Rattle.std.specs.declared.vec.IntoIter.{IntoIter}
+use Rattle.std.specs.Vec.Iter.{into_iter_items, into_iter_len, into_iter_steps}
+use Rattle.std.proofs.lemmas.Iterator.Adapters.{YieldsList-from_vec}
+use Rattle.std.proofs.lemmas.Iterator.Consumers.{YieldsList-end, YieldsList-so_far, YieldsList-turn}
+use Rattle.ring_core.specs.Contents.{IsCut, keep_last}
+use Rattle.ring_core.proofs.run.apply.Goals as goal
+
+module _ {T : Type 0} (it : IntoIter T Global) (items taken : List T) (shows : into_iter_items it ≡ items) (counts : into_iter_len it ≡ length items) where
+  taken_all : Drains into_iter_steps it taken → taken ≡ items
+  taken_all (u, (t, given, last)) =
+      sym (map-id taken) ∙ (YieldsList-end (YieldsList-from_vec items shows counts) taken t given None u refl last).0
+
+  IsCut-taken : (x : T) (u : IntoIter T Global) → YieldsThen into_iter_steps it taken (Some x) u → IsCut items taken
+  IsCut-taken x u (t, given, more) =
+      let road = YieldsList-from_vec {A = T} {Z = Global} {s = it} items shows counts in
+      ((YieldsList-turn road taken t given (Some x) u x refl more).0, sym (map-id taken) ∙ YieldsList-so_far road taken t given)
+
+-- what holds of the value that is there
+at_some : {A P : Type 0} (o : Option A) → IfSome o (λ _. P) → IsSome o → P
+at_some (Some x) holds some = holds
+at_some None holds some = cc
+
+-- where there is no limit, all is kept
+keep_last-unlimited : {A : Type 0} (limit : Option ℕ) (xs : List A) → ¬ (IsSome limit) → keep_last limit xs ≡ xs
+keep_last-unlimited None xs unlimited = refl
+keep_last-unlimited (Some n) xs unlimited = absurd (unlimited refl)
+
+pub returns-in-Ok-extend-clause-contents : goal.returns-in-Ok-extend-clause-contents
+returns-in-Ok-extend-clause-contents g c =
+    let (it, taken, source, left, _, ended) = c.in-Ok-extend.ensures.extends in
+    let v = c.in-Extend.items in
+    let all = taken_all it v.items taken source.0 (source.1 ∙ v.ok.0) ended in
+    rw c.in-Extend.is (rw (← all) left)
+
+pub returns-in-Ok-extend-clause-changes : goal.returns-in-Ok-extend-clause-changes
+returns-in-Ok-extend-clause-changes g c =
+    let (it, taken, source, _, changes, ended) = c.in-Ok-extend.ensures.extends in
+    let v = c.in-Extend.items in
+    let all = taken_all it v.items taken source.0 (source.1 ∙ v.ok.0) ended in
+    rw c.in-Extend.is (rw (← all) (at_some (g.R.RingBuffer.limit c.args.ring.now) changes))
+
+pub returns-in-Err-extend-clause-refused : goal.returns-in-Err-extend-clause-refused
+returns-in-Err-extend-clause-refused g c =
+    let (it, taken, source, left, _, (x, u, ended)) = c.in-Err-extend.ensures.extends in
+    let v = c.in-Extend.items in
+    let cut = IsCut-taken it v.items taken source.0 (source.1 ∙ v.ok.0) x u ended in
+    let kept = keep_last-unlimited (g.R.RingBuffer.limit c.args.ring.now) (g.R.RingBuffer.contents c.args.ring.now ++ taken) (λ some. cc (c.in-Err-extend.ensures.succeeds some)) in
+    (v, c.in-Extend.is, rw c.in-Extend.is (taken, cut, rw kept at left))

@@ -1,0 +1,67 @@
+-- What commands do to the contents of a ring, as a list, and what they answer.
+use Rattle.std.specs.Prelude.{◌≡◌, ℕ, ◌-◌, List, [], ◌∷◌, ◌++◌, length, take, map, replicate, slice_get, Option, Some, None}
+use Rattle.ring_core.specs.declared.run.Command.{Command}
+use Rattle.ring_core.specs.declared.run.Command.TheVariants.{Push, Extend, Dequeue, Skip, Clear}
+use Rattle.ring_core.specs.declared.run.Reply.{Reply}
+use Rattle.ring_core.specs.declared.run.Reply.TheVariants.{Pushed, Extended, Dequeued, Skipped, Cleared}
+use Rattle.ring_core.specs.declared.run.Refused.{Refused}
+use Rattle.ring_core.specs.declared.run.Refused.TheVariants as refused
+use Rattle.ring_core.specs.Contents.{keep_last, rest, IsCut}
+
+-- the items that a command pushes
+abbrev pub puts : {T : Type 0} → Command T → List T
+puts (Push x) = x ∷ []
+puts (Extend items) = items.items
+puts Dequeue = []
+puts Skip = []
+puts Clear = []
+
+-- what a command leaves of the contents l
+abbrev pub after_one : {T : Type 0} → Option ℕ → List T → Command T → List T
+after_one limit l (Push x) = keep_last limit (l ++ x ∷ [])
+after_one limit l (Extend items) = keep_last limit (l ++ items.items)
+after_one limit l Dequeue = rest l
+after_one limit l Skip = rest l
+after_one limit l Clear = []
+
+-- what a command answers at the contents l
+abbrev pub reply_to : {T : Type 0} → List T → Command T → Reply T
+reply_to l (Push x) = Pushed
+reply_to l (Extend items) = Extended
+reply_to l Dequeue = Dequeued (slice_get l 0)
+reply_to l Skip = Skipped
+reply_to l Clear = Cleared
+
+-- what the commands leave, one after the other
+abbrev pub after_all : {T : Type 0} → Option ℕ → List T → List (Command T) → List T
+after_all limit l [] = l
+after_all limit l (c ∷ cs) = after_all limit (after_one limit l c) cs
+
+-- what they answer
+abbrev pub replies_to : {T : Type 0} → Option ℕ → List T → List (Command T) → List (Reply T)
+replies_to limit l [] = []
+replies_to limit l (c ∷ cs) = reply_to l c ∷ replies_to limit (after_one limit l c) cs
+
+-- a slice of n places that begins with these replies and holds no other
+abbrev pub places : {T : Type 0} → ℕ → List (Reply T) → List (Option (Reply T))
+places n replies = map Some replies ++ replicate (n - length replies) None
+
+-- a cut beginning of the command's items came after the contents l
+abbrev pub LeavesPart : {T : Type 0} → List T → Command T → List T → Type 0
+LeavesPart {T} l c new = (part : List T) × IsCut (puts c) part × (new ≡ l ++ part)
+
+-- the command was refused: a push hands its item back and changes nothing, an extension leaves a part of its items
+abbrev pub IsRefused : {T : Type 0} → Command T → List T → List T → Refused T → Type 0
+IsRefused c old new (refused.Push x) = (c ≡ Push x) × (new ≡ old)
+IsRefused {T} c old new refused.Extend = (items : _) × (c ≡ Extend items) × LeavesPart old c new
+
+-- the run stopped at command number `at`: those before it were done, and of its own items a cut beginning came
+abbrev pub StopsAt : {T : Type 0} → Option ℕ → List T → List (Command T) → ℕ → List T → Type 0
+StopsAt {T} limit old cs at new =
+    (c : Command T) × (slice_get cs at ≡ Some c) × LeavesPart (after_all limit old (take at cs)) c new
+
+-- a run of xs and then of ys leaves and answers what a run of xs followed by ys does
+abbrev pub RunsJoin : Type 0 → Type 0
+RunsJoin T = (limit : Option ℕ) (l : List T) (xs ys : List (Command T))
+    → (after_all limit l (xs ++ ys) ≡ after_all limit (after_all limit l xs) ys)
+    × (replies_to limit l (xs ++ ys) ≡ replies_to limit l xs ++ replies_to limit (after_all limit l xs) ys)

@@ -1,0 +1,154 @@
+//! Commands for a ring as values, and runs of them on any lawful ring.
+
+ghost use Rattle.std.specs.Prelude.{◌≡◌, ◌<◌, IfErr, IfOk, IsOk, IsSome, OnOk, None, Some, length, map, replicate, slice_set, take};
+ghost use Rattle.ring_core.specs.Contents.{ChangesSlots};
+ghost use Rattle.ring_core.specs.Meaning.{IsRefused, RunsJoin, StopsAt, after_all, after_one, places, puts, replies_to, reply_to};
+
+use crate::ring::RingBuffer;
+
+/// A call of a ring, as a value.
+#[derive(Debug, PartialEq, Drop)]
+pub enum Command<T> {
+    /// Puts the item last.
+    Push(T),
+    /// Puts the items last, in order.
+    Extend(Vec<T>),
+    /// Takes out the oldest item.
+    Dequeue,
+    /// Drops the oldest item.
+    Skip,
+    /// Drops all items.
+    Clear,
+}
+
+/// What a command answers once it is done.
+#[derive(Debug, PartialEq, Drop)]
+pub enum Reply<T> {
+    /// To `Push`.
+    Pushed,
+    /// To `Extend`.
+    Extended,
+    /// To `Dequeue`: the item, or `None` if the ring was empty.
+    Dequeued(Option<T>),
+    /// To `Skip`.
+    Skipped,
+    /// To `Clear`.
+    Cleared,
+}
+
+/// The command for which memory was refused. No ring with a limit refuses one.
+#[derive(Debug, PartialEq, Drop)]
+pub enum Refused<T> {
+    /// `Push`, with its item. The ring is as it was.
+    Push(T),
+    /// `Extend`. The items pushed until then stay.
+    Extend,
+}
+
+/// A run was refused memory. No ring with a limit stops one.
+#[derive(Debug, PartialEq, Drop)]
+pub struct Stopped {
+    /// The number of the refused command, counted from 0.
+    pub at: usize,
+}
+
+/// Why a run with replies of its own did not go through.
+#[derive(Debug, PartialEq, Drop)]
+pub enum RunFault<T> {
+    NoRoom(Vec<Command<T>>),
+    Stopped { at: usize, replies: Vec<Reply<T>> },
+}
+
+/// Does the call that the command names.
+///
+/// # Errors
+///
+/// Where memory was refused, which no ring with a limit meets.
+pub fn apply<T: Drop, R: RingBuffer<T>>(
+    ring: &mut R,
+    command: Command<T>,
+) -> Result<Reply<T>, Refused<T>>
+    ensures contents { OnOk result (R.contents ring.new ≡ after_one (R.limit ring.old) (R.contents ring.old) command) }
+    ensures reply { IfOk result (λ reply. reply ≡ reply_to (R.contents ring.old) command) }
+    ensures refused { IfErr result (IsRefused command (R.contents ring.old) (R.contents ring.new)) }
+    ensures limit { R.limit ring.new ≡ R.limit ring.old }
+    ensures changes { IsSome (R.limit ring.old) → ChangesSlots (R.slot_changes ring.old) (R.contents ring.old) (R.slot_changes ring.new) (R.contents ring.new) (length (puts command)) }
+    ensures succeeds { IsSome (R.limit ring.old) → IsOk result }
+{
+    match command {
+        Command::Push(item) => match ring.push(item) {
+            Ok(()) => Ok(Reply::Pushed),
+            Err(item) => Err(Refused::Push(item)),
+        },
+        Command::Extend(items) => match ring.extend(items) {
+            Ok(()) => Ok(Reply::Extended),
+            Err(_) => Err(Refused::Extend),
+        },
+        Command::Dequeue => Ok(Reply::Dequeued(ring.dequeue())),
+        Command::Skip => {
+            ring.skip();
+            Ok(Reply::Skipped)
+        }
+        Command::Clear => {
+            ring.clear();
+            Ok(Reply::Cleared)
+        }
+    }
+}
+
+// Empties every place.
+fn empty<T: Drop>(replies: &mut [Option<Reply<T>>])
+    ensures { replies.new ≡ replicate (length replies.old) None }
+{
+    for place in replies.iter_mut() {
+        *place = None;
+    }
+}
+
+// Puts a reply into its place.
+fn put<T: Drop>(replies: &mut [Option<Reply<T>>], at: usize, reply: Reply<T>)
+    requires { at < length replies.old }
+    ensures { replies.new ≡ slice_set replies.old at (Some reply) }
+{
+    replies[at] = Some(reply);
+}
+
+/// Does the commands in order, and puts the reply to each into the place with its number. It takes no memory.
+///
+/// # Errors
+///
+/// Where memory was refused, which no ring with a limit meets. The places from the refused command on hold `None`, and
+/// the commands that were not done are dropped.
+pub fn run_into<T: Drop, R: RingBuffer<T>>(
+    ring: &mut R,
+    commands: Vec<Command<T>>,
+    replies: &mut [Option<Reply<T>>],
+) -> Result<(), Stopped>
+    requires { length replies.old ≡ length commands.items }
+    ensures never_refused { IsSome (R.limit ring.old) → IsOk result }
+    ensures same_limit { R.limit ring.new ≡ R.limit ring.old }
+
+    // Each command in turn does what it does to a list.
+    ensures in_turn { OnOk result (R.contents ring.new ≡ after_all (R.limit ring.old) (R.contents ring.old) commands.items) }
+    ensures replies_in_turn { OnOk result (replies.new ≡ map Some (replies_to (R.limit ring.old) (R.contents ring.old) commands.items)) }
+
+    // A run that stopped did the commands before, and part of the one that was refused.
+    ensures stopped { IfErr result (λ s. StopsAt (R.limit ring.old) (R.contents ring.old) commands.items s.at (R.contents ring.new)) }
+    ensures replies_before { IfErr result (λ s. replies.new ≡ places (length commands.items) (replies_to (R.limit ring.old) (R.contents ring.old) (take s.at commands.items))) }
+{
+    empty(replies);
+    let mut at = 0;
+    for command in commands {
+        let Ok(reply) = apply(ring, command) else {
+            return Err(Stopped { at });
+        };
+        put(replies, at, reply);
+        at += 1;
+    }
+    Ok(())
+}
+
+/// Shows by its contract that runs join. It does nothing.
+pub fn runs_join<T>()
+    ensures { RunsJoin T }
+{}

@@ -1,0 +1,194 @@
+-- An element of the array is lent to the caller, which the borrow checker does not follow through an array. The struct
+-- lies where its one field does, so the element is taken out of memory with a way back at any value, and then lent.
+use mathlib.Core.Path.{◌≡◌, refl, sym, ap, ◌∙◌}
+use mathlib.Core.List.{List, [], ◌∷◌}
+use Prim.Native.Nat.{ℕ, zero, suc, ◌+◌, ◌*◌, ◌^◌, ◌<◌, ◌≤◌}
+use native.Mathlib.Nat.{mul-le-mul_right, zero-mul, suc-mul}
+use native.Mathlib.Omega.{arith}
+use Rattle.std.proofs.lemmas.List.{get_or_default}
+use lib.ListN.{length, get_or, set, length-set}
+use seplogic.Ra.Ura.{Ura}
+use mir.Syntax.{Args, a_type, a_number, ty_array, named, w64}
+use mir.MapTy.{inst_fn}
+use mir.Val.{Val, vptr, vint}
+use base.Logic.{SProp, ent, sep, ex, guard, all, wand, all_e, apply∗}
+use base.Fraction.{full_share}
+use base.Fml.{Fml, Lft, GName, Share, ftrue, fsep, feq, flft}
+use prog.Memory.{size, align, up, capped}
+use prog.Capped.{capped_is}
+use types.Logic.{Logic, sem}
+use types.SemTy.{cells}
+use types.Mut.{open_ref}
+use types.Kit.{Item, ‵, raw, ◌⊛◌, some, given, later, ◌$◌, ◌∵◌, !, qed, by, move, keep, drop, split, split3, join, learn, check, each, assume, fsplit, fsplit3, fjoin, feq_l, feq_i, use1, use2, await, pick, suffices, frame, group, rewrite, updating, show, now, done}
+use package.contract.BorrowLft.{◌⊑◌}
+use types.Run.{stop, fld, addr, bin, size_word, returns, enter}
+use types.ByLocal.{alloc_all, pass_all, free_all, look_at, get, through, sets, is}
+use denote.Builtin.{RefMutOf, usize}
+use denote.Array.{Array}
+use denote.ArrayMemory.{Array-apart, Array-whole}
+use denote.Exit.{yes, no}
+use denote.Follow.{follows, lends_Part, Part}
+use denote.Index.{row, whole_in, whole_out}
+use denote.Memory.{mem, part_at}
+use denote.Param.{param, number, layout, layouts, ArrayAt}
+use denote.Param.Laws.{Laws, param_laws, number_array_laws}
+use denote.Plain.{uint_vals, uint_Tells}
+use denote.RattleType.{RattleType}
+use denote.Ref.{MutRef, mut_vals, mut_Tells}
+use denote.Signature.{plain}
+use denote.Steps.{nothing}
+use denote.Struct.CellSteps.{only_out, first_at, BackTo}
+use denote.Struct.Declared.{shape}
+use denote.Struct.Members.{Member}
+use denote.Struct.Recorded.{Recorded-part}
+use denote.Struct.Struct.{Struct}
+use denote.Triple.Clauses.{Ended}
+use denote.Triple.Walked.{says, Stays, stay_dropped, Goes-dropped, Goes-spent_ref, ends_at}
+use borrow.Table.Elements.{at, at_mul, focus_any}
+use Rattle.std.proofs.raw_atomic.Walks.{proved}
+use Rattle.ring_slots.specs.contracts.array.Cells.{the_row, the_type}
+use Rattle.ring_slots.specs.contracts.array.Cells.at_mut as contract
+use Rattle.ring_slots.proofs.array.Cells.at_mut.Statement.{statement}
+use Rattle.ring_slots.proofs.array.Cells.at_mut.Code as code
+
+-- a size that is capped at what a word holds makes the same product, where that product fits a word
+product_is : (k bytes : ℕ) → k * bytes < 2 ^ 64 → k * capped bytes ≡ k * bytes
+product_is zero bytes fits = zero-mul (capped bytes) ∙ sym (zero-mul bytes)
+product_is (suc k) bytes fits =
+    let once = suc-mul k bytes in ap (λ (j : ℕ). suc k * j) (capped_is bytes (omega arith))
+
+-- what shows that a list has an element at an index has one to give
+some_element : {A : Type 0} (xs : List A) (k : ℕ) → k < length xs → A
+some_element [] k within = absurd (omega arith)
+some_element (x ∷ xs) k within = x
+
+module _ (X : RattleType) (n : ℕ) where
+  -- the types of an element, of the length and of the struct, as the code of the function has them
+  abbrev Element : RattleType
+  Element = param 0 X
+
+  abbrev Count : RattleType
+  Count = param 1 (number n)
+
+  abbrev Cells : RattleType
+  Cells = the_row Element Count
+
+  abbrev field : Member
+  field = record { row = ArrayAt Element Count; ty = ty_array (layout X) n }
+
+  abbrev Tuple : RattleType
+  Tuple = Struct (shape (the_type Element Count))
+
+  lies_as_tuple : (d : Cells.Denot) (b o : ℕ) → part_at Cells full_share d b o ≡ part_at Tuple full_share (d.xs, tt) b o
+  lies_as_tuple d b o = let T = the_type Element Count in Recorded-part (Struct (shape T)) T.D T.to T.to_one full_share d b o
+
+  module _ (L : Laws X) {M : Type 1} {𝓤 : Ura M} (𝓛 : Logic 𝓤) (b o m : ℕ) (d : Cells.Denot) where
+    open 𝓛 use {H, A}
+
+    abbrev spot : ℕ
+    spot = at o (mem Element).size m
+
+    abbrev with : X.Denot → Cells.Denot
+    with x = record { xs = set d.xs m x }
+
+    -- the struct in memory, but for the element: from the element at any value back to the struct
+    abbrev Back : SProp 𝓤
+    Back = all 𝓤 (λ (x : X.Denot). wand 𝓤 (sem 𝓛 ((mem Element).own_at x b spot)) (sem 𝓛 ((mem Cells).own_at (with x) b o)))
+
+    back : (x : X.Denot) → ent 𝓤 (sep 𝓤 (sem 𝓛 ((mem Element).own_at x b spot)) Back) (sem 𝓛 ((mem Cells).own_at (with x) b o))
+    back x =
+        let way : X.Denot → SProp 𝓤 = λ y. wand 𝓤 (sem 𝓛 ((mem Element).own_at y b spot)) (sem 𝓛 ((mem Cells).own_at (with y) b o)) in
+        qed 𝓛 (‵ ((mem Element).own_at x b spot) ∷ raw Back ∷ []) ∵ move ! (1 ∷ []) $
+        use1 𝓛 (raw (way x)) (all_e 𝓤 way x) $ move ! (1 ∷ 0 ∷ []) $
+        by ! (apply∗ 𝓤 (sem 𝓛 ((mem Element).own_at x b spot)) (sem 𝓛 ((mem Cells).own_at (with x) b o)))
+
+    -- the element is x, and lies apart from the rest
+    abbrev Apart : X.Denot → SProp 𝓤
+    Apart x = guard 𝓤 (x ≡ get_or d.xs m x) (sep 𝓤 (sem 𝓛 ((mem Element).own_at x b spot)) Back)
+
+    element_out : m < n → ent 𝓤 (sem 𝓛 ((mem Cells).own_at d b o)) (ex 𝓤 Apart)
+    element_out within =
+        let lawful = (number_array_laws Element (param_laws 0 X L) Count refl).lawful 𝓛 in
+        let name = (shape (the_type Element Count)).name in
+        let To = λ (ys : List X.Denot). sem 𝓛 (part_at Tuple full_share (ys, tt) b o) in
+        let struct_back = λ (ys : List X.Denot). wand 𝓤 (sem 𝓛 (part_at (Array Element n) full_share ys b o)) (To ys) in
+        let array_back = λ (x : X.Denot). wand 𝓤 (sem 𝓛 ((mem Element).own_at x b spot)) (sem 𝓛 (cells (mem Element) (set d.xs m x) b o)) in
+        qed 𝓛 (‵ (part_at Cells full_share d b o) ∷ []) ∵ rewrite ! 0 (λ (f : Fml). ‵ f) (lies_as_tuple d b o) refl $
+        use1 𝓛 (‵ (part_at (Array Element n) full_share d.xs b o) ⊛ raw (BackTo 𝓛 name [] [] field To b o)) (only_out 𝓛 name [] [] field lawful b o d.xs) $ split ! $
+        use1 𝓛 (‵ (fsep (feq ℕ (length d.xs) n) (row Element full_share d.xs b o))) (Array-apart 𝓛 Element full_share tt n d.xs b o) $
+        fsplit ! $ feq_l ! (λ long.
+        let is_there : m < length d.xs = omega arith in
+        let any : X.Denot = some_element d.xs m is_there in let read : X.Denot = get_or d.xs m any in
+        show ! Apart read $ check ! (get_or_default d.xs m any read is_there) $
+        use1 𝓛 (‵ (cells (mem Element) d.xs b o)) (whole_in 𝓛 Element d.xs b o) $
+        use1 𝓛 (‵ ((mem Element).own_at read b spot) ⊛ raw (all 𝓤 array_back)) (focus_any 𝓛 (mem Element) any m d.xs b o is_there) $
+        split ! $ frame ! $ each ! (λ (x : X.Denot). wand 𝓤 (sem 𝓛 ((mem Element).own_at x b spot)) (sem 𝓛 ((mem Cells).own_at (with x) b o))) (λ x.
+        let written : List X.Denot = set d.xs m x in
+        assume ! (‵ ((mem Element).own_at x b spot)) $ move ! (1 ∷ []) $ use1 𝓛 (raw (array_back x)) (all_e 𝓤 array_back x) $ move ! (1 ∷ 0 ∷ []) $
+        use2 𝓛 (‵ (cells (mem Element) written b o)) (apply∗ 𝓤 (sem 𝓛 ((mem Element).own_at x b spot)) (sem 𝓛 (cells (mem Element) written b o))) $
+        use1 𝓛 (‵ (row Element full_share written b o)) (whole_out 𝓛 Element written b o) $ feq_i ! ℕ (length written) n (length-set d.xs m x ∙ long) $ fjoin ! $
+        use1 𝓛 (‵ (part_at (Array Element n) full_share written b o)) (Array-whole 𝓛 Element full_share n written b o) $
+        move ! (1 ∷ []) $ use1 𝓛 (raw (struct_back written)) (all_e 𝓤 struct_back written) $ move ! (1 ∷ 0 ∷ []) $
+        use2 𝓛 (‵ (part_at Tuple full_share (written, tt) b o)) (apply∗ 𝓤 (sem 𝓛 (part_at (Array Element n) full_share written b o)) (To written)) $
+        rewrite ! 0 (λ (f : Fml). ‵ f) (sym (lies_as_tuple (with x) b o)) refl $ done !))
+
+    module _ (κ : Lft) (q : Share) (γ : GName) where
+      -- a reference to the element, under a name that the struct's last value follows
+      abbrev Lent : X.Denot → SProp 𝓤
+      Lent x = guard 𝓤 (x ≡ get_or d.xs m x) (ex 𝓤 (Part 𝓛 Cells Element with (named 0) κ q b o b spot γ Back back x))
+
+      abbrev lent : X.Denot → Item 𝓤
+      lent x = given (x ≡ get_or d.xs m x) (some (λ (δ : GName).
+          ‵ ((MutRef (named 0) κ Element).own_val (record { ref_ptr = (b, spot); ghost_name = δ; now = x }) (vptr b spot ∷ [])) ⊛ ‵ (flft κ q) ⊛ ‵ (follows Cells Element γ δ with)))
+
+      lends : m < n → (vs : List Val) → ent 𝓤 (sep 𝓤 (sem 𝓛 ((MutRef (named 0) κ Cells).own_val (record { ref_ptr = (b, o); ghost_name = γ; now = d }) vs)) (A.lft κ q)) (H.⇛ (ex 𝓤 Lent))
+      lends within vs =
+          let code_of = Cells.coded.code d in
+          qed 𝓛 (‵ ((MutRef (named 0) κ Cells).own_val (record { ref_ptr = (b, o); ghost_name = γ; now = d }) vs) ∷ ‵ (flft κ q) ∷ []) ∵
+          updating ! $ fsplit3 ! $ drop ! $ open_ref ! tt (mem Cells) {b = b} {o = o} $
+          use1 𝓛 (some (λ (x : X.Denot). given (x ≡ get_or d.xs m x) (‵ ((mem Element).own_at x b spot) ⊛ raw Back))) (element_out within) $
+          pick ! (λ x. learn ! (λ read. split ! $ move ! (2 ∷ 3 ∷ 4 ∷ 0 ∷ 1 ∷ []) $ group ! 5 $
+          use1 𝓛 (later (raw (ex 𝓤 (Part 𝓛 Cells Element with (named 0) κ q b o b spot γ Back back x))))
+          (lends_Part 𝓛 Cells Element with (named 0) κ q b o b spot γ Back back code_of code_of x) $ await ! tt $
+          now ! $ show ! Lent x $ check ! read $ done !))
+
+module _ (X : RattleType) (n : ℕ) where
+  abbrev ended : Ended
+  ended = contract.ended X (number n)
+
+  abbrev stayed : Stays ended.signature.params ended.kept
+  stayed = (stay_dropped (RefMutOf (0 ∷ []) tt (plain (λ _. Cells X n)) (λ _. tt)) no, (stay_dropped (plain (λ _. usize)) yes, tt))
+
+  abbrev arguments : Args
+  arguments = layouts (a_type ∷ a_number ∷ []) (X, (number n, tt))
+
+pub at_mut_spec : {M : Type 1} → statement M
+at_mut_spec 𝓤 𝓛 𝓜 𝓡 wired X n L fits =
+    let clauses = contract.clauses X (number n) 𝓛 𝓜.mem 𝓡.returns in
+    let S : RattleType = Cells X n in
+    proved 𝓛 (ended X n) (stayed X n) clauses 𝓜 𝓡
+    (Goes-spent_ref 𝓛 3 (0 ∷ []) tt (plain (λ _. S)), (Goes-dropped 𝓛 3 (plain (λ _. usize)) yes (λ κs x w. refl), tt))
+    (contract.Key.name (arguments X n)) (inst_fn (arguments X n) code.function) (code.unfolded 𝓤 𝓛.H 𝓜 𝓡 wired (X, (number n, tt)))
+    (λ κs. (mut_vals, (uint_vals w64, tt))) (λ κs. (mut_Tells (named 0) κs.0 S, (uint_Tells w64, tt))) (λ κs qs bounds a _ are.
+    let b = a.0.ref_ptr.0 in let o = a.0.ref_ptr.1 in let γ = a.0.ghost_name in let d = a.0.now in let m = a.1.0 in
+    let bytes : ℕ = size (layout X) in
+    let self = mut_vals a.0 in let place = vint w64 m ∷ [] in
+    qed 𝓛 (((‵ (flft κs.0 qs.0) ⊛ ‵ (flft κs.1.0 qs.1.0) ⊛ ‵ (flft κs.1.1.0 qs.1.1.0) ⊛ ‵ ftrue) ⊛ ‵ ((MutRef (named 0) κs.0 S).own_val a.0 self) ⊛ ‵ (usize.own_val m place) ⊛ ‵ ftrue)
+    ∷ (given (κs.1.0 ⊑ X.lives) (‵ ftrue) ⊛ given (κs.1.1.0 ⊑ []) (‵ ftrue) ⊛ given (size (layout S) < 2 ^ 63) (‵ ftrue) ⊛ given (m < n) (‵ ftrue)) ∷ []) ∵
+    move ! (1 ∷ []) $ split3 ! $ drop ! $ drop ! $ split ! $ learn ! (λ small. drop ! $ learn ! (λ within. drop ! $
+    let product : m * bytes < 2 ^ 64 = let most : m * bytes ≤ n * bytes = mul-le-mul_right bytes (omega arith) in omega arith in
+    let spot_is : m * bytes + (o + up (align (ty_array (layout X) n)) zero) ≡ at o bytes m =
+    ap (λ (k : ℕ). m * bytes + k) (first_at (align (ty_array (layout X) n)) o) ∙ sym (at_mul o bytes m) in
+    split ! $ split ! $ move ! (2 ∷ []) $ split ! $ keep ! (0 ∷ 2 ∷ 3 ∷ []) $
+    enter ! _ _ _ _ _ $ alloc_all ! (λ l. pass_all ! refl ((tt, tt), ((tt, record { fits = are.1.0.1 }), tt)) $
+    sets ! (is ! (bin ! (get ! refl) (size_word !) (record { fits = rw (product_is m bytes product) product })) (ap (vint w64) (product_is m bytes product))) refl (tt, record { fits = product }) $
+    sets ! (addr ! (through ! refl (fld ! refl (stop !)))) refl (tt, tt) $
+    sets ! (is ! (bin ! (get ! refl) (get ! refl) tt) (ap (vptr b) spot_is)) refl (tt, tt) $
+    sets ! (addr ! (through ! refl (stop !))) refl (tt, tt) $
+    use2 𝓛 (later (some (λ (x : X.Denot). lent X n L 𝓛 b o m d κs.0 qs.0 γ x))) (lends X n L 𝓛 b o m d κs.0 qs.0 γ within self) $
+    await ! tt $ pick ! (λ x. learn ! (λ read. pick ! (λ δ. split3 ! $ returns ! (look_at ! 0 refl) $ free_all ! refl $
+    -- [the reference; the token of its lifetime; what the struct ends as; the other tokens]
+    suffices ! _ (ends_at 𝓛 (ended X n) (stayed X n) clauses ((κs, qs, bounds, a, (self, (place, tt))), tt) (vptr b (at o bytes m))
+    (record { ref_ptr = (b, at o bytes m); ghost_name = δ; now = x }) (tt, (tt, tt)) (tt, (tt, tt))) $
+    move ! (1 ∷ 3 ∷ []) $ join ! $ nothing ! $ nothing ! $ join ! $ nothing ! $ join ! $ move ! (1 ∷ 0 ∷ []) $
+    group ! 3 $ frame ! $ says ! read $ done !)))))))

@@ -1,0 +1,171 @@
+//! Slots that lie in the value itself.
+ghost use Rattle.std.specs.Prelude.{◌≡◌, ◌<◌, ℕ, length, replicate, None, Some, refl, slice_index_or};
+ghost use Rattle.std.specs.Borrow.{sem};
+ghost use Rattle.ring_slots.specs.Slots.{IsEmptyAt, IsFullAt, changed, slot_at};
+
+use crate::place::wrapped;
+use crate::row::SlotRow;
+use crate::tally::Tally;
+use std::marker::Model;
+
+// An array in a struct of its own, so that a contract can say what a loan of one element leaves.
+#[derive(Drop)]
+struct Cells<X, const N: usize> {
+    xs: [X; N],
+}
+
+impl<X, const N: usize> Cells<X, N> {
+    ghost use Rattle.ring_slots.specs.array.Lends.{lends_cell};
+
+    #[inline]
+    fn at(&self, place: usize) -> &X
+        requires { place < N }
+        ensures { result.now ≡ slice_index_or self.now.xs place result.now }
+    {
+        &self.xs[place]
+    }
+
+    #[inline]
+    fn at_mut(&mut self, place: usize) -> &mut X
+        requires { place < N }
+        ensures* writes_back { sem 𝓛 (lends_cell X.row N.row self.entry place result) }
+        ensures value { result.now ≡ slice_index_or self.old.xs place result.now }
+    {
+        &mut self.xs[place]
+    }
+}
+
+impl<T, const N: usize> Cells<Option<T>, N> {
+    fn empty() -> Self
+        ensures { result.xs ≡ replicate N None }
+    {
+        Cells {
+            xs: [const { None }; N],
+        }
+    }
+}
+
+/// `CAP` slots in an array, which take no memory of their own.
+///
+/// A contract sees what each slot holds, and how many changes the slots have had. That count takes no bytes, begins at
+/// 0, and rises by the calls below alone.
+#[derive(Drop)]
+pub struct ArraySlots<T, const CAP: usize> {
+    cells: Cells<Option<T>, CAP>,
+    tally: Tally,
+}
+
+impl<T, const CAP: usize> Model for ArraySlots<T, CAP> {
+    ghost use Rattle.std.specs.Prelude.{◌≡◌, length};
+    ghost use Rattle.ring_slots.specs.Slots.{Slots};
+
+    ghost Value = { Slots T };
+
+    ghost view = { λ s. record { slots = s.cells.xs; changes = s.tally.count } };
+
+    ghost invariant = { λ s. length s.cells.xs ≡ CAP };
+}
+
+impl<T: Drop, const CAP: usize> ArraySlots<T, CAP> {
+    ghost use Rattle.ring_slots.specs.array.Lends.{lends_item, lends_slot};
+
+    /// Empty slots.
+    pub fn new() -> Self
+        ensures { result ≡ record { slots = replicate CAP None; changes = 0 } }
+    {
+        ArraySlots {
+            cells: Cells::empty(),
+            tally: Tally::new(),
+        }
+    }
+
+    /// Puts an item into an empty slot.
+    #[inline]
+    pub fn put(&mut self, place: usize, item: T)
+        requires { IsEmptyAt self.old place }
+        ensures { self.new ≡ changed self.old place (Some item) }
+    {
+        *self.slot_mut(place) = Some(item);
+    }
+
+    /// Takes the item out of a full slot.
+    #[inline]
+    pub fn take(&mut self, place: usize) -> T
+        requires { IsFullAt self.old place }
+        ensures value { slot_at self.old place ≡ Some result }
+        ensures after { self.new ≡ changed self.old place None }
+    {
+        self.slot_mut(place).take().unwrap()
+    }
+
+    /// The item of a full slot.
+    #[inline]
+    pub fn get(&self, place: usize) -> &T
+        requires { IsFullAt self.now place }
+        ensures { slot_at self.now place ≡ Some result.now }
+    {
+        self.cells.at(place).as_ref().unwrap()
+    }
+
+    /// The item of a full slot, for writing.
+    #[inline]
+    pub fn get_mut(&mut self, place: usize) -> &mut T
+        requires { IsFullAt self.old place }
+        ensures* writes_back { sem 𝓛 (lends_item T.row CAP.row self.entry place result) }
+        ensures value { slot_at self.old place ≡ Some result.now }
+    {
+        self.slot_mut(place).as_mut().unwrap()
+    }
+
+    // The slot at a place, for one change, which is counted here.
+    #[inline]
+    fn slot_mut(&mut self, place: usize) -> &mut Option<T>
+        requires { place < length self.old.slots }
+        ensures* writes_back { sem 𝓛 (lends_slot T.row CAP.row self.entry place result) }
+        ensures value { result.now ≡ slot_at self.old place }
+    {
+        self.tally = self.tally.next();
+        self.cells.at_mut(place)
+    }
+}
+
+impl<T: Drop, const CAP: usize> SlotRow<T> for ArraySlots<T, CAP> {
+    ghost seen = { λ s. s };
+
+    ghost is_size = { λ _. Unit {0} };
+
+    ghost with_slot = { λ s place x. changed s place (Some x) };
+
+    ghost sees_write = { λ _ _ _. refl };
+
+    #[inline]
+    fn size(&self) -> usize {
+        let cells = &self.cells;
+        cells.xs.len()
+    }
+
+    #[inline]
+    fn place(&self, start: usize, k: usize) -> usize {
+        wrapped(start, k, self.size())
+    }
+
+    #[inline]
+    fn put(&mut self, place: usize, item: T) {
+        ArraySlots::put(self, place, item);
+    }
+
+    #[inline]
+    fn take(&mut self, place: usize) -> T {
+        ArraySlots::take(self, place)
+    }
+
+    #[inline]
+    fn get(&self, place: usize) -> &T {
+        ArraySlots::get(self, place)
+    }
+
+    #[inline]
+    fn get_mut(&mut self, place: usize) -> &mut T {
+        ArraySlots::get_mut(self, place)
+    }
+}

@@ -1,0 +1,15 @@
+//! The slots of a ring: places that hold an item or nothing, with a count of their changes that takes no bytes.
+#![tactic(auto)]
+
+mod array;
+mod heap;
+mod place;
+mod row;
+mod tally;
+#[cfg(test)]
+mod tests;
+
+pub use array::ArraySlots;
+pub use heap::HeapSlots;
+pub use place::{masked, wrapped};
+pub use row::SlotRow;
