@@ -1,5 +1,5 @@
 -- How a step of a walk shortens what is still to come.
-use Rattle.std.proofs.Common.{◌≡◌, ℕ, ◌+◌, ◌-◌, ◌<◌, ◌≤◌, min, List, [], ◌∷◌, ◌++◌, length, take, drop, get_or, Option, Some, None, MatchOption, refl, sym, ap, ◌∙◌, Bor, add-one, arith, inl, inr, length-append, length-drop}
+use Rattle.std.proofs.Common.{◌≡◌, ℕ, ◌+◌, ◌-◌, ◌<◌, ◌≤◌, ◌↔◌, min, List, [], ◌∷◌, ◌++◌, length, take, drop, get_or, Option, Some, None, MatchOption, refl, sym, ap, ◌∙◌, Bor, add-one, arith, inl, inr, length-append, length-drop}
 use Rattle.std.specs.List.{slice_get}
 use Rattle.std.specs.Option.{option_copied}
 use Rattle.std.proofs.Math.Seq.{drop-cons, take-suc}
@@ -66,9 +66,8 @@ module _ {A : Type 0} (xs : List A) (front back : ℕ) where
         | inr past ↦ (let beyond : length xs ≤ last = past.0 in absurd (omega arith))
       ]
 
-  -- something is to come before the end
-  pub to_come_some : front < min back (length xs) → to_come xs front back ≡ [] → ⊥
-  to_come_some before none =
+  -- a step before the end finds an item, and an item is to come
+  pub none-to_come : {P : Type 0} → (P → ⊥) → front < min back (length xs) → P ↔ (to_come xs front back ≡ [])
+  none-to_come found before =
       let long : length (to_come xs front back) ≡ min back (length xs) - front = length-drop front (take back xs) ∙ ap (λ n. n - front) (length-take back xs) in
-      let short : length (to_come xs front back) ≡ 0 = ap length none in
-      absurd (omega arith)
+      (λ p. absurd (found p), λ none. absurd (omega (arith, long, ap length none)))

@@ -1,10 +1,10 @@
-use Rattle.std.proofs.Common.{◌≡◌, ◌+◌, ◌<◌, [], length, ap, arith}
+use Rattle.std.proofs.Common.{◌+◌, ◌<◌, IsNone, length, ap, arith}
 use Rattle.std.specs.Option.{option_copied_mut}
 use Rattle.std.proofs.Math.Nat.{mod-eq_of_lt}
 use Rattle.ring_core.specs.Contents.{place}
 use Rattle.ring_core.specs.Cursor.{stepped}
 use Rattle.ring_core.proofs.Lending.{lent_as}
-use Rattle.ring_core.proofs.Walks.{slice_get-to_come, to_come_some}
+use Rattle.ring_core.proofs.Walks.{slice_get-to_come, none-to_come}
 use Rattle.ring_core.proofs.iter.RingBufferMutIterator.next.Goals as goal
 
 pub returns : goal.returns
@@ -13,12 +13,12 @@ returns g c =
     let R = g.RB.RingBuffer in
     let n = length (R.contents s.ring.now) in
     let within : s.front < n = omega arith in
-    let held : R.contents s.ring.now ≡ [] → ⊥ = λ none. absurd (omega (arith, ap length none)) in (
+    let lent : IsNone c.get_mut.result → ⊥ = λ none. absurd (omega (arith, ap length (c.get_mut.ensures.none.0 none))) in (
       lent_as c.get_mut.result (stepped R.with_item s (s.front + 1) s.back (place n s.front)) (stepped R.with_item s (s.front + 1) s.back s.front) (record s { front = s.front + 1 }) s
-          (λ none. held (c.get_mut.ensures.none.0 none)) (λ w. ap (λ i. stepped R.with_item s (s.front + 1) s.back i w) (mod-eq_of_lt within)),
+          lent (λ w. ap (λ i. stepped R.with_item s (s.front + 1) s.back i w) (mod-eq_of_lt within)),
       record {
         writes_back = tt;
         value = slice_get-to_come (R.contents s.ring.now) s.front s.back (option_copied_mut c.get_mut.result) (omega arith) within c.get_mut.ensures.value;
-        none = (λ none. absurd (held (c.get_mut.ensures.none.0 none)), λ none. absurd (to_come_some (R.contents s.ring.now) s.front s.back (omega arith) none));
+        none = none-to_come (R.contents s.ring.now) s.front s.back lent (omega arith);
       },
     )

@@ -1,10 +1,10 @@
-use Rattle.std.proofs.Common.{◌≡◌, ◌-◌, ◌<◌, [], length, min, ap, arith}
+use Rattle.std.proofs.Common.{◌≡◌, ◌-◌, ◌<◌, IsNone, length, min, ap, arith}
 use Rattle.std.specs.Option.{option_copied_mut}
 use Rattle.std.proofs.Math.Nat.{mod-eq_of_lt}
 use Rattle.ring_core.specs.Contents.{place}
 use Rattle.ring_core.specs.Cursor.{stepped}
 use Rattle.ring_core.proofs.Lending.{lent_as}
-use Rattle.ring_core.proofs.Walks.{slice_get-to_come_last, to_come_some}
+use Rattle.ring_core.proofs.Walks.{slice_get-to_come_last, none-to_come}
 use Rattle.ring_core.proofs.iter.RingBufferMutIterator.next_back.Goals as goal
 
 pub returns : goal.returns
@@ -15,13 +15,13 @@ returns g c =
     let last = min s.back n - 1 in
     let end_is : c.min-end.result ≡ min s.back n = omega arith in
     let within : last < n = omega arith in
-    let held : R.contents s.ring.now ≡ [] → ⊥ = λ none. absurd (omega (arith, ap length none)) in
+    let lent : IsNone c.get_mut.result → ⊥ = λ none. absurd (omega (arith, ap length (c.get_mut.ensures.none.0 none))) in
     rw end_is (
       lent_as c.get_mut.result (stepped R.with_item s s.front last (place n last)) (stepped R.with_item s s.front last last) (record s { back = last }) s
-          (λ none. held (c.get_mut.ensures.none.0 none)) (λ w. ap (λ i. stepped R.with_item s s.front last i w) (mod-eq_of_lt within)),
+          lent (λ w. ap (λ i. stepped R.with_item s s.front last i w) (mod-eq_of_lt within)),
       record {
         writes_back = tt;
         value = slice_get-to_come_last (R.contents s.ring.now) s.front s.back last (option_copied_mut c.get_mut.result) (omega arith) (omega arith) (rw end_is at c.get_mut.ensures.value);
-        none = (λ none. absurd (held (c.get_mut.ensures.none.0 none)), λ none. absurd (to_come_some (R.contents s.ring.now) s.front s.back (omega arith) none));
+        none = none-to_come (R.contents s.ring.now) s.front s.back lent (omega arith);
       },
     )
