@@ -1,11 +1,11 @@
 //! Generic code over `RingBuffer<T>`, proved from the trait's contract alone.
 
 ghost use Rattle.std.specs.Prelude.{◌≡◌, ◌+◌, ◌%◌, ◌<◌, ◌^◌, [], ◌∷◌, ◌++◌, All, IfOk, IsSome, IsTrue, drop, map, reverse, slice_set, sum};
-ghost use Rattle.ring_core.specs.Contents.{ChangesSlots, keep_last};
+ghost use Rattle.ringbuffer.specs.Contents.{ChangesSlots, keep_last};
 
 use std::alloc::{AllocError, Global};
 
-use ring_core::{
+use ringbuffer::{
     RingBuffer, RingBufferDrainingIterator, RingBufferIterator, RingBufferMutIterator,
 };
 

@@ -1,5 +1,9 @@
 pub mod Filling
+pub mod HistoryLemmas
 pub mod Lending
+pub mod LoopLemmas
+pub mod MatchLemmas
 pub mod MeaningLemmas
 pub mod Reading
 pub mod Walks
+pub mod WorkedRuns

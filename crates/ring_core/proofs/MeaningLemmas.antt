@@ -1,5 +1,5 @@
 -- Runs of commands in parts, and the places of their replies.
-use Rattle.std.proofs.Common.{◌≡◌, ℕ, ◌+◌, ◌-◌, ◌<◌, List, [], ◌∷◌, ◌++◌, length, map, set, replicate, slice_get, Option, Some, None, refl, ap, arith, append-nil, append_assoc, length-append, suc}
+use Rattle.std.proofs.Common.{◌≡◌, ℕ, ◌-◌, ◌<◌, List, [], ◌∷◌, ◌++◌, length, map, set, replicate, slice_get, Option, Some, None, refl, ap, arith, append-nil, append_assoc, suc}
 use Rattle.std.proofs.lemmas.List.{length-map, map-append, set_at, take_at}
 use Rattle.std.proofs.lemmas.List.{length_push}
 use Rattle.ring_core.specs.declared.run.Command.{Command}
@@ -36,24 +36,8 @@ places_all limit l cs =
     let none : length cs - length (replies_to limit l cs) ≡ 0 = omega (arith, length-replies_to limit l cs) in
     rw (none, append-nil) refl
 
--- One more command is done: what it leaves of what the others left.
-pub after_all-turn : {T : Type 0} (limit limit' : Option ℕ) (start now next : List T) (done : List (Command T)) (c : Command T)
-    → limit' ≡ limit → now ≡ after_all limit start done → next ≡ after_one limit' now c → next ≡ after_all limit start (done ++ c ∷ [])
-after_all-turn limit limit' start now next done c same left is = rw (after_all-append limit start done (c ∷ [])) (cc)
-
--- One more command is answered: its reply goes into the place with its number.
-pub places-turn : {T : Type 0} (limit : Option ℕ) (start now : List T) (done todo all : List (Command T)) (c : Command T) (at : ℕ) (replies next : List (Option (Reply T))) (r : Reply T)
-    → done ++ c ∷ todo ≡ all → at ≡ length done → now ≡ after_all limit start done → replies ≡ places (length all) (replies_to limit start done)
-    → r ≡ reply_to now c → next ≡ set replies at (Some r) → next ≡ places (length all) (replies_to limit start (done ++ c ∷ []))
-places-turn limit start now done todo all c at replies next r whole count left answered is written =
-    let so_far = replies_to limit start done in
-    let parts : length all ≡ length done + suc (length todo) = rw (← whole) (length-append done (c ∷ todo)) in
-    let answers = length-replies_to limit start done in
-    let room : length so_far < length all = omega arith in
-    rw (replies_to-append limit start done (c ∷ [])) (cc (places-more (length all) so_far r room))
-
 -- The item at a place after so many others.
-slice_get-at : {A : Type 0} (xs : List A) (y : A) (ys : List A) → slice_get (xs ++ y ∷ ys) (length xs) ≡ Some y
+pub slice_get-at : {A : Type 0} (xs : List A) (y : A) (ys : List A) → slice_get (xs ++ y ∷ ys) (length xs) ≡ Some y
 slice_get-at [] y ys = refl
 slice_get-at (x ∷ xs) y ys = slice_get-at xs y ys
 

@@ -1,10 +1,12 @@
 -- What follows of the words of `Contents`, for the proofs of callers.
-use Rattle.std.specs.Prelude.{◌≡◌, ℕ, zero, suc, ◌+◌, ◌-◌, ◌<◌, List, [], ◌∷◌, ◌++◌, length, drop, Option, None, Some, IfSome, refl, slice_set, negsuc}
+use Rattle.std.specs.Prelude.{◌≡◌, ℕ, zero, suc, ◌+◌, ◌-◌, ◌<◌, List, [], ◌∷◌, ◌++◌, length, map, take, drop, get_or, Option, None, Some, IfSome, refl, slice_get, slice_set, negsuc}
 use Rattle.std.specs.List.{AllZip}
-use Rattle.std.proofs.Common.{◌∙◌, ap, sym, arith, length-append, length-drop}
+use Rattle.std.proofs.Common.{◌∙◌, ap, sym, add-one, append_assoc, arith, length-append, length-drop}
 use Rattle.std.proofs.Math.Nat.{zero-mod}
-use Rattle.std.proofs.Math.Seq.{set-append_seam}
-use Rattle.std.proofs.lemmas.List.{drop-append-le, drop-drop, drop_all}
+use Rattle.std.proofs.Math.Seq.{drop-cons, set-append_seam, take-length, take-suc-set}
+use Rattle.std.proofs.lemmas.List.{drop-append-le, drop-drop, drop-set-lt, drop_all}
+use Rattle.std.proofs.lemmas.Option.{slice_get_within}
+use Rattle.ring_core.specs.Walk.{to_come}
 use Rattle.ring_core.specs.Contents.{IsWithin, keep_last, signed_place}
 
 -- a list within its limit loses nothing
@@ -53,3 +55,14 @@ AllZip-append R [] [] x y all one = (one, tt)
 AllZip-append R [] (w ∷ ws) x y all one = absurd all
 AllZip-append R (w ∷ ws) [] x y all one = absurd all
 AllZip-append R (v ∷ vs) (w ∷ ws) x y all one = (all.0, AllZip-append R vs ws x y all.1 one)
+
+-- A cursor that puts f of each item in its place: the items before the cursor, and f of the others, are the same
+-- before a step and after it.
+pub map-step : {A : Type 0} (f : A → A) (xs : List A) (front : ℕ) (x : A) → Some x ≡ slice_get (to_come xs front (length xs)) 0
+    → take (front + 1) (slice_set xs front (f x)) ++ map f (drop (front + 1) (slice_set xs front (f x))) ≡ take front xs ++ map f (drop front xs)
+map-step f xs front x lent =
+    let first : slice_get (drop front xs) 0 ≡ Some x = sym (lent ∙ ap (λ l. slice_get (drop front l) 0) (take-length xs)) in
+    let within : front < length xs = omega (arith, slice_get_within (drop front xs) 0 x first, length-drop front xs) in
+    let behind : drop front xs ≡ get_or xs front x ∷ drop (suc front) xs = drop-cons xs front x within in
+    let is : get_or xs front x ≡ x = let e : Some (get_or xs front x) ≡ Some x = sym (ap (λ l. slice_get l 0) behind) ∙ first in cc in
+    rw (add-one, take-suc-set xs front (f x) within, drop-set-lt (suc front) xs front (f x) (omega arith), append_assoc, behind, is) refl

@@ -1,7 +1,8 @@
 //! Commands for a ring as values, and runs of them on any lawful ring.
 
-ghost use Rattle.std.specs.Prelude.{◌≡◌, ◌<◌, IfErr, IfOk, IsOk, IsSome, OnOk, None, Some, length, map, replicate, slice_set, take};
+ghost use Rattle.std.specs.Prelude.{◌≡◌, ◌+◌, ◌*◌, ◌<◌, ◌≤◌, IfErr, IfOk, IsOk, IsSome, OnOk, None, Some, length, map, replicate, slice_set, take};
 ghost use Rattle.ring_core.specs.Contents.{ChangesSlots};
+ghost use Rattle.ring_core.specs.History.{ChangesFewSlots, HasNoGap, IsWithinLimit, PushesOverwrite, RemovesOnce, all_items, contents_after, replies_of, steps};
 ghost use Rattle.ring_core.specs.Meaning.{IsRefused, RunsJoin, StopsAt, after_all, after_one, places, puts, replies_to, reply_to};
 
 use crate::ring::RingBuffer;
@@ -132,10 +133,22 @@ pub fn run_into<T: Drop, R: RingBuffer<T>>(
     ensures in_turn { OnOk result (R.contents ring.new ≡ after_all (R.limit ring.old) (R.contents ring.old) commands.items) }
     ensures replies_in_turn { OnOk result (replies.new ≡ map Some (replies_to (R.limit ring.old) (R.contents ring.old) commands.items)) }
 
+    // By item numbers: what is left and answered is what the numbers held after each step say.
+    ensures contents { OnOk result (R.contents ring.new ≡ contents_after (R.limit ring.old) (R.contents ring.old) commands.items) }
+    ensures replies { OnOk result (replies.new ≡ map Some (replies_of (R.limit ring.old) (R.contents ring.old) commands.items)) }
+    ensures no_gap { HasNoGap (R.limit ring.old) (R.contents ring.old) (steps commands.items) }
+    ensures within_limit { IsWithinLimit (R.limit ring.old) (R.contents ring.old) (steps commands.items) }
+    ensures removes_once { RemovesOnce (R.limit ring.old) (R.contents ring.old) (steps commands.items) }
+    ensures pushes_overwrite { PushesOverwrite (R.limit ring.old) (R.contents ring.old) (steps commands.items) }
+    ensures few_changes { IsSome (R.limit ring.old) → ChangesFewSlots (R.limit ring.old) (R.contents ring.old) (steps commands.items) (R.slot_changes ring.old) (R.slot_changes ring.new) }
+    ensures twice { IsSome (R.limit ring.old) → R.slot_changes ring.new ≤ R.slot_changes ring.old + 2 * length (all_items (R.contents ring.old) (steps commands.items)) }
+
     // A run that stopped did the commands before, and part of the one that was refused.
     ensures stopped { IfErr result (λ s. StopsAt (R.limit ring.old) (R.contents ring.old) commands.items s.at (R.contents ring.new)) }
     ensures replies_before { IfErr result (λ s. replies.new ≡ places (length commands.items) (replies_to (R.limit ring.old) (R.contents ring.old) (take s.at commands.items))) }
 {
+    // Brings in that the contents are within the limit.
+    let _ = ring.len();
     empty(replies);
     let mut at = 0;
     for command in commands {

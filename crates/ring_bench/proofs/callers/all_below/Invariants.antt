@@ -1,6 +1,7 @@
 use Rattle.std.proofs.Common.{◌<◌, All}
+use Rattle.ringbuffer.specs.Walk.{unread}
 use Rattle.ring_bench.proofs.callers.all_below.Given as goal
 
--- what was read so far is below the bound
+-- once the items still to come are below the bound, all are
 abbrev pub invariant-loop-x : goal.invariant-loop-x
-invariant-loop-x g l = All (λ x. x.now < l.bound) l.yielded
+invariant-loop-x g l = All (λ x. x < l.bound) (unread g.R.RingBuffer.contents l.x-iterator) → All (λ x. x < l.bound) (g.R.RingBuffer.contents l.ring)

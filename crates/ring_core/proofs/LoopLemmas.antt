@@ -1,0 +1,86 @@
+-- A loop over commands: what holds at each turn, what one more command makes of it, and what follows at its end.
+use Rattle.std.proofs.Common.{◌≡◌, ℕ, ◌+◌, ◌<◌, List, [], ◌∷◌, ◌++◌, length, map, set, Option, Some, IsSome, refl, ap, sym, ◌∙◌, append-nil, append_assoc, length-append, arith}
+use Rattle.std.proofs.lemmas.Grind.{flat_map-append}
+use Rattle.std.proofs.lemmas.List.{length_push}
+use Rattle.ring_core.specs.declared.run.Command.{Command}
+use Rattle.ring_core.specs.declared.run.Refused.{Refused}
+use Rattle.ring_core.specs.declared.run.Reply.{Reply}
+use Rattle.ring_core.specs.Contents.{ChangesSlots, IsWithin}
+use Rattle.ring_core.specs.Meaning.{IsRefused, StopsAt, after_all, after_one, places, puts, replies_to, reply_to}
+use Rattle.ring_core.specs.History.{ChangesFewSlots, pushed, steps, steps_of}
+use Rattle.ring_core.proofs.MeaningLemmas.{StopsAt-refused, after_all-append, length-replies_to, places-more, places_all, replies_to-append}
+use Rattle.ring_core.proofs.MatchLemmas.{ChangesFewSlots-run, pushed-append, pushed-steps_of}
+
+-- of all the commands some are done and the others to do, and the ring holds what those that are done leave
+pub record HasDone {T : Type 0} (limit : Option ℕ) (start : List T) (all done todo : List (Command T)) (at : ℕ) (limit' : Option ℕ) (now : List T) (before after : ℕ) : Type 0 where
+  pub parts : done ++ todo ≡ all
+  pub count : at ≡ length done
+  pub same_limit : limit' ≡ limit
+  pub left : now ≡ after_all limit start done
+  pub changes : IsSome limit → ChangesSlots before start after now (length (pushed (steps done)))
+
+append-empty : {A : Type 0} (xs ys : List A) → length ys ≡ 0 → xs ++ ys ≡ xs
+append-empty xs [] none = append-nil xs
+append-empty xs (y ∷ ys) none = absurd (omega arith)
+
+module _ {T : Type 0} {limit : Option ℕ} {start : List T} {all done todo : List (Command T)} {at : ℕ} {limit' : Option ℕ} {now : List T} {before after : ℕ} where
+  -- One more command is done.
+  pub HasDone-turn : (c : Command T) (rest : List (Command T)) (limit'' : Option ℕ) (next : List T) (later : ℕ) → HasDone limit start all done todo at limit' now before after → todo ≡ c ∷ rest
+      → limit'' ≡ limit' → next ≡ after_one limit' now c → (IsSome limit' → ChangesSlots after now later next (length (puts c)))
+      → HasDone limit start all (done ++ c ∷ []) rest (at + 1) limit'' next before later
+  HasDone-turn c rest limit'' next later h first same is more =
+      let pushes : pushed (steps (done ++ c ∷ [])) ≡ pushed (steps done) ++ puts c =
+      rw (flat_map-append steps_of done (c ∷ []), append-nil, pushed-append, pushed-steps_of c) refl in
+      let sum = length-append (pushed (steps done)) (puts c) in
+      record {
+        parts = rw (append_assoc, ← first) h.parts;
+        count = rw length_push (ap (λ n. n + 1) h.count);
+        same_limit = same ∙ h.same_limit;
+        left = rw (after_all-append limit start done (c ∷ []), ← h.left, ← h.same_limit) is;
+        changes = λ some.
+            let so_far = h.changes some in
+            let here = more (rw h.same_limit some) in
+            rw pushes (omega arith, omega arith);
+      }
+
+  -- Where none is to do, all are done.
+  pub HasDone-end : HasDone limit start all done todo at limit' now before after → length todo ≡ 0 → HasDone limit start all all [] at limit' now before after
+  HasDone-end h none =
+      let whole : done ≡ all = sym (append-empty done todo none) ∙ h.parts in
+      rw (← whole) (record { parts = append-nil done; count = h.count; same_limit = h.same_limit; left = h.left; changes = h.changes })
+
+  -- One more command is answered.
+  pub replies_to-turn : (c : Command T) (r : Reply T) → HasDone limit start all done todo at limit' now before after → r ≡ reply_to now c
+      → replies_to limit start (done ++ c ∷ []) ≡ replies_to limit start done ++ r ∷ []
+  replies_to-turn c r h is = rw (is, h.left) (replies_to-append limit start done (c ∷ []))
+
+  -- Its reply goes into the place with its number.
+  pub places-turn : (c : Command T) (rest : List (Command T)) (replies next : List (Option (Reply T))) (r : Reply T) → HasDone limit start all done todo at limit' now before after → todo ≡ c ∷ rest
+      → replies ≡ places (length all) (replies_to limit start done) → r ≡ reply_to now c → next ≡ set replies at (Some r)
+      → next ≡ places (length all) (replies_to limit start (done ++ c ∷ []))
+  places-turn c rest replies next r h first answered is written =
+      let so_far = replies_to limit start done in
+      let answers : at ≡ length so_far = h.count ∙ sym (length-replies_to limit start done) in
+      let sum : length all ≡ length done + length (c ∷ rest) = rw (← h.parts, first) (length-append done (c ∷ rest)) in
+      let room : length so_far < length all = omega (arith, h.count) in
+      rw (replies_to-turn c r h is, written, answered, answers) (places-more (length all) so_far r room)
+
+  -- Where none is to do, each place has its reply.
+  pub places-end : (replies : List (Option (Reply T))) → HasDone limit start all done todo at limit' now before after → length todo ≡ 0
+      → replies ≡ places (length all) (replies_to limit start done) → replies ≡ map Some (replies_to limit start all)
+  places-end replies h none answered =
+      let whole : done ≡ all = sym (append-empty done todo none) ∙ h.parts in
+      rw whole at answered ∙ places_all limit start all
+
+  -- A refusal of the next command stops the run at its number.
+  pub HasDone-stops : (c : Command T) (rest : List (Command T)) (new : List T) (r : Refused T) → HasDone limit start all done todo at limit' now before after → todo ≡ c ∷ rest
+      → IsRefused c now new r → StopsAt limit start all at new
+  HasDone-stops c rest new r h first refused =
+      let whole : done ++ c ∷ rest ≡ all = rw (← first) h.parts in
+      rw (← whole, h.count) (StopsAt-refused limit start done rest c new r (rw (← h.left) refused))
+
+-- The bound on the count, by item numbers.
+pub HasDone-few : {T : Type 0} {limit : Option ℕ} {start : List T} {all : List (Command T)} {at : ℕ} {limit' : Option ℕ} {now : List T} {before after : ℕ}
+    → HasDone limit start all all [] at limit' now before after → IsWithin start limit → IsSome limit → ChangesFewSlots limit start (steps all) before after
+HasDone-few {limit = limit} {start = start} {all = all} {before = before} {after = after} h within some =
+    ChangesFewSlots-run limit start all within before after (rw (← h.left) (h.changes some))

@@ -1,0 +1,255 @@
+-- What a run means by item numbers is what it means by lists: after k steps the contents are the items so far from the
+-- first held number on.
+use Rattle.std.proofs.Common.{◌≡◌, ℕ, zero, suc, ◌+◌, ◌-◌, ◌*◌, ◌<◌, ◌≤◌, max, true, false, nat_lt, if◌then◌else◌, List, [], ◌∷◌, ◌++◌, length, take, drop, map, slice_get, Option, Some, None, refl, inl, inr, sym, ap, ◌∙◌, add-zero, zero-add, append-nil, append_assoc, arith, length-append, length-drop}
+use Rattle.std.specs.List.{enumerate_from, filter_map, range_with_len}
+use Rattle.std.proofs.lemmas.Bool.{cases_lt}
+use Rattle.std.proofs.lemmas.Bool.Decides.{nat_tests}
+use Rattle.std.proofs.lemmas.Grind.{flat_map-append}
+use Rattle.std.proofs.lemmas.Option.{slice_get_past}
+use Rattle.std.proofs.lemmas.List.{drop-append-le, drop-drop, drop_all, drop_min, length_push, length-take-le, take-append-drop, take_all, take_at}
+use Rattle.ring_core.specs.declared.run.Command.{Command}
+use Rattle.ring_core.specs.declared.run.Command.TheVariants.{Push, Extend, Dequeue, Skip, Clear}
+use Rattle.ring_core.specs.declared.run.Reply.TheVariants.{Dequeued}
+use Rattle.ring_core.specs.Contents.{ChangesSlots, IsWithin, keep_last, rest}
+use Rattle.ring_core.specs.Meaning.{after_all, after_one, puts, replies_to, reply_to}
+use Rattle.ring_core.specs.History.{ChangesFewSlots, Step, pushes, takes, clears, all_items, contents_after, number, oldest, pushed, replies_of, reply_after, steps, steps_of}
+use Rattle.ring_core.proofs.MeaningLemmas.{after_all-append, slice_get-at}
+use Rattle.ring_core.proofs.HistoryLemmas.{IsRoom, IsWindow-held, first, first_next, head-first, held_numbers-window, pushed-take_more, pushed_by, removed-first}
+
+-- ---- lists
+
+slice_get-drop : {A : Type 0} (n : ℕ) (xs : List A) → slice_get (drop n xs) 0 ≡ slice_get xs n
+slice_get-drop zero xs = refl
+slice_get-drop (suc n) [] = refl
+slice_get-drop (suc n) (x ∷ xs) = slice_get-drop n xs
+
+slice_get-append_left : {A : Type 0} (n : ℕ) (xs ys : List A) → n < length xs → slice_get (xs ++ ys) n ≡ slice_get xs n
+slice_get-append_left n [] ys within = absurd (omega arith)
+slice_get-append_left zero (x ∷ xs) ys within = refl
+slice_get-append_left (suc n) (x ∷ xs) ys within = slice_get-append_left n xs ys (omega arith)
+
+-- The items of the numbers from the end of xs on.
+items-range : {A : Type 0} (xs ys : List A) → filter_map (slice_get (xs ++ ys)) (range_with_len (length xs) (length ys)) ≡ ys
+items-range xs [] = refl
+items-range xs (y ∷ ys) =
+    let later = rw (length_push, append_assoc) at (items-range (xs ++ y ∷ []) ys) in
+    rw (slice_get-at xs y ys, later) refl
+
+items-from : {A : Type 0} (f n : ℕ) (xs : List A) → length xs ≡ n → f ≤ n → filter_map (slice_get xs) (range_with_len f (n - f)) ≡ drop f xs
+items-from f n xs count order =
+    let low : length (take f xs) ≡ f = length-take-le f xs (omega arith) in
+    let high : length (drop f xs) ≡ n - f = rw length-drop (omega arith) in
+    rw (low, high, take-append-drop f xs) at (items-range (take f xs) (drop f xs))
+
+-- ---- one item at a time
+
+-- what a step does to a list
+abbrev pub after_step : {T : Type 0} → Option ℕ → List T → Step T → List T
+after_step limit l (pushes x) = keep_last limit (l ++ x ∷ [])
+after_step limit l takes = rest l
+after_step limit l clears = []
+
+abbrev pub after_steps : {T : Type 0} → Option ℕ → List T → List (Step T) → List T
+after_steps limit l [] = l
+after_steps limit l (s ∷ ss) = after_steps limit (after_step limit l s) ss
+
+after_steps-append : {T : Type 0} (limit : Option ℕ) (l : List T) (xs ys : List (Step T)) → after_steps limit l (xs ++ ys) ≡ after_steps limit (after_steps limit l xs) ys
+after_steps-append limit l [] ys = refl
+after_steps-append limit l (s ∷ xs) ys = after_steps-append limit (after_step limit l s) xs ys
+
+IsWithin-keep_last : {T : Type 0} (limit : Option ℕ) (l xs : List T) → IsWithin l limit → IsWithin (keep_last limit xs) limit
+IsWithin-keep_last None l xs within = tt
+IsWithin-keep_last (Some n) l xs within = (within.0, rw length-drop (omega arith))
+
+rest-drop : {T : Type 0} (l : List T) → rest l ≡ drop 1 l
+rest-drop [] = refl
+rest-drop (x ∷ l) = refl
+
+IsWithin-drop : {T : Type 0} (limit : Option ℕ) (l : List T) (n : ℕ) → IsWithin l limit → IsWithin (drop n l) limit
+IsWithin-drop None l n within = tt
+IsWithin-drop (Some c) l n within = (within.0, rw length-drop (omega (arith, within.1)))
+
+IsWithin-none : {T : Type 0} (limit : Option ℕ) (l : List T) → IsWithin l limit → IsWithin {A = T} [] limit
+IsWithin-none None l within = tt
+IsWithin-none (Some c) l within = (within.0, omega arith)
+
+-- A list within the limit is kept whole.
+keep_last-within : {T : Type 0} (limit : Option ℕ) (l : List T) → IsWithin l limit → keep_last limit l ≡ l
+keep_last-within None l within = refl
+keep_last-within (Some c) l within = let none : length l - c ≡ 0 = omega (arith, within.1) in rw none refl
+
+-- What is kept of a part that was kept, and more, is what is kept of the whole.
+keep_last-append : {T : Type 0} (limit : Option ℕ) (xs ys : List T) → keep_last limit (keep_last limit xs ++ ys) ≡ keep_last limit (xs ++ ys)
+keep_last-append None xs ys = refl
+keep_last-append (Some c) xs ys =
+    let cut = length xs - c in
+    let whole : drop cut xs ++ ys ≡ drop cut (xs ++ ys) = sym (drop-append-le cut xs ys (omega arith)) in
+    let at : cut + (length (drop cut (xs ++ ys)) - c) ≡ length (xs ++ ys) - c = rw (length-drop, length-append) (omega arith) in
+    rw (whole, drop-drop, at) refl
+
+-- An extension pushes item by item.
+after_steps-pushes : {T : Type 0} (limit : Option ℕ) (l xs : List T) → IsWithin l limit → after_steps limit l (map pushes xs) ≡ keep_last limit (l ++ xs)
+after_steps-pushes limit l [] within = rw append-nil (sym (keep_last-within limit l within))
+after_steps-pushes limit l (x ∷ xs) within =
+    after_steps-pushes limit (keep_last limit (l ++ x ∷ [])) xs (IsWithin-keep_last limit l _ within) ∙ keep_last-append limit (l ++ x ∷ []) xs ∙ ap (keep_last limit) (append_assoc l (x ∷ []) xs)
+
+IsWithin-after_one : {T : Type 0} (limit : Option ℕ) (l : List T) (c : Command T) → IsWithin l limit → IsWithin (after_one limit l c) limit
+IsWithin-after_one limit l (Push x) within = IsWithin-keep_last limit l _ within
+IsWithin-after_one limit l (Extend items) within = IsWithin-keep_last limit l _ within
+IsWithin-after_one limit l Dequeue within = rw rest-drop (IsWithin-drop limit l 1 within)
+IsWithin-after_one limit l Skip within = rw rest-drop (IsWithin-drop limit l 1 within)
+IsWithin-after_one limit l Clear within = IsWithin-none limit l within
+
+-- A command does what its steps do.
+after_one-steps : {T : Type 0} (limit : Option ℕ) (l : List T) (c : Command T) → IsWithin l limit → after_one limit l c ≡ after_steps limit l (steps_of c)
+after_one-steps limit l (Push x) within = refl
+after_one-steps limit l (Extend items) within = sym (after_steps-pushes limit l items.items within)
+after_one-steps limit l Dequeue within = refl
+after_one-steps limit l Skip within = refl
+after_one-steps limit l Clear within = refl
+
+-- By induction on the commands.
+after_all-steps : {T : Type 0} (limit : Option ℕ) (l : List T) (cs : List (Command T)) → IsWithin l limit → after_all limit l cs ≡ after_steps limit l (steps cs)
+after_all-steps limit l [] within = refl
+after_all-steps limit l (c ∷ cs) within =
+    rw (after_steps-append limit l (steps_of c) (steps cs), ← after_one-steps limit l c within) (after_all-steps limit (after_one limit l c) cs (IsWithin-after_one limit l c within))
+
+-- ---- the items from the first held number on
+
+-- One more step does to the list of the held items what it does to any list.
+drop-next : {T : Type 0} (limit : Option ℕ) (f n : ℕ) (xs : List T) (s : Step T) → length xs ≡ n → f ≤ n → IsRoom limit f n
+    → drop (first_next limit n f (Some s)) (xs ++ pushed_by (Some s)) ≡ after_step limit (drop f xs) s
+drop-next None f n xs (pushes x) count order room = drop-append-le f xs (x ∷ []) (omega arith)
+drop-next (Some c) f n xs (pushes x) count order room =
+    let whole : drop f xs ++ x ∷ [] ≡ drop f (xs ++ x ∷ []) = sym (drop-append-le f xs (x ∷ []) (omega arith)) in
+    let at : f + (length (drop f (xs ++ x ∷ [])) - c) ≡ max f (n + 1 - c) = rw (length-drop, length_push) (omega arith) in
+    rw (whole, drop-drop, at) refl
+drop-next limit f n xs takes count order room = rw (append-nil, ← count, drop_min, rest-drop, drop-drop) refl
+drop-next limit f n xs clears count order room = rw append-nil (drop_all n xs (omega arith))
+
+-- The first of the held items is the one with the least held number, also among all the items.
+first-held : {T : Type 0} (f n : ℕ) (xs ys : List T) → length xs ≡ n → (if nat_lt f n then slice_get (xs ++ ys) f else None) ≡ slice_get (drop f xs) 0
+first-held f n xs ys count = elim (cases_lt f n) [
+  | inl held ↦
+      let test : nat_lt f n ≡ true = grind (arith, nat_tests) in
+      rw (test, slice_get-drop) (slice_get-append_left f xs ys (omega arith))
+  | inr none ↦
+      let test : nat_lt f n ≡ false = grind (arith, nat_tests) in
+      rw (test, slice_get-drop) (sym (slice_get_past xs f (omega arith)))
+]
+
+-- By induction on the first steps.
+pub pushed-append : {T : Type 0} (xs ys : List (Step T)) → pushed (xs ++ ys) ≡ pushed xs ++ pushed ys
+pushed-append [] ys = refl
+pushed-append (pushes x ∷ xs) ys = ap (λ zs. x ∷ zs) (pushed-append xs ys)
+pushed-append (takes ∷ xs) ys = pushed-append xs ys
+pushed-append (clears ∷ xs) ys = pushed-append xs ys
+
+module _ {T : Type 0} (limit : Option ℕ) (start : List T) (ss : List (Step T)) (within : IsWithin start limit) where
+  -- the items held after k steps
+  left_by : ℕ → List T
+  left_by k = drop (first limit start ss k) (all_items start (take k ss))
+
+  left_by-suc : (k : ℕ) (s : Step T) → slice_get ss k ≡ Some s → left_by (suc k) ≡ after_step limit (left_by k) s
+  unfolding left_by
+  left_by-suc k s is =
+      let w = IsWindow-held limit start ss within k in
+      let so_far = all_items start (take k ss) in
+      let count : length so_far ≡ number start ss k = length-append start (pushed (take k ss)) in
+      let more : all_items start (take (suc k) ss) ≡ so_far ++ pushed_by (Some s) = rw (pushed-take_more ss k, is, ← append_assoc) refl in
+      rw (more, is) (drop-next limit (first limit start ss k) (number start ss k) so_far s count w.order w.room)
+
+  -- By induction on the steps in the middle.
+  left_by-part : (front mid back : List (Step T)) → ss ≡ front ++ (mid ++ back) → left_by (length front + length mid) ≡ after_steps limit (left_by (length front)) mid
+  left_by-part front [] back whole = rw add-zero refl
+  left_by-part front (s ∷ mid) back whole =
+      let at : slice_get ss (length front) ≡ Some s = rw whole (slice_get-at front s (mid ++ back)) in
+      let later = left_by-part (front ++ s ∷ []) mid back (rw append_assoc whole) in
+      let next : left_by (suc (length front)) ≡ after_step limit (left_by (length front)) s = left_by-suc (length front) s at in
+      let count : length (front ++ s ∷ []) ≡ suc (length front) = omega (arith, length_push front s) in
+      let sum : length front + suc (length mid) ≡ suc (length front) + length mid = omega arith in
+      rw (sum, ← next) (rw count at later)
+
+  oldest-left : (k : ℕ) → oldest limit start ss k ≡ slice_get (left_by k) 0
+  unfolding left_by
+  oldest-left k =
+      let so_far = all_items start (take k ss) in
+      let parts : all_items start ss ≡ so_far ++ pushed (drop k ss) =
+      rw (append_assoc, ← pushed-append (take k ss) (drop k ss), take-append-drop k ss) refl in
+      rw (head-first limit start ss within k, parts) (first-held (first limit start ss k) (number start ss k) so_far (pushed (drop k ss)) (length-append start (pushed (take k ss))))
+
+-- ---- a run of commands
+
+module _ {T : Type 0} (limit : Option ℕ) (start : List T) (cs : List (Command T)) (within : IsWithin start limit) where
+  -- What the first commands leave, by the steps that they take.
+  after_all-left : (done todo : List (Command T)) → done ++ todo ≡ cs → after_all limit start done ≡ left_by limit start (steps cs) within (length (steps done))
+  unfolding left_by
+  after_all-left done todo whole =
+      let parts : steps cs ≡ [] ++ (steps done ++ steps todo) = rw (← whole) (flat_map-append steps_of done todo) in
+      let part = rw (zero-add, append-nil) at (left_by-part limit start (steps cs) within [] (steps done) (steps todo) parts) in
+      rw (after_all-steps limit start done within) (sym part)
+
+  all_steps : take (length (steps cs)) (steps cs) ≡ steps cs
+  all_steps = take_all (length (steps cs)) (steps cs) (omega arith)
+
+  length-all_items : length (all_items start (steps cs)) ≡ number start (steps cs) (length (steps cs))
+  length-all_items = rw all_steps (length-append start (pushed (steps cs)))
+
+  -- The run leaves the items from the first held number on.
+  after_all-drop : after_all limit start cs ≡ drop (first limit start (steps cs) (length (steps cs))) (all_items start (steps cs))
+  unfolding left_by
+  after_all-drop = rw all_steps at (after_all-left cs [] (append-nil cs))
+
+  pub contents_after-all : contents_after limit start cs ≡ after_all limit start cs
+  contents_after-all =
+      let ss = steps cs in
+      let w = IsWindow-held limit start ss within (length ss) in
+      rw (held_numbers-window limit start ss within (length ss), items-from _ _ (all_items start ss) length-all_items w.order) (sym after_all-drop)
+
+  reply_after-left : (k : ℕ) (c : Command T) → reply_after limit start (steps cs) k c ≡ reply_to (left_by limit start (steps cs) within k) c
+  reply_after-left k (Push x) = refl
+  reply_after-left k (Extend items) = refl
+  reply_after-left k Dequeue = ap Dequeued (oldest-left limit start (steps cs) within k)
+  reply_after-left k Skip = refl
+  reply_after-left k Clear = refl
+
+  -- By induction on the commands that are left.
+  replies-left : (done todo : List (Command T)) → done ++ todo ≡ cs
+      → map (λ e. reply_after limit start (steps cs) (length (steps (take e.0 cs))) e.1) (enumerate_from (length done) todo) ≡ replies_to limit (after_all limit start done) todo
+  replies-left done [] whole = refl
+  replies-left done (c ∷ todo) whole =
+      let at : take (length done) cs ≡ done = rw (← whole) (take_at done (c ∷ todo) (length done) refl) in
+      let here = reply_after-left (length (steps done)) c ∙ ap (λ l. reply_to l c) (sym (after_all-left done (c ∷ todo) whole)) in
+      let later = rw (length_push, after_all-append) at (replies-left (done ++ c ∷ []) todo (rw append_assoc whole)) in
+      rw (at, here, later) refl
+
+  pub replies_of-all : replies_of limit start cs ≡ replies_to limit start cs
+  replies_of-all = replies-left [] cs refl
+
+  -- ---- the count of slot changes
+
+  -- With as many items left as the numbers say, the bound by lists is the bound by numbers.
+  pub ChangesFewSlots-run : (before after : ℕ) → ChangesSlots before start after (after_all limit start cs) (length (pushed (steps cs))) → ChangesFewSlots limit start (steps cs) before after
+  ChangesFewSlots-run before after (grows, most) =
+      let left : length (after_all limit start cs) ≡ length start + length (pushed (steps cs)) - first limit start (steps cs) (length (steps cs)) =
+      rw (after_all-drop, length-drop, length-append) refl in
+      (grows, rw (removed-first limit start (steps cs) within) (omega arith))
+
+  pub ChangesFewSlots-twice : (before after : ℕ) → ChangesFewSlots limit start (steps cs) before after → after ≤ before + 2 * length (all_items start (steps cs))
+  ChangesFewSlots-twice before after (grows, most) =
+      let order = (IsWindow-held limit start (steps cs) within (length (steps cs))).order in
+      let few = removed-first limit start (steps cs) within in
+      let sum = length-append start (pushed (steps cs)) in
+      omega (arith, length-all_items)
+
+pushed-pushes : {T : Type 0} (xs : List T) → pushed (map pushes xs) ≡ xs
+pushed-pushes [] = refl
+pushed-pushes (x ∷ xs) = ap (λ ys. x ∷ ys) (pushed-pushes xs)
+
+-- The steps of a command push its items.
+pub pushed-steps_of : {T : Type 0} (c : Command T) → pushed (steps_of c) ≡ puts c
+pushed-steps_of (Push x) = refl
+pushed-steps_of (Extend items) = pushed-pushes items.items
+pushed-steps_of Dequeue = refl
+pushed-steps_of Skip = refl
+pushed-steps_of Clear = refl

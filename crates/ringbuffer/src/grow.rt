@@ -1,0 +1,322 @@
+//! The ring without a limit, over a deque.
+
+ghost use Rattle.std.specs.Prelude.{◌≡◌, ◌%◌, ◌<◌, [], ◌∷◌, IfOk, None, Some, length, refl, slice_get, slice_set};
+ghost use Rattle.std.specs.Borrow.{sem};
+ghost use Rattle.std.specs.Cmp.Lexicographic.{lists_per, pointwise};
+ghost use Rattle.std.specs.Iterator.{Drains, IsFiniteIterable, YieldsFirstRef, YieldsLastRef};
+ghost use Rattle.std.specs.Iterator.Runs.{YieldsRefsInOrder, YieldsRefsInReverse};
+ghost use Rattle.std.specs.List.{AllZip};
+ghost use Rattle.std.proofs.lemmas.Cmp.{lists_equiv};
+ghost use Rattle.ring_core.specs.Walk.{StartsOver, unmoved, unread};
+
+use crate::position::{index_of, signed_index_of};
+use ring_core::{
+    RingBuffer, RingBufferDrainingIterator, RingBufferIntoIterator, RingBufferIterator,
+    RingBufferMutIterator,
+};
+use std::alloc::{AllocError, Global};
+use std::collections::VecDeque;
+use std::marker::Model;
+use std::ops::{Index, IndexMut};
+
+/// A ring buffer without a limit: it keeps every item, and grows as a `VecDeque` does.
+///
+/// A push asks for memory where there is no room for the item. Where it is refused the item comes back, and the ring is
+/// as it was. A contract sees the ring as the list of its items, oldest first.
+#[derive(Drop)]
+pub struct GrowableAllocRingBuffer<T> {
+    deque: VecDeque<T>,
+}
+
+impl<T> Model for GrowableAllocRingBuffer<T> {
+    ghost use Rattle.std.specs.Prelude.{List};
+
+    ghost Value = { List T };
+
+    ghost view = { λ ring. ring.deque.items };
+}
+
+impl<T: Drop> GrowableAllocRingBuffer<T> {
+    /// An empty ring, which has asked for no memory.
+    pub fn new(alloc: Global) -> Self
+        ensures { result ≡ [] }
+    {
+        GrowableAllocRingBuffer {
+            deque: VecDeque::new(alloc),
+        }
+    }
+
+    /// Another name for `new`.
+    pub fn default(alloc: Global) -> Self
+        ensures { result ≡ [] }
+    {
+        Self::new(alloc)
+    }
+
+    /// An empty ring with room for `capacity` items.
+    ///
+    /// # Errors
+    ///
+    /// Where memory was refused, also where so many items can't be asked for at all.
+    pub fn with_capacity(alloc: Global, capacity: usize) -> Result<Self, AllocError>
+        ensures { IfOk result (λ ring. ring ≡ []) }
+    {
+        Ok(GrowableAllocRingBuffer {
+            deque: VecDeque::with_capacity(alloc, capacity)?,
+        })
+    }
+}
+
+impl<T: Drop> GrowableAllocRingBuffer<T> {
+    ghost use Rattle.ringbuffer.specs.grow.Lends.{lends_deque};
+
+    /// The deque, whose list of items is the contents.
+    pub fn as_ref(&self) -> &VecDeque<T>
+        ensures { result.now.items ≡ self.now }
+    {
+        &self.deque
+    }
+
+    /// The deque, for calls that a ring lacks. The ring then holds what the deque holds.
+    pub fn as_mut(&mut self) -> &mut VecDeque<T>
+        ensures* writes_back { sem 𝓛 (lends_deque T.row self.entry result) }
+        ensures value { result.now.items ≡ self.old }
+    {
+        &mut self.deque
+    }
+
+    /// A ring of a source's items, in order.
+    ///
+    /// # Errors
+    ///
+    /// Where memory was refused. The items are dropped.
+    pub fn from_iter<I: IntoIterator<Item = T>>(alloc: Global, items: I) -> Result<Self, AllocError>
+    where
+        I::IntoIter: Drop,
+        requires { IsFiniteIterable I.into_iter_gives I.IntoIter.can_next I.IntoIter.remaining items }
+        ensures { IfOk result (λ ring. (it : I.IntoIter) × I.into_iter_gives items it × Drains I.IntoIter.next_gives it ring) }
+    {
+        let mut ring = Self::new(alloc);
+        ring.extend(items)?;
+        Ok(ring)
+    }
+}
+
+impl<T: Drop> RingBuffer<T> for GrowableAllocRingBuffer<T> {
+    ghost contents = { λ ring. ring };
+
+    ghost limit = { λ _. None };
+
+    ghost with_item = { slice_set };
+
+    ghost sets_item = { λ _ _ _. refl };
+
+    ghost keeps_limit = { λ _ _ _. refl };
+
+    fn len(&self) -> usize {
+        self.deque.len()
+    }
+
+    fn capacity(&self) -> usize {
+        self.deque.capacity()
+    }
+
+    fn buffer_size(&self) -> usize {
+        self.deque.capacity()
+    }
+
+    fn push(&mut self, item: T) -> Result<(), T> {
+        match self.deque.push_back(item) {
+            Ok(()) => Ok(()),
+            Err(failed) => Err(failed.value),
+        }
+    }
+
+    fn extend<I: IntoIterator<Item = T>>(&mut self, items: I) -> Result<(), AllocError>
+    where
+        I::IntoIter: Drop,
+    {
+        for item in items {
+            if let Err(_) = self.push(item) {
+                return Err(AllocError);
+            }
+        }
+        Ok(())
+    }
+
+    fn dequeue(&mut self) -> Option<T> {
+        self.deque.pop_front()
+    }
+
+    fn clear(&mut self) {
+        self.deque.clear();
+    }
+
+    fn fill_with<F: FnMut() -> T + Drop>(&mut self, mut make: F) -> Result<(), AllocError> {
+        self.deque.clear();
+        for _ in 0..self.deque.capacity() {
+            let item = make();
+            if let Err(_) = self.push(item) {
+                return Err(AllocError);
+            }
+        }
+        Ok(())
+    }
+
+    fn get(&self, index: usize) -> Option<&T> {
+        let len = self.deque.len();
+        if len == 0 {
+            return None;
+        }
+        self.deque.get(index_of(index, len))
+    }
+
+    fn get_signed(&self, index: isize) -> Option<&T> {
+        let len = self.deque.len();
+        if len == 0 {
+            return None;
+        }
+        self.deque.get(signed_index_of(index, len))
+    }
+
+    fn get_mut(&mut self, index: usize) -> Option<&mut T> {
+        let len = self.deque.len();
+        if len == 0 {
+            return None;
+        }
+        let at = index_of(index, len);
+        self.deque.get_mut(at)
+    }
+
+    fn get_mut_signed(&mut self, index: isize) -> Option<&mut T> {
+        let len = self.deque.len();
+        if len == 0 {
+            return None;
+        }
+        let at = signed_index_of(index, len);
+        self.deque.get_mut(at)
+    }
+}
+
+impl<T: Drop> GrowableAllocRingBuffer<T> {
+    /// A walk over the items, oldest first, from either end.
+    pub fn iter(&self) -> RingBufferIterator<'_, T, Self>
+        ensures left { unread ⟦<GrowableAllocRingBuffer<T> as RingBuffer<T>>⟧.contents result ≡ self.now }
+        ensures runs { YieldsRefsInOrder (YieldsFirstRef (unread ⟦<GrowableAllocRingBuffer<T> as RingBuffer<T>>⟧.contents)) (unread ⟦<GrowableAllocRingBuffer<T> as RingBuffer<T>>⟧.contents) }
+        ensures runs_back { YieldsRefsInReverse (YieldsLastRef (unread ⟦<GrowableAllocRingBuffer<T> as RingBuffer<T>>⟧.contents)) (unread ⟦<GrowableAllocRingBuffer<T> as RingBuffer<T>>⟧.contents) }
+    {
+        RingBufferIterator::new(self)
+    }
+
+    /// A cursor that lends the items for writing, one at a time, from either end.
+    pub fn iter_mut(&mut self) -> RingBufferMutIterator<'_, T, Self>
+        ensures same_reference { result.ring.ghost_name ≡ self.entry.ghost_name }
+        ensures ring { result.ring.now ≡ self.entry.now }
+        ensures starts { StartsOver ⟦<GrowableAllocRingBuffer<T> as RingBuffer<T>>⟧.contents result }
+    {
+        RingBufferMutIterator::new(self)
+    }
+
+    /// A walk that takes the items out, oldest first. Those that it didn't hand out stay.
+    pub fn drain(&mut self) -> RingBufferDrainingIterator<'_, T, Self>
+        ensures same_reference { result.ring.ghost_name ≡ self.entry.ghost_name }
+        ensures ring { result.ring.now ≡ self.entry.now }
+    {
+        RingBufferDrainingIterator::new(self)
+    }
+
+    /// A walk that owns the ring, oldest item first.
+    pub fn into_iter(self) -> RingBufferIntoIterator<T, Self>
+        ensures { unmoved ⟦<GrowableAllocRingBuffer<T> as RingBuffer<T>>⟧.contents result ≡ self }
+    {
+        RingBufferIntoIterator::new(self)
+    }
+}
+
+impl<T: Drop> IntoIterator for GrowableAllocRingBuffer<T> {
+    type Item = T;
+
+    type IntoIter = RingBufferIntoIterator<T, GrowableAllocRingBuffer<T>>;
+
+    ghost into_iter_gives = { λ ring r. unmoved ⟦<GrowableAllocRingBuffer<T> as RingBuffer<T>>⟧.contents r ≡ ring };
+
+    fn into_iter(self) -> RingBufferIntoIterator<T, GrowableAllocRingBuffer<T>> {
+        RingBufferIntoIterator::new(self)
+    }
+}
+
+impl<'a, T: Drop> IntoIterator for &'a GrowableAllocRingBuffer<T> {
+    type Item = &'a T;
+
+    type IntoIter = RingBufferIterator<'a, T, GrowableAllocRingBuffer<T>>;
+
+    ghost into_iter_gives = { λ ring r. unread ⟦<GrowableAllocRingBuffer<T> as RingBuffer<T>>⟧.contents r ≡ ring.now };
+
+    fn into_iter(self) -> RingBufferIterator<'a, T, GrowableAllocRingBuffer<T>> {
+        RingBufferIterator::new(self)
+    }
+}
+
+impl<T: Drop> Index<usize> for GrowableAllocRingBuffer<T> {
+    type Output = T;
+
+    ghost can_index = { λ ring _. 0 < length ring };
+
+    ghost index_gives = { λ ring i x. Some x ≡ slice_get ring (i % length ring) };
+
+    /// The item at a position. The ring must hold one.
+    fn index(&self, index: usize) -> &T {
+        self.get(index).unwrap()
+    }
+}
+
+impl<T: Drop> IndexMut<usize> for GrowableAllocRingBuffer<T> {
+    ghost use Rattle.ringbuffer.specs.grow.Lends.{lends_item};
+
+    /// The item at a position, for writing. The ring must hold one.
+    fn index_mut(&mut self, index: usize) -> &mut T
+        requires { 0 < length self.old }
+        ensures* writes_back { sem 𝓛 (lends_item T.row self.entry index result) }
+        ensures value { Some result.now ≡ slice_get self.old (index % length self.old) }
+    {
+        self.get_mut(index).unwrap()
+    }
+}
+
+impl<T: Drop> From<VecDeque<T>> for GrowableAllocRingBuffer<T> {
+    ghost from_gives = { λ deque ring. ring ≡ deque.items };
+
+    /// The ring over a deque, which asks for no memory.
+    fn from(deque: VecDeque<T>) -> Self {
+        GrowableAllocRingBuffer { deque }
+    }
+}
+
+impl<T: Clone + Drop> GrowableAllocRingBuffer<T> {
+    /// A ring of clones of the items.
+    ///
+    /// # Errors
+    ///
+    /// Where memory or a clone was refused.
+    pub fn clone(&self) -> Result<Self, AllocError>
+        ensures { IfOk result (AllZip T.is_clone self.now) }
+    {
+        Ok(GrowableAllocRingBuffer {
+            deque: self.deque.clone()?,
+        })
+    }
+}
+
+impl<T: PartialEq> PartialEq for GrowableAllocRingBuffer<T> {
+    ghost eq = { pointwise T.eq };
+
+    ghost laws = { lists_per T.laws };
+
+    fn eq(&self, other: &Self) -> bool {
+        self.deque == other.deque
+    }
+}
+
+impl<T: Eq> Eq for GrowableAllocRingBuffer<T> {
+    ghost laws = { lists_equiv T.Eq.laws };
+}
