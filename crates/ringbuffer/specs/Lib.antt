@@ -1,3 +1,7 @@
+pub mod Held
+pub mod HeldWithin
+pub mod Layout
+pub mod fixed
 pub mod grow
 pub use Rattle.ring_core.specs.Contents
 pub use Rattle.ring_core.specs.Extension

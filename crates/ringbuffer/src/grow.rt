@@ -9,7 +9,7 @@ ghost use Rattle.std.specs.List.{AllZip};
 ghost use Rattle.std.proofs.lemmas.Cmp.{lists_equiv};
 ghost use Rattle.ring_core.specs.Walk.{StartsOver, unmoved, unread};
 
-use crate::position::{index_of, signed_index_of};
+use crate::position::{position, signed_position};
 use ring_core::{
     RingBuffer, RingBufferDrainingIterator, RingBufferIntoIterator, RingBufferIterator,
     RingBufferMutIterator,
@@ -164,37 +164,21 @@ impl<T: Drop> RingBuffer<T> for GrowableAllocRingBuffer<T> {
     }
 
     fn get(&self, index: usize) -> Option<&T> {
-        let len = self.deque.len();
-        if len == 0 {
-            return None;
-        }
-        self.deque.get(index_of(index, len))
+        self.deque.get(position(index, self.deque.len())?)
     }
 
     fn get_signed(&self, index: isize) -> Option<&T> {
-        let len = self.deque.len();
-        if len == 0 {
-            return None;
-        }
-        self.deque.get(signed_index_of(index, len))
+        self.deque.get(signed_position(index, self.deque.len())?)
     }
 
     fn get_mut(&mut self, index: usize) -> Option<&mut T> {
-        let len = self.deque.len();
-        if len == 0 {
-            return None;
-        }
-        let at = index_of(index, len);
-        self.deque.get_mut(at)
+        let index = position(index, self.deque.len())?;
+        self.deque.get_mut(index)
     }
 
     fn get_mut_signed(&mut self, index: isize) -> Option<&mut T> {
-        let len = self.deque.len();
-        if len == 0 {
-            return None;
-        }
-        let at = signed_index_of(index, len);
-        self.deque.get_mut(at)
+        let index = signed_position(index, self.deque.len())?;
+        self.deque.get_mut(index)
     }
 }
 

@@ -1,10 +1,16 @@
-//! Ring buffers: on an array, on the heap, and over a deque that grows. All implement `RingBuffer`.
+//! Ring buffers of a fixed capacity, in an array or on the heap, and of any length, in a deque. All implement
+//! `RingBuffer`.
 #![tactic(auto)]
 
+mod array;
+mod fixed;
 mod grow;
+mod heap;
 mod position;
 
+pub use array::ConstGenericRingBuffer;
 pub use grow::GrowableAllocRingBuffer;
+pub use heap::AllocRingBuffer;
 pub use ring_core::{
     Command, Refused, Reply, RingBuffer, RingBufferDrainingIterator, RingBufferIntoIterator,
     RingBufferIterator, RingBufferMutIterator, RunFault, Stopped, apply, run_into, runs_join,

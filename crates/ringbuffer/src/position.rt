@@ -1,33 +1,29 @@
-//! Which index a position names.
-
-ghost use Rattle.std.specs.Prelude.{◌≡◌, ◌<◌};
+//! Positions on a ring, taken modulo its length.
+ghost use Rattle.std.specs.Prelude.{◌≡◌, ◌<◌, MatchOption};
 ghost use Rattle.ring_core.specs.Contents.{place, signed_place};
 
-/// The index that a position names among `len` items. A position below `len` costs no division.
+/// The index that a position names among `len` items, if there is an item.
 #[inline]
-pub fn index_of(position: usize, len: usize) -> usize
-    requires { 0 < len }
-    ensures value { result ≡ place len position }
-    ensures within { result < len }
+pub(crate) fn position(index: usize, len: usize) -> Option<usize>
+    ensures { MatchOption result (len ≡ 0) (λ k. (k < len) × (k ≡ place len index)) }
 {
-    if position < len {
-        position
-    } else {
-        position % len
+    if index < len {
+        return Some(index);
     }
+    if len == 0 {
+        return None;
+    }
+    Some(index % len)
 }
 
-/// The same for a position that may be negative: -1 names the newest item.
+/// The same for a position that may be negative: -1 names the last item.
 #[inline]
-pub fn signed_index_of(position: isize, len: usize) -> usize
-    requires { 0 < len }
-    ensures value { result ≡ signed_place len position }
-    ensures within { result < len }
+pub(crate) fn signed_position(index: isize, len: usize) -> Option<usize>
+    ensures { MatchOption result (len ≡ 0) (λ k. (k < len) × (k ≡ signed_place len index)) }
 {
-    let distance = position.unsigned_abs();
-    if position >= 0 {
-        index_of(distance, len)
-    } else {
-        len - 1 - index_of(distance - 1, len)
+    if index >= 0 {
+        return position(index as usize, len);
     }
+    let from_last = position(-(index + 1) as usize, len)?;
+    Some(len - 1 - from_last)
 }

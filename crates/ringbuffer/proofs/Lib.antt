@@ -1,0 +1,4 @@
+pub mod Laid
+pub mod Steps
+pub mod Repeated
+pub mod Lent

@@ -1,0 +1,176 @@
+//! The ring on the heap.
+ghost use Rattle.std.specs.Prelude.{◌≡◌, ◌^◌, ◌<◌, ◌≤◌, [], ◌∷◌, ◌++◌, length, refl, IfOk, IsErr, IsOk, Some, slice_get};
+ghost use Rattle.std.specs.Borrow.{sem};
+ghost use Rattle.std.specs.Int.{IsNextPowerOfTwo};
+ghost use Rattle.ringbuffer.specs.Held.{pushed, written};
+
+use crate::fixed::Fixed;
+use crate::position::{position, signed_position};
+use ring_core::RingBuffer;
+use ring_slots::HeapSlots;
+use std::alloc::{AllocError, Global};
+use std::marker::Model;
+
+/// A ring of at most `capacity` items, which lie in one block of memory: as many slots as the least power of two that
+/// is at least the capacity. The block is asked for when the ring is made, and no call asks for more.
+///
+/// A contract sees its items, oldest first, how often its slots were changed, and its capacity.
+pub struct AllocRingBuffer<T> {
+    ring: Fixed<T, HeapSlots<T>>,
+    capacity: usize,
+}
+
+impl<T> Model for AllocRingBuffer<T> {
+    ghost use Rattle.std.specs.Prelude.{◌<◌, ◌≤◌};
+    ghost use Rattle.std.specs.Int.{IsNextPowerOfTwo, IsPowerOfTwo};
+    ghost use Rattle.ringbuffer.specs.HeldWithin.{HeldWithin};
+    ghost use Rattle.ringbuffer.specs.fixed.Sound.{IsSound, held, size_of};
+
+    ghost Value = { HeldWithin T };
+
+    ghost view = { λ r. record { held = held (λ s. s) r.ring; capacity = r.capacity } };
+
+    ghost invariant = { λ r. IsSound (λ s. s) IsPowerOfTwo r.ring × (0 < r.capacity) × (r.ring.len ≤ r.capacity) × IsNextPowerOfTwo r.capacity (size_of (λ s. s) r.ring) };
+}
+
+impl<T: Drop> AllocRingBuffer<T> {
+    /// An empty ring of this capacity.
+    ///
+    /// # Errors
+    ///
+    /// Where memory was refused or the bytes can't be asked for, and for every capacity above the greatest power of two.
+    pub fn new(alloc: Global, capacity: usize) -> Result<Self, AllocError>
+        requires { 0 < capacity }
+        ensures made { IfOk result (λ ring. ring ≡ record { held = record { items = []; changes = 0 }; capacity = capacity }) }
+        ensures too_large { 2 ^ 63 < capacity → IsErr result }
+    {
+        let Some(size) = capacity.checked_next_power_of_two() else {
+            return Err(AllocError);
+        };
+        let slots = HeapSlots::new(alloc, size)?;
+        Ok(AllocRingBuffer {
+            ring: Fixed::over(slots),
+            capacity,
+        })
+    }
+
+    /// Another name for `new`.
+    ///
+    /// # Errors
+    ///
+    /// As `new`.
+    pub fn with_capacity(alloc: Global, capacity: usize) -> Result<Self, AllocError>
+        requires { 0 < capacity }
+        ensures made { IfOk result (λ ring. ring ≡ record { held = record { items = []; changes = 0 }; capacity = capacity }) }
+        ensures too_large { 2 ^ 63 < capacity → IsErr result }
+    {
+        Self::new(alloc, capacity)
+    }
+
+    /// An empty ring of capacity 2 to the power of `exponent`.
+    ///
+    /// # Errors
+    ///
+    /// As `new`.
+    pub fn with_capacity_power_of_2(alloc: Global, exponent: usize) -> Result<Self, AllocError>
+        requires { exponent < 64 }
+        ensures { IfOk result (λ ring. ring ≡ record { held = record { items = []; changes = 0 }; capacity = 2 ^ exponent }) }
+    {
+        Self::new(alloc, 1 << exponent)
+    }
+}
+
+impl<T: Drop> Drop for AllocRingBuffer<T> {
+    fn drop(self) {
+        let AllocRingBuffer {
+            mut ring,
+            capacity: _,
+        } = self;
+        ring.clear();
+    }
+}
+
+impl<T: Drop> RingBuffer<T> for AllocRingBuffer<T> {
+    ghost contents = { λ r. r.held.items };
+
+    ghost limit = { λ r. Some r.capacity };
+
+    ghost with_item = { λ r i x. record r { held = written r.held i x } };
+
+    ghost slot_changes = { λ r. r.held.changes };
+
+    ghost sets_item = { λ _ _ _. refl };
+
+    ghost keeps_limit = { λ _ _ _. refl };
+
+    #[inline]
+    fn len(&self) -> usize {
+        self.ring.len
+    }
+
+    #[inline]
+    fn capacity(&self) -> usize {
+        self.capacity
+    }
+
+    #[inline]
+    fn buffer_size(&self) -> usize
+        ensures size { IsNextPowerOfTwo self.now.capacity result }
+        ensures holds { length self.now.held.items ≤ result }
+    {
+        self.ring.size()
+    }
+
+    #[inline]
+    fn push(&mut self, item: T) -> Result<(), T>
+        ensures pushes { self.new ≡ record self.old { held = pushed self.old.capacity self.old.held item } }
+        ensures ok { IsOk result }
+    {
+        self.ring.push(item, self.capacity);
+        Ok(())
+    }
+
+    fn extend<I: IntoIterator<Item = T>>(&mut self, items: I) -> Result<(), AllocError>
+    where
+        I::IntoIter: Drop,
+    {
+        self.ring.extend(items, self.capacity);
+        Ok(())
+    }
+
+    #[inline]
+    fn dequeue(&mut self) -> Option<T> {
+        self.ring.dequeue()
+    }
+
+    fn clear(&mut self) {
+        self.ring.clear();
+    }
+
+    fn fill_with<F: FnMut() -> T + Drop>(&mut self, make: F) -> Result<(), AllocError> {
+        self.ring.fill_with(make, self.capacity);
+        Ok(())
+    }
+
+    #[inline]
+    fn get(&self, index: usize) -> Option<&T> {
+        self.ring.get(index)
+    }
+
+    #[inline]
+    fn get_signed(&self, index: isize) -> Option<&T> {
+        self.ring.get_signed(index)
+    }
+
+    #[inline]
+    fn get_mut(&mut self, index: usize) -> Option<&mut T> {
+        let index = position(index, self.ring.len)?;
+        Some(self.ring.at_mut(index))
+    }
+
+    #[inline]
+    fn get_mut_signed(&mut self, index: isize) -> Option<&mut T> {
+        let index = signed_position(index, self.ring.len)?;
+        Some(self.ring.at_mut(index))
+    }
+}
