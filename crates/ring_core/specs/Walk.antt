@@ -1,6 +1,7 @@
 -- What the walks over a ring have still to come.
 use Rattle.std.specs.Prelude.{◌≡◌, ℕ, Option, List, length, take, drop}
-use Rattle.std.specs.Iterator.{YieldsFirst}
+use Rattle.std.specs.Iterator.{YieldsFirst, YieldsFirstRef, YieldsLastRef}
+use Rattle.std.specs.Iterator.Runs.{YieldsRefsInOrder, YieldsRefsInReverse}
 use Rattle.ring_core.specs.declared.iter.RingBufferDrainingIterator.{RingBufferDrainingIterator}
 use Rattle.ring_core.specs.declared.iter.RingBufferIntoIterator.{RingBufferIntoIterator}
 use Rattle.ring_core.specs.declared.iter.RingBufferIterator.{RingBufferIterator}
@@ -14,6 +15,14 @@ module _ {T RB : Type 0} (contents : RB → List T) where
   -- what a reading walk has still to come
   abbrev pub unread : RingBufferIterator T RB → List T
   unread s = to_come (contents s.ring.now) s.front s.back
+
+  -- reading walks give what they have still to come, in order
+  abbrev pub ReadsInOrder : Type 0
+  ReadsInOrder = YieldsRefsInOrder (YieldsFirstRef unread) unread
+
+  -- and from the back, in reverse
+  abbrev pub ReadsInReverse : Type 0
+  ReadsInReverse = YieldsRefsInReverse (YieldsLastRef unread) unread
 
   -- what a cursor has still to come
   abbrev pub unvisited : RingBufferMutIterator T RB → List T

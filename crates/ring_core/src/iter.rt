@@ -3,10 +3,9 @@
 ghost use Rattle.std.specs.Prelude.{◌≡◌, ◌-◌, ◌↔◌, [], length, IfSome, IsNone, Some, slice_get};
 ghost use Rattle.std.specs.Borrow.{sem};
 ghost use Rattle.std.specs.Iterator.{YieldsFirst, YieldsFirstRef, YieldsLastRef, UpTo, at_most, item_count};
-ghost use Rattle.std.specs.Iterator.Runs.{YieldsRefsInOrder, YieldsRefsInReverse};
 ghost use Rattle.std.specs.Iterator.SizeHint.{IsWithinCount};
 ghost use Rattle.std.specs.Option.{option_copied_mut};
-ghost use Rattle.ring_core.specs.Walk.{DrainsFirst, StartsOver, undrained, unmoved, unread, unvisited};
+ghost use Rattle.ring_core.specs.Walk.{DrainsFirst, ReadsInOrder, ReadsInReverse, StartsOver, undrained, unmoved, unread, unvisited};
 
 use crate::ring::RingBuffer;
 use std::iter::FusedIterator;
@@ -25,8 +24,8 @@ impl<'rb, T: Drop, RB: RingBuffer<T>> RingBufferIterator<'rb, T, RB> {
     /// A walk over all items of the ring.
     pub fn new(ring: &'rb RB) -> Self
         ensures left { unread RB.contents result ≡ RB.contents ring.now }
-        ensures runs { YieldsRefsInOrder (YieldsFirstRef (unread RB.contents)) (unread RB.contents) }
-        ensures runs_back { YieldsRefsInReverse (YieldsLastRef (unread RB.contents)) (unread RB.contents) }
+        ensures runs { ReadsInOrder RB.contents }
+        ensures runs_back { ReadsInReverse RB.contents }
     {
         RingBufferIterator {
             ring,

@@ -1,8 +1,10 @@
 pub mod Held
 pub mod HeldWithin
 pub mod Layout
+pub mod array
 pub mod fixed
 pub mod grow
+pub mod heap
 pub use Rattle.ring_core.specs.Contents
 pub use Rattle.ring_core.specs.Extension
 pub use Rattle.ring_core.specs.Facts

@@ -2,11 +2,15 @@
 ghost use Rattle.std.specs.Prelude.{◌≡◌, ◌+◌, ◌<◌, ◌≤◌, [], ◌∷◌, ◌++◌, length, refl, IfErr, IfSome, IsOk, IsSome, OnOk, Some, slice_get};
 ghost use Rattle.std.specs.Borrow.{sem};
 ghost use Rattle.ring_core.specs.Contents.{ChangesSlots, keep_last, place};
+ghost use Rattle.ring_core.specs.Walk.{ReadsInOrder, ReadsInReverse, StartsOver, unmoved, unread};
 ghost use Rattle.ringbuffer.specs.Held.{pushed, written};
 
 use crate::fixed::Fixed;
 use crate::position::{position, signed_position};
-use ring_core::RingBuffer;
+use ring_core::{
+    RingBuffer, RingBufferDrainingIterator, RingBufferIntoIterator, RingBufferIterator,
+    RingBufferMutIterator,
+};
 use ring_slots::{ArraySlots, SlotRow};
 use std::alloc::AllocError;
 use std::marker::Model;
@@ -85,7 +89,16 @@ impl<T: Drop, const CAP: usize> RingBuffer<T> for ConstGenericRingBuffer<T, CAP>
     }
 
     #[inline]
-    fn push(&mut self, item: T) -> Result<(), T> {
+    fn push(&mut self, item: T) -> Result<(), T>
+        ensures ok { OnOk result (self.new.items ≡ keep_last (Some CAP) (self.old.items ++ item ∷ [])) }
+        ensures err { IfErr result (λ x. (x ≡ item) × (self.new.items ≡ self.old.items)) }
+        ensures changes { IsSome (Some CAP) → ChangesSlots self.old.changes self.old.items self.new.changes self.new.items 1 }
+        ensures succeeds { IsSome (Some CAP) → IsOk result }
+        ensures pushes { self.new ≡ pushed CAP self.old item }
+
+        // The count that the trait shows is the count of the slots themselves.
+        ensures counts { ⟦<ConstGenericRingBuffer<T, CAP> as RingBuffer<T>>⟧.slot_changes self.new ≡ self.new.changes }
+    {
         self.ring.push(item, CAP);
         Ok(())
     }
@@ -132,5 +145,96 @@ impl<T: Drop, const CAP: usize> RingBuffer<T> for ConstGenericRingBuffer<T, CAP>
     fn get_mut_signed(&mut self, index: isize) -> Option<&mut T> {
         let index = signed_position(index, self.ring.len)?;
         Some(self.ring.at_mut(index))
+    }
+}
+
+impl<T: Drop, const CAP: usize> Index<usize> for ConstGenericRingBuffer<T, CAP> {
+    type Output = T;
+
+    ghost can_index = { λ s _. 0 < length s.items };
+
+    ghost index_gives = { λ s i x. slice_get s.items (place (length s.items) i) ≡ Some x };
+
+    #[inline]
+    fn index(&self, index: usize) -> &T {
+        self.get(index).unwrap()
+    }
+}
+
+impl<T: Drop, const CAP: usize> IndexMut<usize> for ConstGenericRingBuffer<T, CAP> {
+    ghost use Rattle.ringbuffer.specs.array.Lends.{lends_position};
+
+    #[inline]
+    fn index_mut(&mut self, index: usize) -> &mut T
+        requires { 0 < length self.old.items }
+        ensures* writes_back { sem 𝓛 (lends_position T.row CAP.row self.entry index result) }
+        ensures value { slice_get self.old.items (place (length self.old.items) index) ≡ Some result.now }
+    {
+        self.get_mut(index).unwrap()
+    }
+}
+
+impl<T: Drop, const CAP: usize> ConstGenericRingBuffer<T, CAP> {
+    /// A walk over the items, oldest first, from either end.
+    #[inline]
+    pub fn iter(&self) -> RingBufferIterator<'_, T, Self>
+        ensures left { unread ⟦<ConstGenericRingBuffer<T, CAP> as RingBuffer<T>>⟧.contents result ≡ self.now.items }
+        ensures runs { ReadsInOrder ⟦<ConstGenericRingBuffer<T, CAP> as RingBuffer<T>>⟧.contents }
+        ensures runs_back { ReadsInReverse ⟦<ConstGenericRingBuffer<T, CAP> as RingBuffer<T>>⟧.contents }
+    {
+        RingBufferIterator::new(self)
+    }
+
+    /// A cursor that lends the items for writing, one at a time, from either end.
+    #[inline]
+    pub fn iter_mut(&mut self) -> RingBufferMutIterator<'_, T, Self>
+        ensures same_reference { result.ring.ghost_name ≡ self.entry.ghost_name }
+        ensures ring { result.ring.now ≡ self.entry.now }
+        ensures starts { StartsOver ⟦<ConstGenericRingBuffer<T, CAP> as RingBuffer<T>>⟧.contents result }
+    {
+        RingBufferMutIterator::new(self)
+    }
+
+    /// A walk that takes the items out, oldest first. Those that it didn't hand out stay.
+    #[inline]
+    pub fn drain(&mut self) -> RingBufferDrainingIterator<'_, T, Self>
+        ensures same_reference { result.ring.ghost_name ≡ self.entry.ghost_name }
+        ensures ring { result.ring.now ≡ self.entry.now }
+    {
+        RingBufferDrainingIterator::new(self)
+    }
+
+    /// A walk that owns the ring, oldest item first.
+    #[inline]
+    pub fn into_iter(self) -> RingBufferIntoIterator<T, Self>
+        ensures { unmoved ⟦<ConstGenericRingBuffer<T, CAP> as RingBuffer<T>>⟧.contents result ≡ self.items }
+    {
+        RingBufferIntoIterator::new(self)
+    }
+}
+
+impl<T: Drop, const CAP: usize> IntoIterator for ConstGenericRingBuffer<T, CAP> {
+    type Item = T;
+
+    type IntoIter = RingBufferIntoIterator<T, ConstGenericRingBuffer<T, CAP>>;
+
+    ghost into_iter_gives = { λ ring r. unmoved ⟦<ConstGenericRingBuffer<T, CAP> as RingBuffer<T>>⟧.contents r ≡ ring.items };
+
+    #[inline]
+    fn into_iter(self) -> RingBufferIntoIterator<T, ConstGenericRingBuffer<T, CAP>> {
+        RingBufferIntoIterator::new(self)
+    }
+}
+
+impl<'a, T: Drop, const CAP: usize> IntoIterator for &'a ConstGenericRingBuffer<T, CAP> {
+    type Item = &'a T;
+
+    type IntoIter = RingBufferIterator<'a, T, ConstGenericRingBuffer<T, CAP>>;
+
+    ghost into_iter_gives = { λ ring r. (unread ⟦<ConstGenericRingBuffer<T, CAP> as RingBuffer<T>>⟧.contents r ≡ ring.now.items) × ReadsInOrder ⟦<ConstGenericRingBuffer<T, CAP> as RingBuffer<T>>⟧.contents };
+
+    #[inline]
+    fn into_iter(self) -> RingBufferIterator<'a, T, ConstGenericRingBuffer<T, CAP>> {
+        RingBufferIterator::new(self)
     }
 }

@@ -3,11 +3,10 @@
 ghost use Rattle.std.specs.Prelude.{◌≡◌, ◌%◌, ◌<◌, [], ◌∷◌, IfOk, None, Some, length, refl, slice_get, slice_set};
 ghost use Rattle.std.specs.Borrow.{sem};
 ghost use Rattle.std.specs.Cmp.Lexicographic.{lists_per, pointwise};
-ghost use Rattle.std.specs.Iterator.{Drains, IsFiniteIterable, YieldsFirstRef, YieldsLastRef};
-ghost use Rattle.std.specs.Iterator.Runs.{YieldsRefsInOrder, YieldsRefsInReverse};
+ghost use Rattle.std.specs.Iterator.{Drains, IsFiniteIterable};
 ghost use Rattle.std.specs.List.{AllZip};
 ghost use Rattle.std.proofs.lemmas.Cmp.{lists_equiv};
-ghost use Rattle.ring_core.specs.Walk.{StartsOver, unmoved, unread};
+ghost use Rattle.ring_core.specs.Walk.{ReadsInOrder, ReadsInReverse, StartsOver, unmoved, unread};
 
 use crate::position::{position, signed_position};
 use ring_core::{
@@ -184,15 +183,17 @@ impl<T: Drop> RingBuffer<T> for GrowableAllocRingBuffer<T> {
 
 impl<T: Drop> GrowableAllocRingBuffer<T> {
     /// A walk over the items, oldest first, from either end.
+    #[inline]
     pub fn iter(&self) -> RingBufferIterator<'_, T, Self>
         ensures left { unread ⟦<GrowableAllocRingBuffer<T> as RingBuffer<T>>⟧.contents result ≡ self.now }
-        ensures runs { YieldsRefsInOrder (YieldsFirstRef (unread ⟦<GrowableAllocRingBuffer<T> as RingBuffer<T>>⟧.contents)) (unread ⟦<GrowableAllocRingBuffer<T> as RingBuffer<T>>⟧.contents) }
-        ensures runs_back { YieldsRefsInReverse (YieldsLastRef (unread ⟦<GrowableAllocRingBuffer<T> as RingBuffer<T>>⟧.contents)) (unread ⟦<GrowableAllocRingBuffer<T> as RingBuffer<T>>⟧.contents) }
+        ensures runs { ReadsInOrder ⟦<GrowableAllocRingBuffer<T> as RingBuffer<T>>⟧.contents }
+        ensures runs_back { ReadsInReverse ⟦<GrowableAllocRingBuffer<T> as RingBuffer<T>>⟧.contents }
     {
         RingBufferIterator::new(self)
     }
 
     /// A cursor that lends the items for writing, one at a time, from either end.
+    #[inline]
     pub fn iter_mut(&mut self) -> RingBufferMutIterator<'_, T, Self>
         ensures same_reference { result.ring.ghost_name ≡ self.entry.ghost_name }
         ensures ring { result.ring.now ≡ self.entry.now }
@@ -202,6 +203,7 @@ impl<T: Drop> GrowableAllocRingBuffer<T> {
     }
 
     /// A walk that takes the items out, oldest first. Those that it didn't hand out stay.
+    #[inline]
     pub fn drain(&mut self) -> RingBufferDrainingIterator<'_, T, Self>
         ensures same_reference { result.ring.ghost_name ≡ self.entry.ghost_name }
         ensures ring { result.ring.now ≡ self.entry.now }
@@ -210,6 +212,7 @@ impl<T: Drop> GrowableAllocRingBuffer<T> {
     }
 
     /// A walk that owns the ring, oldest item first.
+    #[inline]
     pub fn into_iter(self) -> RingBufferIntoIterator<T, Self>
         ensures { unmoved ⟦<GrowableAllocRingBuffer<T> as RingBuffer<T>>⟧.contents result ≡ self }
     {
@@ -224,6 +227,7 @@ impl<T: Drop> IntoIterator for GrowableAllocRingBuffer<T> {
 
     ghost into_iter_gives = { λ ring r. unmoved ⟦<GrowableAllocRingBuffer<T> as RingBuffer<T>>⟧.contents r ≡ ring };
 
+    #[inline]
     fn into_iter(self) -> RingBufferIntoIterator<T, GrowableAllocRingBuffer<T>> {
         RingBufferIntoIterator::new(self)
     }
@@ -234,8 +238,9 @@ impl<'a, T: Drop> IntoIterator for &'a GrowableAllocRingBuffer<T> {
 
     type IntoIter = RingBufferIterator<'a, T, GrowableAllocRingBuffer<T>>;
 
-    ghost into_iter_gives = { λ ring r. unread ⟦<GrowableAllocRingBuffer<T> as RingBuffer<T>>⟧.contents r ≡ ring.now };
+    ghost into_iter_gives = { λ ring r. (unread ⟦<GrowableAllocRingBuffer<T> as RingBuffer<T>>⟧.contents r ≡ ring.now) × ReadsInOrder ⟦<GrowableAllocRingBuffer<T> as RingBuffer<T>>⟧.contents };
 
+    #[inline]
     fn into_iter(self) -> RingBufferIterator<'a, T, GrowableAllocRingBuffer<T>> {
         RingBufferIterator::new(self)
     }

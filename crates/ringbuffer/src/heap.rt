@@ -2,14 +2,20 @@
 ghost use Rattle.std.specs.Prelude.{◌≡◌, ◌^◌, ◌<◌, ◌≤◌, [], ◌∷◌, ◌++◌, length, refl, IfOk, IsErr, IsOk, Some, slice_get};
 ghost use Rattle.std.specs.Borrow.{sem};
 ghost use Rattle.std.specs.Int.{IsNextPowerOfTwo};
+ghost use Rattle.ring_core.specs.Contents.{place};
+ghost use Rattle.ring_core.specs.Walk.{ReadsInOrder, ReadsInReverse, StartsOver, unmoved, unread};
 ghost use Rattle.ringbuffer.specs.Held.{pushed, written};
 
 use crate::fixed::Fixed;
 use crate::position::{position, signed_position};
-use ring_core::RingBuffer;
+use ring_core::{
+    RingBuffer, RingBufferDrainingIterator, RingBufferIntoIterator, RingBufferIterator,
+    RingBufferMutIterator,
+};
 use ring_slots::HeapSlots;
 use std::alloc::{AllocError, Global};
 use std::marker::Model;
+use std::ops::{Index, IndexMut};
 
 /// A ring of at most `capacity` items, which lie in one block of memory: as many slots as the least power of two that
 /// is at least the capacity. The block is asked for when the ring is made, and no call asks for more.
@@ -125,6 +131,9 @@ impl<T: Drop> RingBuffer<T> for AllocRingBuffer<T> {
     fn push(&mut self, item: T) -> Result<(), T>
         ensures pushes { self.new ≡ record self.old { held = pushed self.old.capacity self.old.held item } }
         ensures ok { IsOk result }
+
+        // The count that the trait shows is the count of the slots themselves.
+        ensures counts { ⟦<AllocRingBuffer<T> as RingBuffer<T>>⟧.slot_changes self.new ≡ self.new.held.changes }
     {
         self.ring.push(item, self.capacity);
         Ok(())
@@ -172,5 +181,98 @@ impl<T: Drop> RingBuffer<T> for AllocRingBuffer<T> {
     fn get_mut_signed(&mut self, index: isize) -> Option<&mut T> {
         let index = signed_position(index, self.ring.len)?;
         Some(self.ring.at_mut(index))
+    }
+}
+
+impl<T: Drop> Index<usize> for AllocRingBuffer<T> {
+    type Output = T;
+
+    ghost can_index = { λ s _. 0 < length s.held.items };
+
+    ghost index_gives = { λ s i x. slice_get s.held.items (place (length s.held.items) i) ≡ Some x };
+
+    /// The item at a position. The ring must hold one.
+    #[inline]
+    fn index(&self, index: usize) -> &T {
+        self.get(index).unwrap()
+    }
+}
+
+impl<T: Drop> IndexMut<usize> for AllocRingBuffer<T> {
+    ghost use Rattle.ringbuffer.specs.heap.Lends.{lends_position};
+
+    /// The item at a position, for writing. The ring must hold one.
+    #[inline]
+    fn index_mut(&mut self, index: usize) -> &mut T
+        requires { 0 < length self.old.held.items }
+        ensures* writes_back { sem 𝓛 (lends_position T.row self.entry index result) }
+        ensures value { slice_get self.old.held.items (place (length self.old.held.items) index) ≡ Some result.now }
+    {
+        self.get_mut(index).unwrap()
+    }
+}
+
+impl<T: Drop> AllocRingBuffer<T> {
+    /// A walk over the items, oldest first, from either end.
+    #[inline]
+    pub fn iter(&self) -> RingBufferIterator<'_, T, Self>
+        ensures left { unread ⟦<AllocRingBuffer<T> as RingBuffer<T>>⟧.contents result ≡ self.now.held.items }
+        ensures runs { ReadsInOrder ⟦<AllocRingBuffer<T> as RingBuffer<T>>⟧.contents }
+        ensures runs_back { ReadsInReverse ⟦<AllocRingBuffer<T> as RingBuffer<T>>⟧.contents }
+    {
+        RingBufferIterator::new(self)
+    }
+
+    /// A cursor that lends the items for writing, one at a time, from either end.
+    #[inline]
+    pub fn iter_mut(&mut self) -> RingBufferMutIterator<'_, T, Self>
+        ensures same_reference { result.ring.ghost_name ≡ self.entry.ghost_name }
+        ensures ring { result.ring.now ≡ self.entry.now }
+        ensures starts { StartsOver ⟦<AllocRingBuffer<T> as RingBuffer<T>>⟧.contents result }
+    {
+        RingBufferMutIterator::new(self)
+    }
+
+    /// A walk that takes the items out, oldest first. Those that it didn't hand out stay.
+    #[inline]
+    pub fn drain(&mut self) -> RingBufferDrainingIterator<'_, T, Self>
+        ensures same_reference { result.ring.ghost_name ≡ self.entry.ghost_name }
+        ensures ring { result.ring.now ≡ self.entry.now }
+    {
+        RingBufferDrainingIterator::new(self)
+    }
+
+    /// A walk that owns the ring, oldest item first.
+    #[inline]
+    pub fn into_iter(self) -> RingBufferIntoIterator<T, Self>
+        ensures { unmoved ⟦<AllocRingBuffer<T> as RingBuffer<T>>⟧.contents result ≡ self.held.items }
+    {
+        RingBufferIntoIterator::new(self)
+    }
+}
+
+impl<T: Drop> IntoIterator for AllocRingBuffer<T> {
+    type Item = T;
+
+    type IntoIter = RingBufferIntoIterator<T, AllocRingBuffer<T>>;
+
+    ghost into_iter_gives = { λ ring r. unmoved ⟦<AllocRingBuffer<T> as RingBuffer<T>>⟧.contents r ≡ ring.held.items };
+
+    #[inline]
+    fn into_iter(self) -> RingBufferIntoIterator<T, AllocRingBuffer<T>> {
+        RingBufferIntoIterator::new(self)
+    }
+}
+
+impl<'a, T: Drop> IntoIterator for &'a AllocRingBuffer<T> {
+    type Item = &'a T;
+
+    type IntoIter = RingBufferIterator<'a, T, AllocRingBuffer<T>>;
+
+    ghost into_iter_gives = { λ ring r. (unread ⟦<AllocRingBuffer<T> as RingBuffer<T>>⟧.contents r ≡ ring.now.held.items) × ReadsInOrder ⟦<AllocRingBuffer<T> as RingBuffer<T>>⟧.contents };
+
+    #[inline]
+    fn into_iter(self) -> RingBufferIterator<'a, T, AllocRingBuffer<T>> {
+        RingBufferIterator::new(self)
     }
 }
