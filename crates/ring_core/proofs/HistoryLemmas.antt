@@ -21,26 +21,33 @@ first_next (Some capacity) n f (Some (pushes x)) = max f (n + 1 - capacity)
 first_next limit n f (Some takes) = min (f + 1) n
 first_next limit n f (Some clears) = n
 
--- ---- tests on numbers
+-- ---- tests on numbers: each goes by the order of the numbers
 
+-- one number more, for `some_below`
 some_below-turn : (f n i : ℕ) → ((nat_lt f i && nat_lt f n) || window f n i) ≡ (nat_lt f (suc i) && nat_lt f n)
 some_below-turn f n i = grind (arith, nat_tests)
 
+-- one number more, for `least`
 least-turn : (f n m : ℕ) → suc m ≤ n → (if (nat_lt f m && nat_lt f n) then min f m else (if window f n m then m else suc m)) ≡ min f (suc m)
 least-turn f n m below = grind (arith, nat_tests)
 
+-- a push into a ring that is not full
 window-push : (f n i : ℕ) → f ≤ n → (i == n || (window f n i && not false)) ≡ window f (n + 1) i
 window-push f n i order = grind (arith, nat_tests)
 
+-- a push, with a limit
 window-push_over : (f n c i : ℕ) → 0 < c → f ≤ n → n ≤ f + c → (i == n || (window f n i && not (i + c == n))) ≡ window (max f (n + 1 - c)) (n + 1) i
 window-push_over f n c i room order within = grind (arith, nat_tests)
 
+-- a take
 window-take : (f n i : ℕ) → f ≤ n → (window f n i && (nat_lt f i && nat_lt f n)) ≡ window (min (f + 1) n) n i
 window-take f n i order = grind (arith, nat_tests)
 
+-- a clear
 window-clear : (n i : ℕ) → false ≡ window n n i
 window-clear n i = grind (arith, nat_tests)
 
+-- what a window says
 window-true : (f n i : ℕ) → IsTrue (window f n i) ↔ ((f ≤ i) × (i < n))
 window-true f n i = (λ e. (grind (arith, nat_tests), grind (arith, nat_tests)), λ h. grind (arith, nat_tests))
 
@@ -48,11 +55,13 @@ window-true f n i = (λ e. (grind (arith, nat_tests), grind (arith, nat_tests)),
 window-loses : (f n f' n' i : ℕ) → f ≤ f' → f' ≤ n → n ≤ n' → (window f n i && not (window f' n' i)) ≡ window f f' i
 window-loses f n f' n' i moves order grows = grind (arith, nat_tests)
 
+-- what two windows that meet hold
 window-append : (f f' i : ℕ) → f ≤ f' → (window 0 f i || window f f' i) ≡ window 0 f' i
 window-append f f' i moves = grind (arith, nat_tests)
 
 -- ---- a set that is a window
 
+-- By induction on the first length.
 range-append : (a m k : ℕ) → range_with_len a (m + k) ≡ range_with_len a m ++ range_with_len (a + m) k
 range-append a zero k = rw (add-zero, zero-add) refl
 range-append a (suc m) k =
@@ -69,10 +78,12 @@ range-parts f n m order below =
     let ends = rw (high, at) at (range-append f (n - f) (m - n)) in
     rw (low, zero-add, ends) at (range-append 0 f (m - f))
 
+-- By induction on the length.
 filter-none : (p : ℕ → Bool) (a m : ℕ) → ((i : ℕ) → a ≤ i → i < a + m → p i ≡ false) → filter p (range_with_len a m) ≡ []
 filter-none p a zero fails = refl
 filter-none p a (suc m) fails = rw (fails a (omega arith) (omega arith)) (filter-none p (a + 1) m (λ i low high. fails i (omega arith) (omega arith)))
 
+-- By induction on the length.
 filter-all : (p : ℕ → Bool) (a m : ℕ) → ((i : ℕ) → a ≤ i → i < a + m → p i ≡ true) → filter p (range_with_len a m) ≡ range_with_len a m
 filter-all p a zero passes = refl
 filter-all p a (suc m) passes = rw (passes a (omega arith) (omega arith)) (ap (λ xs. a ∷ xs) (filter-all p (a + 1) m (λ i low high. passes i (omega arith) (omega arith))))
@@ -150,6 +161,7 @@ overwrites-moved : {T : Type 0} (limit : Option ℕ) (f n i : ℕ) (x : T) → I
 overwrites-moved None f n i x room low high = absurd (omega arith)
 overwrites-moved (Some capacity) f n i x room low high = let at : i + capacity ≡ n = omega (arith, room.1) in eq-eqb (i + capacity) n at
 
+-- It moves the window past that.
 moved-overwrites : {T : Type 0} (limit : Option ℕ) (f n i : ℕ) (x : T) → IsTrue (overwrites limit n i) → i < first_next limit n f (Some (pushes x))
 moved-overwrites None f n i x over = absurd (false≢true over)
 moved-overwrites (Some capacity) f n i x over = let at : i + capacity ≡ n = eqb-true (i + capacity) n over in omega arith
@@ -163,6 +175,14 @@ overwrites-once (Some capacity) m n i one other = sym (eqb-true (i + capacity) m
 IsRoom-start : {T : Type 0} (limit : Option ℕ) (start : List T) → IsWithin start limit → IsRoom limit 0 (length start + 0)
 IsRoom-start None start within = tt
 IsRoom-start (Some capacity) start within = (within.0, omega (arith, within.1))
+
+-- By induction on the later place.
+rises : (f : ℕ → ℕ) → ((k : ℕ) → f k ≤ f (suc k)) → (j k : ℕ) → j ≤ k → f j ≤ f k
+rises f next j zero below = let same : j ≡ 0 = omega arith in rw same (omega arith)
+rises f next j (suc k) below = elim (cases_lt k j) [
+  | inl past ↦ let same : j ≡ suc k = omega arith in rw same (omega arith)
+  | inr order ↦ omega (arith, rises f next j k order, next k)
+]
 
 -- ---- along a run
 
@@ -183,7 +203,8 @@ first limit start ss zero = 0
 first limit start ss (suc k) = first_next limit (number start ss k) (first limit start ss k) (slice_get ss k)
 
 module _ {T : Type 0} (limit : Option ℕ) (start : List T) (ss : List (Step T)) (within : IsWithin start limit) where
-  pub number-suc : (k : ℕ) → number start ss (suc k) ≡ number start ss k + length (pushed_by (slice_get ss k))
+  -- A step adds the items that it pushes.
+  number-suc : (k : ℕ) → number start ss (suc k) ≡ number start ss k + length (pushed_by (slice_get ss k))
   number-suc k = rw (pushed-take_more ss k) (omega (arith, length-append (pushed (take k ss)) (pushed_by (slice_get ss k))))
 
   -- By induction on the number of steps.
@@ -195,22 +216,26 @@ module _ {T : Type 0} (limit : Option ℕ) (start : List T) (ss : List (Step T))
   }
   IsWindow-held (suc k) = rw (number-suc k) (IsWindow-next limit _ _ _ (slice_get ss k) (IsWindow-held k))
 
+  -- The least of a window's numbers is its first.
   pub head-first : (k : ℕ) → head limit start ss k ≡ first limit start ss k
   head-first k =
       let w = IsWindow-held k in
       let at_end = least-window (held limit start ss k) (first limit start ss k) (number start ss k) w.is (number start ss k) in
       omega (arith, at_end (omega arith), w.order)
 
+  -- A window has no gap.
   pub HasNoGap-held : HasNoGap limit start ss
   HasNoGap-held k i =
       let w = IsWindow-held k in
       rw (head-first k, w.is i) (window-true (first limit start ss k) (number start ss k) i)
 
+  -- The held numbers, listed.
   pub held_numbers-window : (k : ℕ) → held_numbers limit start ss k ≡ range_with_len (first limit start ss k) (number start ss k - first limit start ss k)
   held_numbers-window k =
       let w = IsWindow-held k in
       filter-window (held limit start ss k) (first limit start ss k) (number start ss k) (number start ss k) w.is w.order (omega arith)
 
+  -- There are as many as the window is wide.
   pub IsWithinLimit-held : IsWithinLimit limit start ss
   IsWithinLimit-held k =
       let w = IsWindow-held k in
@@ -218,11 +243,13 @@ module _ {T : Type 0} (limit : Option ℕ) (start : List T) (ss : List (Step T))
 
   -- ---- what is removed
 
+  -- One step moves the window's beginning on, at most to the number of the next push.
   first-suc : (k : ℕ) → (first limit start ss k ≤ first limit start ss (suc k)) × (first limit start ss (suc k) ≤ number start ss k)
   first-suc k =
       let w = IsWindow-held k in
       first_next-bounds limit (first limit start ss k) (number start ss k) (slice_get ss k) w.order w.room
 
+  -- A step removes what it moves the window past.
   removes-window : (k i : ℕ) → removes limit start ss k i ≡ window (first limit start ss k) (first limit start ss (suc k)) i
   removes-window k i =
       let (moves, order) = first-suc k in
@@ -230,13 +257,7 @@ module _ {T : Type 0} (limit : Option ℕ) (start : List T) (ss : List (Step T))
       let next = (IsWindow-held (suc k)).is i in
       rw ((IsWindow-held k).is i, next) (window-loses _ _ _ _ i moves order grows)
 
-  -- By induction on the number of steps in between.
-  first-mono : (j d : ℕ) → first limit start ss j ≤ first limit start ss (j + d)
-  first-mono j zero = rw add-zero (omega arith)
-  first-mono j (suc d) =
-      let more : j + suc d ≡ suc (j + d) = omega arith in
-      rw more (omega (arith, first-mono j d, (first-suc (j + d)).0))
-
+  -- The same, as an order.
   removes_place : (k i : ℕ) → IsTrue (removes limit start ss k i) → (first limit start ss k ≤ i) × (i < first limit start ss (suc k))
   removes_place k i e = (window-true (first limit start ss k) (first limit start ss (suc k)) i).0 (rw (removes-window k i) at e)
 
@@ -244,12 +265,12 @@ module _ {T : Type 0} (limit : Option ℕ) (start : List T) (ss : List (Step T))
   removes_last : (j k i : ℕ) → IsTrue (removes limit start ss j i) → IsTrue (removes limit start ss k i) → k ≤ j
   removes_last j k i one other = elim (cases_lt j k) [
     | inl earlier ↦
-        let between : suc j + (k - suc j) ≡ k = omega arith in
-        let later = rw between at (first-mono (suc j) (k - suc j)) in
+        let later = rises (first limit start ss) (λ m. (first-suc m).0) (suc j) k earlier in
         absurd (omega (arith, later, removes_place j i one, removes_place k i other))
     | inr rest ↦ rest
   ]
 
+  -- Of two steps that remove a number neither is the later one.
   pub RemovesOnce-held : RemovesOnce limit start ss
   RemovesOnce-held j k i one other = omega (arith, removes_last j k i one other, removes_last k j i other one)
 
@@ -258,12 +279,13 @@ module _ {T : Type 0} (limit : Option ℕ) (start : List T) (ss : List (Step T))
   some_below-removes i zero = grind (arith, nat_tests)
   some_below-removes i (suc k) = rw (some_below-removes i k, removes-window k i) (window-append _ _ i (first-suc k).0)
 
+  -- The numbers that the run removed are those that its window has left behind.
   pub removed-first : removed limit start ss ≡ first limit start ss (length ss)
   removed-first =
       let w = IsWindow-held (length ss) in
       rw (filter-window _ 0 (first limit start ss (length ss)) (number start ss (length ss)) (λ i. some_below-removes i (length ss)) (omega arith) w.order, length-range_with_len) (omega arith)
 
-  -- By induction on the number of steps.
+  -- By induction on the number of steps: what the window has left behind was removed.
   removed_before : (i k : ℕ) → i < first limit start ss k → (j : ℕ) × (j < k) × IsTrue (removes limit start ss j i)
   removed_before i zero past = absurd (omega arith)
   removed_before i (suc k) past = elim (cases_lt i (first limit start ss k)) [
@@ -271,13 +293,7 @@ module _ {T : Type 0} (limit : Option ℕ) (start : List T) (ss : List (Step T))
     | inr now ↦ (k, omega arith, rw (removes-window k i) ((window-true _ _ i).1 (now, past)))
   ]
 
-  -- By induction on the number of steps in between.
-  number-mono : (j d : ℕ) → number start ss j ≤ number start ss (j + d)
-  number-mono j zero = rw add-zero (omega arith)
-  number-mono j (suc d) =
-      let more : j + suc d ≡ suc (j + d) = omega arith in
-      rw more (omega (arith, number-mono j d, number-suc (j + d)))
-
+  -- A push removes nothing but the number that it overwrites.
   overwrites-removes : (k i : ℕ) → IsPush ss k → IsTrue (removes limit start ss k i) → IsTrue (overwrites limit (number start ss k) i)
   overwrites-removes k i (x, is) e =
       let (low, high) = removes_place k i e in
@@ -291,12 +307,12 @@ module _ {T : Type 0} (limit : Option ℕ) (start : List T) (ss : List (Step T))
         let push = left j below e in
         let same = overwrites-once limit (number start ss j) (number start ss k) i (overwrites-removes j i push e) over in
         let one = rw push.1 at (number-suc j) in
-        let between : suc j + (k - suc j) ≡ k = omega arith in
-        let later = rw between at (number-mono (suc j) (k - suc j)) in
+        let later = rises (number start ss) (λ m. omega (arith, number-suc m)) (suc j) k below in
         absurd (omega arith)
     | inr held ↦ held
   ]
 
+  -- Before the push nothing removed a number that it removes; and what is left until then, it removes.
   pub PushesOverwrite-held : PushesOverwrite limit start ss
   PushesOverwrite-held k i push = (
     λ e. (overwrites-removes k i push e, λ j earlier e'. absurd (omega (arith, removes_last j k i e' e))),

@@ -1,14 +1,14 @@
 -- A loop over commands: what holds at each turn, what one more command makes of it, and what follows at its end.
-use Rattle.std.proofs.Common.{◌≡◌, ℕ, ◌+◌, ◌<◌, List, [], ◌∷◌, ◌++◌, length, map, set, Option, Some, IsSome, refl, ap, sym, ◌∙◌, append-nil, append_assoc, length-append, arith}
+use Rattle.std.proofs.Common.{◌≡◌, ℕ, ◌+◌, ◌<◌, List, [], ◌∷◌, ◌++◌, length, set, Option, Some, IsSome, refl, ap, sym, ◌∙◌, append-nil, append_assoc, length-append, arith}
 use Rattle.std.proofs.lemmas.Grind.{flat_map-append}
-use Rattle.std.proofs.lemmas.List.{length_push}
-use Rattle.ring_core.specs.declared.run.Command.{Command}
-use Rattle.ring_core.specs.declared.run.Refused.{Refused}
-use Rattle.ring_core.specs.declared.run.Reply.{Reply}
+use Rattle.std.proofs.lemmas.List.{drop_all, length_push}
+use Rattle.ring_core.specs.declared.runs.Command.{Command}
+use Rattle.ring_core.specs.declared.runs.Refused.{Refused}
+use Rattle.ring_core.specs.declared.runs.Reply.{Reply}
 use Rattle.ring_core.specs.Contents.{ChangesSlots, IsWithin}
 use Rattle.ring_core.specs.Meaning.{IsRefused, StopsAt, after_all, after_one, places, puts, replies_to, reply_to}
 use Rattle.ring_core.specs.History.{ChangesFewSlots, pushed, steps, steps_of}
-use Rattle.ring_core.proofs.MeaningLemmas.{StopsAt-refused, after_all-append, length-replies_to, places-more, places_all, replies_to-append}
+use Rattle.ring_core.proofs.MeaningLemmas.{StopsAt-refused, after_all-append, length-replies_to, places-more, replies_to-append}
 use Rattle.ring_core.proofs.MatchLemmas.{ChangesFewSlots-run, pushed-append, pushed-steps_of}
 
 -- of all the commands some are done and the others to do, and the ring holds what those that are done leave
@@ -18,10 +18,6 @@ pub record HasDone {T : Type 0} (limit : Option ℕ) (start : List T) (all done 
   pub same_limit : limit' ≡ limit
   pub left : now ≡ after_all limit start done
   pub changes : IsSome limit → ChangesSlots before start after now (length (pushed (steps done)))
-
-append-empty : {A : Type 0} (xs ys : List A) → length ys ≡ 0 → xs ++ ys ≡ xs
-append-empty xs [] none = append-nil xs
-append-empty xs (y ∷ ys) none = absurd (omega arith)
 
 module _ {T : Type 0} {limit : Option ℕ} {start : List T} {all done todo : List (Command T)} {at : ℕ} {limit' : Option ℕ} {now : List T} {before after : ℕ} where
   -- One more command is done.
@@ -44,15 +40,22 @@ module _ {T : Type 0} {limit : Option ℕ} {start : List T} {all done todo : Lis
       }
 
   -- Where none is to do, all are done.
-  pub HasDone-end : HasDone limit start all done todo at limit' now before after → length todo ≡ 0 → HasDone limit start all all [] at limit' now before after
-  HasDone-end h none =
-      let whole : done ≡ all = sym (append-empty done todo none) ∙ h.parts in
-      rw (← whole) (record { parts = append-nil done; count = h.count; same_limit = h.same_limit; left = h.left; changes = h.changes })
+  pub HasDone-whole : (n : ℕ) → HasDone limit start all done todo at limit' now before after → n ≡ length todo → n ≡ 0 → done ≡ all
+  HasDone-whole n h left none =
+      let empty : todo ≡ [] = drop_all 0 todo (omega arith) in
+      rw (empty, append-nil) at h.parts
 
   -- One more command is answered.
   pub replies_to-turn : (c : Command T) (r : Reply T) → HasDone limit start all done todo at limit' now before after → r ≡ reply_to now c
       → replies_to limit start (done ++ c ∷ []) ≡ replies_to limit start done ++ r ∷ []
   replies_to-turn c r h is = rw (is, h.left) (replies_to-append limit start done (c ∷ []))
+
+  -- While a command is to do, fewer are answered than there are.
+  pub length-replies_so_far : (c : Command T) (rest : List (Command T)) → HasDone limit start all done todo at limit' now before after → todo ≡ c ∷ rest
+      → length (replies_to limit start done) < length all
+  length-replies_so_far c rest h first =
+      let sum : length all ≡ length done + length (c ∷ rest) = rw (← h.parts, first) (length-append done (c ∷ rest)) in
+      omega (arith, length-replies_to limit start done)
 
   -- Its reply goes into the place with its number.
   pub places-turn : (c : Command T) (rest : List (Command T)) (replies next : List (Option (Reply T))) (r : Reply T) → HasDone limit start all done todo at limit' now before after → todo ≡ c ∷ rest
@@ -61,16 +64,7 @@ module _ {T : Type 0} {limit : Option ℕ} {start : List T} {all done todo : Lis
   places-turn c rest replies next r h first answered is written =
       let so_far = replies_to limit start done in
       let answers : at ≡ length so_far = h.count ∙ sym (length-replies_to limit start done) in
-      let sum : length all ≡ length done + length (c ∷ rest) = rw (← h.parts, first) (length-append done (c ∷ rest)) in
-      let room : length so_far < length all = omega (arith, h.count) in
-      rw (replies_to-turn c r h is, written, answered, answers) (places-more (length all) so_far r room)
-
-  -- Where none is to do, each place has its reply.
-  pub places-end : (replies : List (Option (Reply T))) → HasDone limit start all done todo at limit' now before after → length todo ≡ 0
-      → replies ≡ places (length all) (replies_to limit start done) → replies ≡ map Some (replies_to limit start all)
-  places-end replies h none answered =
-      let whole : done ≡ all = sym (append-empty done todo none) ∙ h.parts in
-      rw whole at answered ∙ places_all limit start all
+      rw (replies_to-turn c r h is, written, answered, answers) (places-more (length all) so_far r (length-replies_so_far c rest h first))
 
   -- A refusal of the next command stops the run at its number.
   pub HasDone-stops : (c : Command T) (rest : List (Command T)) (new : List T) (r : Refused T) → HasDone limit start all done todo at limit' now before after → todo ≡ c ∷ rest
@@ -79,8 +73,8 @@ module _ {T : Type 0} {limit : Option ℕ} {start : List T} {all done todo : Lis
       let whole : done ++ c ∷ rest ≡ all = rw (← first) h.parts in
       rw (← whole, h.count) (StopsAt-refused limit start done rest c new r (rw (← h.left) refused))
 
--- The bound on the count, by item numbers.
-pub HasDone-few : {T : Type 0} {limit : Option ℕ} {start : List T} {all : List (Command T)} {at : ℕ} {limit' : Option ℕ} {now : List T} {before after : ℕ}
-    → HasDone limit start all all [] at limit' now before after → IsWithin start limit → IsSome limit → ChangesFewSlots limit start (steps all) before after
-HasDone-few {limit = limit} {start = start} {all = all} {before = before} {after = after} h within some =
-    ChangesFewSlots-run limit start all within before after (rw (← h.left) (h.changes some))
+  -- The bound on the count at the end, by item numbers.
+  pub HasDone-few : HasDone limit start all done todo at limit' now before after → done ≡ all → IsWithin start limit → IsSome limit → ChangesFewSlots limit start (steps all) before after
+  HasDone-few h whole within some =
+      let changes : ChangesSlots before start after (after_all limit start all) (length (pushed (steps all))) = rw (← whole, ← h.left) (h.changes some) in
+      ChangesFewSlots-run limit start all within before after changes

@@ -7,9 +7,9 @@ use Rattle.std.proofs.lemmas.Bool.Decides.{nat_tests}
 use Rattle.std.proofs.lemmas.Grind.{flat_map-append}
 use Rattle.std.proofs.lemmas.Option.{slice_get_past}
 use Rattle.std.proofs.lemmas.List.{drop-append-le, drop-drop, drop_all, drop_min, length_push, length-take-le, take-append-drop, take_all, take_at}
-use Rattle.ring_core.specs.declared.run.Command.{Command}
-use Rattle.ring_core.specs.declared.run.Command.TheVariants.{Push, Extend, Dequeue, Skip, Clear}
-use Rattle.ring_core.specs.declared.run.Reply.TheVariants.{Dequeued}
+use Rattle.ring_core.specs.declared.runs.Command.{Command}
+use Rattle.ring_core.specs.declared.runs.Command.TheVariants.{Push, Extend, Dequeue, Skip, Clear}
+use Rattle.ring_core.specs.declared.runs.Reply.TheVariants.{Dequeued}
 use Rattle.ring_core.specs.Contents.{ChangesSlots, IsWithin, keep_last, rest}
 use Rattle.ring_core.specs.Meaning.{after_all, after_one, puts, replies_to, reply_to}
 use Rattle.ring_core.specs.History.{ChangesFewSlots, Step, pushes, takes, clears, all_items, contents_after, number, oldest, pushed, replies_of, reply_after, steps, steps_of}
@@ -18,23 +18,26 @@ use Rattle.ring_core.proofs.HistoryLemmas.{IsRoom, IsWindow-held, first, first_n
 
 -- ---- lists
 
+-- The first item that is left is the one at that place.
 slice_get-drop : {A : Type 0} (n : ℕ) (xs : List A) → slice_get (drop n xs) 0 ≡ slice_get xs n
 slice_get-drop zero xs = refl
 slice_get-drop (suc n) [] = refl
 slice_get-drop (suc n) (x ∷ xs) = slice_get-drop n xs
 
+-- The first list's items stay at their places.
 slice_get-append_left : {A : Type 0} (n : ℕ) (xs ys : List A) → n < length xs → slice_get (xs ++ ys) n ≡ slice_get xs n
 slice_get-append_left n [] ys within = absurd (omega arith)
 slice_get-append_left zero (x ∷ xs) ys within = refl
 slice_get-append_left (suc n) (x ∷ xs) ys within = slice_get-append_left n xs ys (omega arith)
 
--- The items of the numbers from the end of xs on.
+-- The items whose numbers begin where xs ends, by induction on ys.
 items-range : {A : Type 0} (xs ys : List A) → filter_map (slice_get (xs ++ ys)) (range_with_len (length xs) (length ys)) ≡ ys
 items-range xs [] = refl
 items-range xs (y ∷ ys) =
     let later = rw (length_push, append_assoc) at (items-range (xs ++ y ∷ []) ys) in
     rw (slice_get-at xs y ys, later) refl
 
+-- The items from number f on.
 items-from : {A : Type 0} (f n : ℕ) (xs : List A) → length xs ≡ n → f ≤ n → filter_map (slice_get xs) (range_with_len f (n - f)) ≡ drop f xs
 items-from f n xs count order =
     let low : length (take f xs) ≡ f = length-take-le f xs (omega arith) in
@@ -49,29 +52,30 @@ after_step limit l (pushes x) = keep_last limit (l ++ x ∷ [])
 after_step limit l takes = rest l
 after_step limit l clears = []
 
+-- what the steps do, one after the other
 abbrev pub after_steps : {T : Type 0} → Option ℕ → List T → List (Step T) → List T
 after_steps limit l [] = l
 after_steps limit l (s ∷ ss) = after_steps limit (after_step limit l s) ss
 
+-- By induction on the first steps.
 after_steps-append : {T : Type 0} (limit : Option ℕ) (l : List T) (xs ys : List (Step T)) → after_steps limit l (xs ++ ys) ≡ after_steps limit (after_steps limit l xs) ys
 after_steps-append limit l [] ys = refl
 after_steps-append limit l (s ∷ xs) ys = after_steps-append limit (after_step limit l s) xs ys
 
+-- What a limit leaves is within it.
 IsWithin-keep_last : {T : Type 0} (limit : Option ℕ) (l xs : List T) → IsWithin l limit → IsWithin (keep_last limit xs) limit
 IsWithin-keep_last None l xs within = tt
 IsWithin-keep_last (Some n) l xs within = (within.0, rw length-drop (omega arith))
 
+-- A list that is no longer than one within the limit is within it.
+IsWithin-shorter : {T : Type 0} (limit : Option ℕ) (l xs : List T) → length xs ≤ length l → IsWithin l limit → IsWithin xs limit
+IsWithin-shorter None l xs shorter within = tt
+IsWithin-shorter (Some n) l xs shorter within = (within.0, omega (arith, within.1))
+
+-- The rest lacks one item.
 rest-drop : {T : Type 0} (l : List T) → rest l ≡ drop 1 l
 rest-drop [] = refl
 rest-drop (x ∷ l) = refl
-
-IsWithin-drop : {T : Type 0} (limit : Option ℕ) (l : List T) (n : ℕ) → IsWithin l limit → IsWithin (drop n l) limit
-IsWithin-drop None l n within = tt
-IsWithin-drop (Some c) l n within = (within.0, rw length-drop (omega (arith, within.1)))
-
-IsWithin-none : {T : Type 0} (limit : Option ℕ) (l : List T) → IsWithin l limit → IsWithin {A = T} [] limit
-IsWithin-none None l within = tt
-IsWithin-none (Some c) l within = (within.0, omega arith)
 
 -- A list within the limit is kept whole.
 keep_last-within : {T : Type 0} (limit : Option ℕ) (l : List T) → IsWithin l limit → keep_last limit l ≡ l
@@ -87,18 +91,19 @@ keep_last-append (Some c) xs ys =
     let at : cut + (length (drop cut (xs ++ ys)) - c) ≡ length (xs ++ ys) - c = rw (length-drop, length-append) (omega arith) in
     rw (whole, drop-drop, at) refl
 
--- An extension pushes item by item.
+-- An extension pushes item by item, by induction on the items.
 after_steps-pushes : {T : Type 0} (limit : Option ℕ) (l xs : List T) → IsWithin l limit → after_steps limit l (map pushes xs) ≡ keep_last limit (l ++ xs)
 after_steps-pushes limit l [] within = rw append-nil (sym (keep_last-within limit l within))
 after_steps-pushes limit l (x ∷ xs) within =
     after_steps-pushes limit (keep_last limit (l ++ x ∷ [])) xs (IsWithin-keep_last limit l _ within) ∙ keep_last-append limit (l ++ x ∷ []) xs ∙ ap (keep_last limit) (append_assoc l (x ∷ []) xs)
 
+-- A command leaves a list within the limit.
 IsWithin-after_one : {T : Type 0} (limit : Option ℕ) (l : List T) (c : Command T) → IsWithin l limit → IsWithin (after_one limit l c) limit
 IsWithin-after_one limit l (Push x) within = IsWithin-keep_last limit l _ within
 IsWithin-after_one limit l (Extend items) within = IsWithin-keep_last limit l _ within
-IsWithin-after_one limit l Dequeue within = rw rest-drop (IsWithin-drop limit l 1 within)
-IsWithin-after_one limit l Skip within = rw rest-drop (IsWithin-drop limit l 1 within)
-IsWithin-after_one limit l Clear within = IsWithin-none limit l within
+IsWithin-after_one limit l Dequeue within = IsWithin-shorter limit l (rest l) (rw (rest-drop, length-drop) (omega arith)) within
+IsWithin-after_one limit l Skip within = IsWithin-shorter limit l (rest l) (rw (rest-drop, length-drop) (omega arith)) within
+IsWithin-after_one limit l Clear within = IsWithin-shorter limit l [] (omega arith) within
 
 -- A command does what its steps do.
 after_one-steps : {T : Type 0} (limit : Option ℕ) (l : List T) (c : Command T) → IsWithin l limit → after_one limit l c ≡ after_steps limit l (steps_of c)
@@ -116,7 +121,7 @@ after_all-steps limit l (c ∷ cs) within =
 
 -- ---- the items from the first held number on
 
--- One more step does to the list of the held items what it does to any list.
+-- The window's next beginning leaves what the step does.
 drop-next : {T : Type 0} (limit : Option ℕ) (f n : ℕ) (xs : List T) (s : Step T) → length xs ≡ n → f ≤ n → IsRoom limit f n
     → drop (first_next limit n f (Some s)) (xs ++ pushed_by (Some s)) ≡ after_step limit (drop f xs) s
 drop-next None f n xs (pushes x) count order room = drop-append-le f xs (x ∷ []) (omega arith)
@@ -145,11 +150,25 @@ pushed-append (pushes x ∷ xs) ys = ap (λ zs. x ∷ zs) (pushed-append xs ys)
 pushed-append (takes ∷ xs) ys = pushed-append xs ys
 pushed-append (clears ∷ xs) ys = pushed-append xs ys
 
+-- By induction on the items.
+pushed-pushes : {T : Type 0} (xs : List T) → pushed (map pushes xs) ≡ xs
+pushed-pushes [] = refl
+pushed-pushes (x ∷ xs) = ap (λ ys. x ∷ ys) (pushed-pushes xs)
+
+-- The steps of a command push its items.
+pub pushed-steps_of : {T : Type 0} (c : Command T) → pushed (steps_of c) ≡ puts c
+pushed-steps_of (Push x) = refl
+pushed-steps_of (Extend items) = pushed-pushes items.items
+pushed-steps_of Dequeue = refl
+pushed-steps_of Skip = refl
+pushed-steps_of Clear = refl
+
 module _ {T : Type 0} (limit : Option ℕ) (start : List T) (ss : List (Step T)) (within : IsWithin start limit) where
   -- the items held after k steps
   left_by : ℕ → List T
   left_by k = drop (first limit start ss k) (all_items start (take k ss))
 
+  -- One more step does to them what it does to any list.
   left_by-suc : (k : ℕ) (s : Step T) → slice_get ss k ≡ Some s → left_by (suc k) ≡ after_step limit (left_by k) s
   unfolding left_by
   left_by-suc k s is =
@@ -170,6 +189,7 @@ module _ {T : Type 0} (limit : Option ℕ) (start : List T) (ss : List (Step T))
       let sum : length front + suc (length mid) ≡ suc (length front) + length mid = omega arith in
       rw (sum, ← next) (rw count at later)
 
+  -- The oldest is the first of them.
   oldest-left : (k : ℕ) → oldest limit start ss k ≡ slice_get (left_by k) 0
   unfolding left_by
   oldest-left k =
@@ -189,9 +209,11 @@ module _ {T : Type 0} (limit : Option ℕ) (start : List T) (cs : List (Command 
       let part = rw (zero-add, append-nil) at (left_by-part limit start (steps cs) within [] (steps done) (steps todo) parts) in
       rw (after_all-steps limit start done within) (sym part)
 
+  -- All steps of the run.
   all_steps : take (length (steps cs)) (steps cs) ≡ steps cs
   all_steps = take_all (length (steps cs)) (steps cs) (omega arith)
 
+  -- The next number after the run is the count of all the items.
   length-all_items : length (all_items start (steps cs)) ≡ number start (steps cs) (length (steps cs))
   length-all_items = rw all_steps (length-append start (pushed (steps cs)))
 
@@ -200,12 +222,14 @@ module _ {T : Type 0} (limit : Option ℕ) (start : List T) (cs : List (Command 
   unfolding left_by
   after_all-drop = rw all_steps at (after_all-left cs [] (append-nil cs))
 
+  -- The items with held numbers are what the commands leave in turn.
   pub contents_after-all : contents_after limit start cs ≡ after_all limit start cs
   contents_after-all =
       let ss = steps cs in
       let w = IsWindow-held limit start ss within (length ss) in
       rw (held_numbers-window limit start ss within (length ss), items-from _ _ (all_items start ss) length-all_items w.order) (sym after_all-drop)
 
+  -- A reply by numbers is the reply at the items held.
   reply_after-left : (k : ℕ) (c : Command T) → reply_after limit start (steps cs) k c ≡ reply_to (left_by limit start (steps cs) within k) c
   reply_after-left k (Push x) = refl
   reply_after-left k (Extend items) = refl
@@ -223,6 +247,7 @@ module _ {T : Type 0} (limit : Option ℕ) (start : List T) (cs : List (Command 
       let later = rw (length_push, after_all-append) at (replies-left (done ++ c ∷ []) todo (rw append_assoc whole)) in
       rw (at, here, later) refl
 
+  -- The replies by numbers are those that the commands give in turn.
   pub replies_of-all : replies_of limit start cs ≡ replies_to limit start cs
   replies_of-all = replies-left [] cs refl
 
@@ -235,21 +260,10 @@ module _ {T : Type 0} (limit : Option ℕ) (start : List T) (cs : List (Command 
       rw (after_all-drop, length-drop, length-append) refl in
       (grows, rw (removed-first limit start (steps cs) within) (omega arith))
 
+  -- No more items were pushed or removed than there are.
   pub ChangesFewSlots-twice : (before after : ℕ) → ChangesFewSlots limit start (steps cs) before after → after ≤ before + 2 * length (all_items start (steps cs))
   ChangesFewSlots-twice before after (grows, most) =
       let order = (IsWindow-held limit start (steps cs) within (length (steps cs))).order in
       let few = removed-first limit start (steps cs) within in
       let sum = length-append start (pushed (steps cs)) in
       omega (arith, length-all_items)
-
-pushed-pushes : {T : Type 0} (xs : List T) → pushed (map pushes xs) ≡ xs
-pushed-pushes [] = refl
-pushed-pushes (x ∷ xs) = ap (λ ys. x ∷ ys) (pushed-pushes xs)
-
--- The steps of a command push its items.
-pub pushed-steps_of : {T : Type 0} (c : Command T) → pushed (steps_of c) ≡ puts c
-pushed-steps_of (Push x) = refl
-pushed-steps_of (Extend items) = pushed-pushes items.items
-pushed-steps_of Dequeue = refl
-pushed-steps_of Skip = refl
-pushed-steps_of Clear = refl

@@ -2,10 +2,10 @@
 use Rattle.std.proofs.Common.{◌≡◌, ℕ, ◌-◌, ◌<◌, List, [], ◌∷◌, ◌++◌, length, map, set, replicate, slice_get, Option, Some, None, refl, ap, arith, append-nil, append_assoc, suc}
 use Rattle.std.proofs.lemmas.List.{length-map, map-append, set_at, take_at}
 use Rattle.std.proofs.lemmas.List.{length_push}
-use Rattle.ring_core.specs.declared.run.Command.{Command}
-use Rattle.ring_core.specs.declared.run.Reply.{Reply}
-use Rattle.ring_core.specs.declared.run.Refused.{Refused}
-use Rattle.ring_core.specs.declared.run.Refused.TheVariants as refused
+use Rattle.ring_core.specs.declared.runs.Command.{Command}
+use Rattle.ring_core.specs.declared.runs.Reply.{Reply}
+use Rattle.ring_core.specs.declared.runs.Refused.{Refused}
+use Rattle.ring_core.specs.declared.runs.Refused.TheVariants as refused
 use Rattle.ring_core.specs.Meaning.{after_one, after_all, reply_to, replies_to, places, IsRefused, LeavesPart, StopsAt}
 
 module _ {T : Type 0} (limit : Option ℕ) where

@@ -1,32 +1,35 @@
--- Two runs worked out, each with the numbers held after every step.
+-- Two runs worked out by item numbers: the numbers held after each step, what is left, and what is answered.
 use Rattle.std.specs.Prelude.{◌≡◌, ℕ, List, [], ◌∷◌, map, Some, refl}
 use Rattle.std.specs.List.{range_with_len}
-use Rattle.ring_core.specs.declared.run.Command.{Command}
-use Rattle.ring_core.specs.declared.run.Command.TheVariants.{Push, Dequeue, Clear}
-use Rattle.ring_core.specs.History.{contents_after, held_numbers, steps}
+use Rattle.ring_core.specs.declared.runs.Command.{Command}
+use Rattle.ring_core.specs.declared.runs.Command.TheVariants.{Push, Dequeue, Clear}
+use Rattle.ring_core.specs.declared.runs.Reply.TheVariants.{Pushed, Dequeued, Cleared}
+use Rattle.ring_core.specs.History.{contents_after, held_numbers, replies_of, steps}
 
--- Item 0 is taken before the push of number 3, which overwrites nothing. The push of number 4 overwrites item 1.
-dequeues : List (Command ℕ)
-dequeues = Push 0 ∷ Push 1 ∷ Dequeue ∷ Push 2 ∷ Push 3 ∷ Push 4 ∷ []
+-- with capacity 3 item 0 is taken before the push of number 3, which overwrites nothing; that of number 4 overwrites item 1
+abbrev pub with_dequeue : List (Command ℕ)
+with_dequeue = Push 0 ∷ Push 1 ∷ Dequeue ∷ Push 2 ∷ Push 3 ∷ Push 4 ∷ []
 
-dequeues-held : map (held_numbers (Some 3) [] (steps dequeues)) (range_with_len 0 7)
+pub with_dequeue-held : map (held_numbers (Some 3) [] (steps with_dequeue)) (range_with_len 0 7)
     ≡ [] ∷ (0 ∷ []) ∷ (0 ∷ 1 ∷ []) ∷ (1 ∷ []) ∷ (1 ∷ 2 ∷ []) ∷ (1 ∷ 2 ∷ 3 ∷ []) ∷ (2 ∷ 3 ∷ 4 ∷ []) ∷ []
-unfolding dequeues
-dequeues-held = refl
+with_dequeue-held = refl
 
-dequeues-left : contents_after (Some 3) [] dequeues ≡ 2 ∷ 3 ∷ 4 ∷ []
-unfolding dequeues
-dequeues-left = refl
+pub with_dequeue-left : contents_after (Some 3) [] with_dequeue ≡ 2 ∷ 3 ∷ 4 ∷ []
+with_dequeue-left = refl
 
--- All are gone before the pushes of numbers 2 and 3, which overwrite nothing. The push of number 4 overwrites item 2.
-clears : List (Command ℕ)
-clears = Push 0 ∷ Push 1 ∷ Clear ∷ Push 2 ∷ Push 3 ∷ Push 4 ∷ []
+pub with_dequeue-answered : replies_of (Some 3) [] with_dequeue ≡ Pushed ∷ Pushed ∷ Dequeued (Some 0) ∷ Pushed ∷ Pushed ∷ Pushed ∷ []
+with_dequeue-answered = refl
 
-clears-held : map (held_numbers (Some 2) [] (steps clears)) (range_with_len 0 7)
+-- with capacity 2 all are gone before the pushes of numbers 2 and 3, which overwrite nothing; that of number 4 overwrites item 2
+abbrev pub with_clear : List (Command ℕ)
+with_clear = Push 0 ∷ Push 1 ∷ Clear ∷ Push 2 ∷ Push 3 ∷ Push 4 ∷ []
+
+pub with_clear-held : map (held_numbers (Some 2) [] (steps with_clear)) (range_with_len 0 7)
     ≡ [] ∷ (0 ∷ []) ∷ (0 ∷ 1 ∷ []) ∷ [] ∷ (2 ∷ []) ∷ (2 ∷ 3 ∷ []) ∷ (3 ∷ 4 ∷ []) ∷ []
-unfolding clears
-clears-held = refl
+with_clear-held = refl
 
-clears-left : contents_after (Some 2) [] clears ≡ 3 ∷ 4 ∷ []
-unfolding clears
-clears-left = refl
+pub with_clear-left : contents_after (Some 2) [] with_clear ≡ 3 ∷ 4 ∷ []
+with_clear-left = refl
+
+pub with_clear-answered : replies_of (Some 2) [] with_clear ≡ Pushed ∷ Pushed ∷ Cleared ∷ Pushed ∷ Pushed ∷ Pushed ∷ []
+with_clear-answered = refl

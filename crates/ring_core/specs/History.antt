@@ -2,10 +2,10 @@
 -- numbers are held after each step. It rests on the items at the start, the limit and the commands alone.
 use Rattle.std.specs.Prelude.{◌≡◌, ℕ, zero, suc, ◌+◌, ◌<◌, ◌≤◌, Bool, false, not, ◌&&◌, ◌||◌, ◌==◌, ◌↔◌, nat_lt, if◌then◌else◌, List, [], ◌∷◌, ◌++◌, length, take, map, filter, slice_get, Option, Some, None, IfSome, IsTrue}
 use Rattle.std.specs.List.{enumerate_from, filter_map, flat_map, range_with_len}
-use Rattle.ring_core.specs.declared.run.Command.{Command}
-use Rattle.ring_core.specs.declared.run.Command.TheVariants.{Push, Extend, Dequeue, Skip, Clear}
-use Rattle.ring_core.specs.declared.run.Reply.{Reply}
-use Rattle.ring_core.specs.declared.run.Reply.TheVariants.{Pushed, Extended, Dequeued, Skipped, Cleared}
+use Rattle.ring_core.specs.declared.runs.Command.{Command}
+use Rattle.ring_core.specs.declared.runs.Command.TheVariants.{Push, Extend, Dequeue, Skip, Clear}
+use Rattle.ring_core.specs.declared.runs.Reply.{Reply}
+use Rattle.ring_core.specs.declared.runs.Reply.TheVariants.{Pushed, Extended, Dequeued, Skipped, Cleared}
 
 -- a step changes a ring by one item, or empties it
 pub data Step (T : Type 0) : Type 0 where

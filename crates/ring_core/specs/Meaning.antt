@@ -1,11 +1,14 @@
 -- What commands do to the contents of a ring, as a list, and what they answer.
-use Rattle.std.specs.Prelude.{◌≡◌, ℕ, ◌-◌, List, [], ◌∷◌, ◌++◌, length, take, map, replicate, slice_get, Option, Some, None}
-use Rattle.ring_core.specs.declared.run.Command.{Command}
-use Rattle.ring_core.specs.declared.run.Command.TheVariants.{Push, Extend, Dequeue, Skip, Clear}
-use Rattle.ring_core.specs.declared.run.Reply.{Reply}
-use Rattle.ring_core.specs.declared.run.Reply.TheVariants.{Pushed, Extended, Dequeued, Skipped, Cleared}
-use Rattle.ring_core.specs.declared.run.Refused.{Refused}
-use Rattle.ring_core.specs.declared.run.Refused.TheVariants as refused
+use Rattle.std.specs.Prelude.{◌≡◌, ℕ, ◌-◌, List, [], ◌∷◌, ◌++◌, length, take, map, replicate, slice_get, Option, Some, None, Vec}
+use Rattle.std.specs.Global.{Global}
+use Rattle.ring_core.specs.declared.runs.Command.{Command}
+use Rattle.ring_core.specs.declared.runs.Command.TheVariants.{Push, Extend, Dequeue, Skip, Clear}
+use Rattle.ring_core.specs.declared.runs.Reply.{Reply}
+use Rattle.ring_core.specs.declared.runs.Reply.TheVariants.{Pushed, Extended, Dequeued, Skipped, Cleared}
+use Rattle.ring_core.specs.declared.runs.Refused.{Refused}
+use Rattle.ring_core.specs.declared.runs.Refused.TheVariants as refused
+use Rattle.ring_core.specs.declared.runs.RunFault.{RunFault}
+use Rattle.ring_core.specs.declared.runs.RunFault.TheVariants as fault
 use Rattle.ring_core.specs.Contents.{keep_last, rest, IsCut}
 
 -- the items that a command pushes
@@ -59,6 +62,16 @@ IsRefused {T} c old new refused.Extend = (items : _) × (c ≡ Extend items) × 
 abbrev pub StopsAt : {T : Type 0} → Option ℕ → List T → List (Command T) → ℕ → List T → Type 0
 StopsAt {T} limit old cs at new =
     (c : Command T) × (slice_get cs at ≡ Some c) × LeavesPart (after_all limit old (take at cs)) c new
+
+-- P of the commands that a run hands back, if it found no room for its replies
+abbrev pub IfNoRoom : {T : Type 0} → RunFault T → (Vec (Command T) Global → Type 0) → Type 0
+IfNoRoom (fault.NoRoom commands) P = P commands
+IfNoRoom (fault.Stopped at replies) P = Unit {0}
+
+-- P of the command's number and of the replies before it, if the run stopped
+abbrev pub IfStopped : {T : Type 0} → RunFault T → (ℕ → List (Reply T) → Type 0) → Type 0
+IfStopped (fault.NoRoom commands) P = Unit {0}
+IfStopped (fault.Stopped at replies) P = P at replies.items
 
 -- a run of xs and then of ys leaves and answers what a run of xs followed by ys does
 abbrev pub RunsJoin : Type 0 → Type 0

@@ -3,10 +3,10 @@
 
 mod iter;
 mod ring;
-mod run;
+mod runs;
 
 pub use iter::{
     RingBufferDrainingIterator, RingBufferIntoIterator, RingBufferIterator, RingBufferMutIterator,
 };
 pub use ring::RingBuffer;
-pub use run::{Command, Refused, Reply, RunFault, Stopped, apply, run_into, runs_join};
+pub use runs::{Command, Refused, Reply, RunFault, Stopped, apply, run, run_into, runs_join};

@@ -1,10 +1,10 @@
 -- One turn of the loop, its end, and its stop at a refusal.
-use Rattle.std.proofs.Common.{arith}
 use Rattle.ring_core.specs.History.{steps}
+use Rattle.ring_core.proofs.MeaningLemmas.{places_all}
 use Rattle.ring_core.proofs.HistoryLemmas.{HasNoGap-held, IsWithinLimit-held, PushesOverwrite-held, RemovesOnce-held}
 use Rattle.ring_core.proofs.MatchLemmas.{ChangesFewSlots-twice, contents_after-all, replies_of-all}
-use Rattle.ring_core.proofs.LoopLemmas.{HasDone-end, HasDone-few, HasDone-stops, HasDone-turn, places-end, places-turn}
-use Rattle.ring_core.proofs.run.run_into.Goals as goal
+use Rattle.ring_core.proofs.LoopLemmas.{HasDone-few, HasDone-stops, HasDone-turn, HasDone-whole, places-turn}
+use Rattle.ring_core.proofs.runs.run_into.Goals as goal
 
 pub loop-command-preserved : goal.loop-command-preserved
 loop-command-preserved g c =
@@ -21,27 +21,25 @@ returns-in_default-clause-stopped g c =
 
 pub returns-clause-in_turn : goal.returns-clause-in_turn
 returns-clause-in_turn g c =
-    let end = HasDone-end c.loop-command.invariant.done (omega (arith, c.loop-command.command-iterator.rest.ok.0, c.in-None.ensures.steps.0)) in
-    end.left
+    let so_far = c.loop-command.invariant in
+    let whole = HasDone-whole _ so_far.done c.loop-command.command-iterator.rest.ok.0 c.in-None.ensures.steps.0 in
+    rw whole at so_far.done.left
 
 pub returns-clause-replies_in_turn : goal.returns-clause-replies_in_turn
 returns-clause-replies_in_turn g c =
     let so_far = c.loop-command.invariant in
-    places-end _ so_far.done (omega (arith, c.loop-command.command-iterator.rest.ok.0, c.in-None.ensures.steps.0)) so_far.answered
+    let whole = HasDone-whole _ so_far.done c.loop-command.command-iterator.rest.ok.0 c.in-None.ensures.steps.0 in
+    rw (← places_all) (rw whole at so_far.answered)
 
 -- ---- by item numbers
 
 pub returns-clause-contents : goal.returns-clause-contents
 returns-clause-contents g c =
-    let limit = g.R.RingBuffer.limit c.args.ring.now in
-    let start = g.R.RingBuffer.contents c.args.ring.now in
-    rw (contents_after-all limit start c.args.commands.items c.len.ensures.within) (returns-clause-in_turn g c)
+    rw (contents_after-all _ _ c.args.commands.items c.len.ensures.within) (returns-clause-in_turn g c)
 
 pub returns-clause-replies : goal.returns-clause-replies
 returns-clause-replies g c =
-    let limit = g.R.RingBuffer.limit c.args.ring.now in
-    let start = g.R.RingBuffer.contents c.args.ring.now in
-    rw (replies_of-all limit start c.args.commands.items c.len.ensures.within) (returns-clause-replies_in_turn g c)
+    rw (replies_of-all _ _ c.args.commands.items c.len.ensures.within) (returns-clause-replies_in_turn g c)
 
 pub returns-clause-no_gap : goal.returns-clause-no_gap
 returns-clause-no_gap g c = HasNoGap-held _ _ (steps c.args.commands.items) c.len.ensures.within
@@ -57,8 +55,9 @@ returns-clause-pushes_overwrite g c = PushesOverwrite-held _ _ (steps c.args.com
 
 pub returns-clause-few_changes : goal.returns-clause-few_changes
 returns-clause-few_changes g c =
-    let end = HasDone-end c.loop-command.invariant.done (omega (arith, c.loop-command.command-iterator.rest.ok.0, c.in-None.ensures.steps.0)) in
-    HasDone-few end c.len.ensures.within
+    let so_far = c.loop-command.invariant in
+    let whole = HasDone-whole _ so_far.done c.loop-command.command-iterator.rest.ok.0 c.in-None.ensures.steps.0 in
+    HasDone-few so_far.done whole c.len.ensures.within
 
 pub returns-clause-twice : goal.returns-clause-twice
 returns-clause-twice g c = λ some. ChangesFewSlots-twice _ _ c.args.commands.items c.len.ensures.within _ _ (returns-clause-few_changes g c some)

@@ -1,5 +1,5 @@
 use Rattle.std.proofs.Common.{◌≡◌, None, replicate, take}
-use Rattle.ring_core.proofs.run.empty.Given as goal
+use Rattle.ring_core.proofs.runs.empty.Given as goal
 
 -- the places passed so far hold `None`
 abbrev pub invariant-loop-place : goal.invariant-loop-place

@@ -1,11 +1,12 @@
 //! Commands for a ring as values, and runs of them on any lawful ring.
 
-ghost use Rattle.std.specs.Prelude.{◌≡◌, ◌+◌, ◌*◌, ◌<◌, ◌≤◌, IfErr, IfOk, IsOk, IsSome, OnOk, None, Some, length, map, replicate, slice_set, take};
+ghost use Rattle.std.specs.Prelude.{◌≡◌, [], ◌∷◌, ◌++◌, ◌+◌, ◌*◌, ◌<◌, ◌≤◌, IfErr, IfOk, IsOk, IsSome, OnOk, None, Some, length, map, replicate, slice_set, take, vec_capacity, vec_len};
 ghost use Rattle.ring_core.specs.Contents.{ChangesSlots};
 ghost use Rattle.ring_core.specs.History.{ChangesFewSlots, HasNoGap, IsWithinLimit, PushesOverwrite, RemovesOnce, all_items, contents_after, replies_of, steps};
-ghost use Rattle.ring_core.specs.Meaning.{IsRefused, RunsJoin, StopsAt, after_all, after_one, places, puts, replies_to, reply_to};
+ghost use Rattle.ring_core.specs.Meaning.{IfNoRoom, IfStopped, IsRefused, RunsJoin, StopsAt, after_all, after_one, places, puts, replies_to, reply_to};
 
 use crate::ring::RingBuffer;
+use std::alloc::Global;
 
 /// A call of a ring, as a value.
 #[derive(Debug, PartialEq, Drop)]
@@ -53,11 +54,18 @@ pub struct Stopped {
     pub at: usize,
 }
 
-/// Why a run with replies of its own did not go through.
+/// Why a run that makes a vector of its replies did not go through.
 #[derive(Debug, PartialEq, Drop)]
 pub enum RunFault<T> {
+    /// There was no memory for the replies. The commands are handed back, and none was done.
     NoRoom(Vec<Command<T>>),
-    Stopped { at: usize, replies: Vec<Reply<T>> },
+    /// The run stopped as `run_into` does. No ring with a limit stops one.
+    Stopped {
+        /// The number of the refused command, counted from 0.
+        at: usize,
+        /// The replies to the commands before it.
+        replies: Vec<Reply<T>>,
+    },
 }
 
 /// Does the call that the command names.
@@ -159,6 +167,66 @@ pub fn run_into<T: Drop, R: RingBuffer<T>>(
         at += 1;
     }
     Ok(())
+}
+
+// Puts a reply last, where there is room for it.
+fn store<T: Drop>(replies: &mut Vec<Reply<T>>, reply: Reply<T>)
+    requires { vec_len replies.old < vec_capacity replies.old }
+    ensures items { replies.new.items ≡ replies.old.items ++ reply ∷ [] }
+    ensures capacity { vec_capacity replies.old ≤ vec_capacity replies.new }
+{
+    replies.push(reply).unwrap();
+}
+
+/// Does the commands in order, and answers the reply to each. It takes the memory for all replies first.
+///
+/// # Errors
+///
+/// `NoRoom` where that memory was refused, and `Stopped` where a command was; the commands that were not done are then
+/// dropped.
+pub fn run<T: Drop, R: RingBuffer<T>>(
+    alloc: Global,
+    ring: &mut R,
+    commands: Vec<Command<T>>,
+) -> Result<Vec<Reply<T>>, RunFault<T>>
+    ensures never_stopped { IsSome (R.limit ring.old) → IfErr result (λ f. IfStopped f (λ _ _. ⊥)) }
+    ensures same_limit { R.limit ring.new ≡ R.limit ring.old }
+
+    // Each command in turn does what it does to a list.
+    ensures in_turn { OnOk result (R.contents ring.new ≡ after_all (R.limit ring.old) (R.contents ring.old) commands.items) }
+    ensures replies_in_turn { IfOk result (λ r. r.items ≡ replies_to (R.limit ring.old) (R.contents ring.old) commands.items) }
+
+    // By item numbers: what is left and answered is what the numbers held after each step say.
+    ensures contents { OnOk result (R.contents ring.new ≡ contents_after (R.limit ring.old) (R.contents ring.old) commands.items) }
+    ensures replies { IfOk result (λ r. r.items ≡ replies_of (R.limit ring.old) (R.contents ring.old) commands.items) }
+    ensures no_gap { HasNoGap (R.limit ring.old) (R.contents ring.old) (steps commands.items) }
+    ensures within_limit { IsWithinLimit (R.limit ring.old) (R.contents ring.old) (steps commands.items) }
+    ensures removes_once { RemovesOnce (R.limit ring.old) (R.contents ring.old) (steps commands.items) }
+    ensures pushes_overwrite { PushesOverwrite (R.limit ring.old) (R.contents ring.old) (steps commands.items) }
+    ensures few_changes { IsSome (R.limit ring.old) → ChangesFewSlots (R.limit ring.old) (R.contents ring.old) (steps commands.items) (R.slot_changes ring.old) (R.slot_changes ring.new) }
+    ensures twice { IsSome (R.limit ring.old) → R.slot_changes ring.new ≤ R.slot_changes ring.old + 2 * length (all_items (R.contents ring.old) (steps commands.items)) }
+
+    // A run that found no room did nothing.
+    ensures no_room { IfErr result (λ f. IfNoRoom f (λ back. (back ≡ commands) × (ring.new ≡ ring.old))) }
+
+    // A run that stopped did the commands before, and part of the one that was refused.
+    ensures stopped { IfErr result (λ f. IfStopped f (λ at _. StopsAt (R.limit ring.old) (R.contents ring.old) commands.items at (R.contents ring.new))) }
+    ensures replies_before { IfErr result (λ f. IfStopped f (λ at r. r ≡ replies_to (R.limit ring.old) (R.contents ring.old) (take at commands.items))) }
+{
+    // Brings in that the contents are within the limit.
+    let _ = ring.len();
+    let Ok(mut replies) = Vec::with_capacity(alloc, commands.len()) else {
+        return Err(RunFault::NoRoom(commands));
+    };
+    let mut at = 0;
+    for command in commands {
+        let Ok(reply) = apply(ring, command) else {
+            return Err(RunFault::Stopped { at, replies });
+        };
+        store(&mut replies, reply);
+        at += 1;
+    }
+    Ok(replies)
 }
 
 /// Shows by its contract that runs join. It does nothing.

@@ -6,7 +6,7 @@ use Rattle.std.specs.Vec.Iter.{into_iter_items, into_iter_len, into_iter_steps}
 use Rattle.std.proofs.lemmas.Iterator.Adapters.{YieldsList-from_vec}
 use Rattle.std.proofs.lemmas.Iterator.Consumers.{YieldsList-end, YieldsList-so_far, YieldsList-turn}
 use Rattle.ring_core.specs.Contents.{IsCut, keep_last}
-use Rattle.ring_core.proofs.run.apply.Goals as goal
+use Rattle.ring_core.proofs.runs.apply.Goals as goal
 
 module _ {T : Type 0} (it : IntoIter T Global) (items taken : List T) (shows : into_iter_items it ≡ items) (counts : into_iter_len it ≡ length items) where
   taken_all : Drains into_iter_steps it taken → taken ≡ items

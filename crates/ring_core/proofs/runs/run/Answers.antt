@@ -1,0 +1,93 @@
+-- One turn of the loop, its end, its stop at a refusal, and what holds where no command was done.
+use Rattle.std.proofs.Common.{◌<◌, length, arith}
+use Rattle.ring_core.specs.History.{steps}
+use Rattle.ring_core.proofs.HistoryLemmas.{HasNoGap-held, IsWithinLimit-held, PushesOverwrite-held, RemovesOnce-held}
+use Rattle.ring_core.proofs.MatchLemmas.{ChangesFewSlots-twice, contents_after-all, replies_of-all}
+use Rattle.ring_core.proofs.LoopLemmas.{HasDone-few, HasDone-stops, HasDone-turn, HasDone-whole, length-replies_so_far, replies_to-turn}
+use Rattle.ring_core.proofs.runs.run.Goals as goal
+
+pub store-requires : goal.store-requires
+store-requires g c =
+    let so_far = c.loop-command.invariant in
+    let room : length c.loop-command.replies.items < length c.args.commands.items =
+    rw so_far.answered (length-replies_so_far c.in-Some.command _ so_far.done c.in-Some.ensures.steps.0) in
+    omega (arith, c.loop-command.replies.ok.0)
+
+pub loop-command-preserved : goal.loop-command-preserved
+loop-command-preserved g c =
+    let so_far = c.loop-command.invariant in
+    let done = c.in-Ok-apply.ensures in
+    record {
+      done = HasDone-turn c.in-Some.command _ _ _ _ so_far.done c.in-Some.ensures.steps.0 done.limit done.contents done.changes;
+      answered = rw (replies_to-turn c.in-Some.command c.in-Ok-apply.reply so_far.done done.reply, ← so_far.answered) c.store.ensures.items;
+      room = omega (arith, so_far.room, c.store.ensures.capacity);
+    }
+
+pub returns-in_default-apply-clause-stopped : goal.returns-in_default-apply-clause-stopped
+returns-in_default-apply-clause-stopped g c =
+    HasDone-stops c.in-Some.command _ _ c.in_default-apply.field-0 c.loop-command.invariant.done c.in-Some.ensures.steps.0 c.in_default-apply.ensures.refused
+
+pub returns-clause-in_turn : goal.returns-clause-in_turn
+returns-clause-in_turn g c =
+    let so_far = c.loop-command.invariant in
+    let whole = HasDone-whole _ so_far.done c.loop-command.command-iterator.rest.ok.0 c.in-None.ensures.steps.0 in
+    rw whole at so_far.done.left
+
+pub returns-clause-replies_in_turn : goal.returns-clause-replies_in_turn
+returns-clause-replies_in_turn g c =
+    let so_far = c.loop-command.invariant in
+    let whole = HasDone-whole _ so_far.done c.loop-command.command-iterator.rest.ok.0 c.in-None.ensures.steps.0 in
+    rw whole at so_far.answered
+
+-- ---- by item numbers
+
+pub returns-clause-contents : goal.returns-clause-contents
+returns-clause-contents g c =
+    rw (contents_after-all _ _ c.args.commands.items c.len.ensures.within) (returns-clause-in_turn g c)
+
+pub returns-clause-replies : goal.returns-clause-replies
+returns-clause-replies g c =
+    rw (replies_of-all _ _ c.args.commands.items c.len.ensures.within) (returns-clause-replies_in_turn g c)
+
+pub returns-clause-no_gap : goal.returns-clause-no_gap
+returns-clause-no_gap g c = HasNoGap-held _ _ (steps c.args.commands.items) c.len.ensures.within
+
+pub returns-clause-within_limit : goal.returns-clause-within_limit
+returns-clause-within_limit g c = IsWithinLimit-held _ _ (steps c.args.commands.items) c.len.ensures.within
+
+pub returns-clause-removes_once : goal.returns-clause-removes_once
+returns-clause-removes_once g c = RemovesOnce-held _ _ (steps c.args.commands.items) c.len.ensures.within
+
+pub returns-clause-pushes_overwrite : goal.returns-clause-pushes_overwrite
+returns-clause-pushes_overwrite g c = PushesOverwrite-held _ _ (steps c.args.commands.items) c.len.ensures.within
+
+pub returns-clause-few_changes : goal.returns-clause-few_changes
+returns-clause-few_changes g c =
+    let so_far = c.loop-command.invariant in
+    let whole = HasDone-whole _ so_far.done c.loop-command.command-iterator.rest.ok.0 c.in-None.ensures.steps.0 in
+    HasDone-few so_far.done whole c.len.ensures.within
+
+pub returns-clause-twice : goal.returns-clause-twice
+returns-clause-twice g c = λ some. ChangesFewSlots-twice _ _ c.args.commands.items c.len.ensures.within _ _ (returns-clause-few_changes g c some)
+
+-- ---- the same, where the run stopped
+
+pub returns-in_default-apply-clause-no_gap : goal.returns-in_default-apply-clause-no_gap
+returns-in_default-apply-clause-no_gap g c = HasNoGap-held _ _ (steps c.args.commands.items) c.len.ensures.within
+
+pub returns-in_default-apply-clause-removes_once : goal.returns-in_default-apply-clause-removes_once
+returns-in_default-apply-clause-removes_once g c = RemovesOnce-held _ _ (steps c.args.commands.items) c.len.ensures.within
+
+-- ---- the same, where there was no room
+
+pub returns-in_default-clause-no_gap : goal.returns-in_default-clause-no_gap
+returns-in_default-clause-no_gap g c = HasNoGap-held _ _ (steps c.args.commands.items) c.len.ensures.within
+
+pub returns-in_default-clause-within_limit : goal.returns-in_default-clause-within_limit
+returns-in_default-clause-within_limit g c = IsWithinLimit-held _ _ (steps c.args.commands.items) c.len.ensures.within
+
+pub returns-in_default-clause-removes_once : goal.returns-in_default-clause-removes_once
+returns-in_default-clause-removes_once g c = RemovesOnce-held _ _ (steps c.args.commands.items) c.len.ensures.within
+
+pub returns-in_default-clause-pushes_overwrite : goal.returns-in_default-clause-pushes_overwrite
+returns-in_default-clause-pushes_overwrite g c = PushesOverwrite-held _ _ (steps c.args.commands.items) c.len.ensures.within

@@ -1,0 +1,15 @@
+use Rattle.std.proofs.Common.{◌≡◌, length}
+use Rattle.ring_core.specs.Meaning.{places, replies_to}
+use Rattle.ring_core.proofs.LoopLemmas.{HasDone}
+use Rattle.ring_core.proofs.runs.run_into.Given as goal
+
+-- the commands so far are done and answered
+abbrev pub invariant-loop-command : goal.invariant-loop-command
+invariant-loop-command g l =
+    let limit = g.R.RingBuffer.limit in
+    let contents = g.R.RingBuffer.contents in
+    let count = g.R.RingBuffer.slot_changes in
+    record {
+      done : HasDone (limit l.fn.ring) (contents l.fn.ring) l.fn.commands.items l.yielded l.command-iterator.rest.items l.at (limit l.ring) (contents l.ring) (count l.fn.ring) (count l.ring);
+      answered : l.replies ≡ places (length l.fn.commands.items) (replies_to (limit l.fn.ring) (contents l.fn.ring) l.yielded);
+    }
