@@ -1,0 +1,8 @@
+-- Words that ask for no ring at all ask for none that the program has.
+use Rattle.std.proofs.Common.{rules}
+use Rattle.ringrun.proofs.service.answer.Goals as goal
+
+pub returns-in_err-kind-clause-arguments : goal.returns-in_err-kind-clause-arguments
+returns-in_err-kind-clause-arguments g c =
+    let asks_for_none = c.in_err-kind.ensures.asks_for_none in
+    ((λ _ named. asks_for_none (search rules) named.0 named.1), (λ _. search rules))

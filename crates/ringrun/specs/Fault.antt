@@ -1,0 +1,18 @@
+-- How the program ends.
+use Rattle.std.specs.Prelude.{ℕ, ◌<◌}
+use Rattle.ringrun.specs.declared.fault.Fault.{Fault}
+use Rattle.ringrun.specs.declared.fault.Fault.TheVariants.{NotACommand, BadArguments, NoMemory, InputOrOutput}
+
+-- the status that the program ends with at a fault; it is 0 where there is none
+abbrev pub status_of : Fault → ℕ
+status_of (NotACommand line) = 1
+status_of BadArguments = 2
+status_of NoMemory = 3
+status_of InputOrOutput = 4
+
+-- what reading a script may end in: a line, counted from 1, or want of memory
+abbrev pub IsInScript : Fault → Type 0
+IsInScript (NotACommand line) = 0 < line
+IsInScript BadArguments = ⊥
+IsInScript NoMemory = Unit {0}
+IsInScript InputOrOutput = ⊥

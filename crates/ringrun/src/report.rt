@@ -1,0 +1,44 @@
+//! What the program prints.
+
+use ringbuffer::{Reply, RingBuffer};
+use std::alloc::{AllocError, Global};
+
+// Most lines that answer a command are no longer than this.
+const USUAL_LINE: usize = b"extended\n".len();
+
+/// The text that answers a run: a line for each reply, and then a line for the items that the ring holds.
+///
+/// # Errors
+///
+/// Where memory was refused.
+pub fn text<R: RingBuffer<i64>>(
+    alloc: Global,
+    replies: &[Option<Reply<i64>>],
+    ring: &R,
+) -> Result<String, AllocError> {
+    let mut text = String::with_capacity(alloc, replies.len().saturating_mul(USUAL_LINE))?;
+    for reply in replies.iter().flatten() {
+        push_reply(&mut text, reply)?;
+    }
+    push_items(&mut text, ring)?;
+    Ok(text)
+}
+
+fn push_reply(text: &mut String, reply: &Reply<i64>) -> Result<(), AllocError> {
+    match reply {
+        Reply::Pushed => text.push_str("pushed\n"),
+        Reply::Extended => text.push_str("extended\n"),
+        Reply::Dequeued(Some(item)) => writeln!(text, "dequeued {item}"),
+        Reply::Dequeued(None) => text.push_str("dequeued none\n"),
+        Reply::Skipped => text.push_str("skipped\n"),
+        Reply::Cleared => text.push_str("cleared\n"),
+    }
+}
+
+fn push_items<R: RingBuffer<i64>>(text: &mut String, ring: &R) -> Result<(), AllocError> {
+    text.push_str("items")?;
+    for item in (0..ring.len()).filter_map(|index| ring.get(index)) {
+        write!(text, " {item}")?;
+    }
+    text.push_str("\n")
+}

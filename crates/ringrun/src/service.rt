@@ -1,0 +1,124 @@
+//! The program's work, over any reader and writers.
+
+ghost use Rattle.std.specs.Prelude.{◌≡◌, ◌≢◌, ◌<◌, ◌≤◌, ◌↔◌, IfErr, IsErrOf, OnOk, map, string_bytes};
+ghost use Rattle.std.specs.Io.KnownBytes.{Appends};
+ghost use Rattle.ringrun.specs.Arguments.{IsOffered, NamesRing};
+ghost use Rattle.ringrun.specs.Fault.{status_of};
+
+use crate::arguments::{Arguments, Kind};
+use crate::fault::Fault;
+use crate::{report, script};
+use ringbuffer::{Command, ConstGenericRingBuffer, RingBuffer, run_into};
+use std::alloc::Global;
+use std::io::{Read, Write};
+
+/// Does what `words`, the program's arguments after its name, ask for, and answers the status to end with.
+///
+/// It checks the arguments, makes the ring, reads the whole input, reads its lines as commands and runs them. Then it
+/// prints what they answered, in one text that is complete before its first byte is written. Each status but 0 comes
+/// with a line on `errors`, where that takes one.
+pub fn serve<I: Read, O: Write, E: Write>(
+    alloc: Global,
+    words: &[String],
+    input: &mut I,
+    output: &mut O,
+    errors: &mut E,
+) -> u8
+    ensures statuses { result ≤ 4 }
+    ensures arguments { (result ≡ 2) ↔ (¬ NamesRing (map string_bytes words.now)) }
+    ensures unread { result ≡ 2 → input.new ≡ input.old }
+    ensures unwritten { 0 < result → result < 4 → output.new ≡ output.old }
+    ensures no_error { result ≡ 0 → errors.new ≡ errors.old }
+{
+    match attempt(alloc, words, input, output) {
+        Ok(()) => 0,
+        Err(fault) => end(fault, errors),
+    }
+}
+
+/// Writes the fault's line to `errors`, where that takes one, and answers the fault's status.
+pub fn end<E: Write>(fault: Fault, errors: &mut E) -> u8
+    ensures { result ≡ status_of fault }
+{
+    let _ = writeln!(errors, "{fault}");
+    let _ = errors.flush();
+    fault.status()
+}
+
+fn attempt<I: Read, O: Write>(
+    alloc: Global,
+    words: &[String],
+    input: &mut I,
+    output: &mut O,
+) -> Result<(), Fault>
+    ensures arguments { IsErrOf result Fault.BadArguments ↔ (¬ NamesRing (map string_bytes words.now)) }
+    ensures unread { IsErrOf result Fault.BadArguments → input.new ≡ input.old }
+    ensures unwritten { IfErr result (λ fault. status_of fault < 4 → output.new ≡ output.old) }
+{
+    let text = answer(alloc, words, input)?;
+    print(text.as_str(), output)
+}
+
+/// The text that the program prints. No byte of the input is read before the arguments are checked.
+fn answer<I: Read>(alloc: Global, words: &[String], input: &mut I) -> Result<String, Fault>
+    ensures arguments { IsErrOf result Fault.BadArguments ↔ (¬ NamesRing (map string_bytes words.now)) }
+    ensures unread { IsErrOf result Fault.BadArguments → input.new ≡ input.old }
+{
+    let Arguments { kind, capacity } = Arguments::parse(words)?;
+    match kind {
+        Kind::Array => answer_by_array(alloc, capacity, input),
+    }
+}
+
+fn answer_by_array<I: Read>(alloc: Global, capacity: usize, input: &mut I) -> Result<String, Fault>
+    ensures arguments { IsErrOf result Fault.BadArguments ↔ (¬ IsOffered Kind.Array capacity) }
+    ensures unread { IsErrOf result Fault.BadArguments → input.new ≡ input.old }
+{
+    match capacity {
+        1 => answer_by(&mut ConstGenericRingBuffer::<i64, 1>::new(), alloc, input),
+        2 => answer_by(&mut ConstGenericRingBuffer::<i64, 2>::new(), alloc, input),
+        3 => answer_by(&mut ConstGenericRingBuffer::<i64, 3>::new(), alloc, input),
+        4 => answer_by(&mut ConstGenericRingBuffer::<i64, 4>::new(), alloc, input),
+        8 => answer_by(&mut ConstGenericRingBuffer::<i64, 8>::new(), alloc, input),
+        10 => answer_by(&mut ConstGenericRingBuffer::<i64, 10>::new(), alloc, input),
+        _ => Err(Fault::BadArguments),
+    }
+}
+
+/// The text that this ring's answers to the input's commands make.
+fn answer_by<R: RingBuffer<i64>, I: Read>(
+    ring: &mut R,
+    alloc: Global,
+    input: &mut I,
+) -> Result<String, Fault>
+    ensures { IfErr result (λ fault. fault ≢ Fault.BadArguments) }
+{
+    let commands = read_commands(alloc, input)?;
+    let mut replies = Vec::new(alloc);
+    replies.resize_with(commands.len(), || None)?;
+    run_into(ring, commands, replies.as_mut_slice())?;
+    Ok(report::text(alloc, replies.as_slice(), ring)?)
+}
+
+fn read_commands<I: Read>(alloc: Global, input: &mut I) -> Result<Vec<Command<i64>>, Fault>
+    ensures { IfErr result (λ fault. fault ≢ Fault.BadArguments) }
+{
+    let mut bytes = Vec::new(alloc);
+    if let Err(error) = input.read_to_end(&mut bytes) {
+        return Err(Fault::from_error(&error, Fault::InputOrOutput));
+    }
+    script::parse(alloc, bytes.as_slice())
+}
+
+fn print<O: Write>(text: &str, output: &mut O) -> Result<(), Fault>
+    ensures ok { OnOk result (Appends (O.contents output.old) (O.contents output.new) text.now) }
+    ensures err { IfErr result (λ fault. fault ≡ Fault.InputOrOutput) }
+{
+    if output.write_all(text.as_bytes()).is_err() || output.flush().is_err() {
+        return Err(Fault::InputOrOutput);
+    }
+    Ok(())
+}
+
+#[cfg(test)]
+mod tests;

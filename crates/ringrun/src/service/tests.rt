@@ -1,0 +1,398 @@
+//! Tests of `serve` over readers and writers in memory.
+
+mod drought;
+mod streams;
+
+use super::serve;
+use drought::Drought;
+use std::alloc::{AllocError, Global};
+use std::io::ErrorKind;
+use std::test::Fail;
+use streams::{Refusal, Sink, Source};
+
+const SCRIPT: &[u8] = b"push 5\npush 42\npush 1\ndequeue\n";
+
+const ANSWER: &str = "pushed\npushed\npushed\ndequeued 42\nitems 1\n";
+
+const USAGE: &str = "usage: ringrun array|heap|grow CAPACITY\n";
+
+const NO_MEMORY: &str = "ringrun: no memory\n";
+
+const FAILED: &str = "ringrun: input or output failed\n";
+
+/// What a run of the program left.
+#[derive(Drop)]
+struct Outcome {
+    status: u8,
+    output: Sink,
+    errors: Sink,
+}
+
+fn strings(alloc: Global, words: &[&str]) -> Result<Vec<String>, AllocError> {
+    let mut strings = Vec::with_capacity(alloc, words.len())?;
+    for word in words {
+        strings.push(String::from_str(alloc, word)?)?;
+    }
+    Ok(strings)
+}
+
+fn run(
+    alloc: Global,
+    arguments: &[&str],
+    mut input: Source<'_>,
+    mut output: Sink,
+) -> Result<Outcome, AllocError> {
+    let words = strings(alloc, arguments)?;
+    let mut errors = Sink::new(alloc)?;
+    let status = serve(
+        alloc,
+        words.as_slice(),
+        &mut input,
+        &mut output,
+        &mut errors,
+    );
+    Ok(Outcome {
+        status,
+        output,
+        errors,
+    })
+}
+
+fn run_script(alloc: Global, capacity: &str, script: &[u8]) -> Result<Outcome, AllocError> {
+    run(
+        alloc,
+        &["array", capacity],
+        Source::of(script),
+        Sink::new(alloc)?,
+    )
+}
+
+fn repeated(alloc: Global, line: &[u8], count: usize) -> Result<Vec<u8>, AllocError> {
+    let mut script = Vec::new(alloc);
+    for _ in 0..count {
+        script.extend_from_slice(line)?;
+    }
+    Ok(script)
+}
+
+#[test]
+fn prints_what_the_commands_answer(rt: HostRuntime) -> Result<(), Fail> {
+    let eleven = b"extend 1 2 3 4 5 6 7 8 9 10 11";
+    let cases: [(&str, &[u8], &str); 21] = [
+        ("2", SCRIPT, ANSWER),
+        ("02", SCRIPT, ANSWER),
+        ("2", b"", "items\n"),
+        (
+            "2",
+            b"extend 1 2 3\n\nextend\nclear\ndequeue\n",
+            "extended\nextended\ncleared\ndequeued none\nitems\n",
+        ),
+        (
+            "2",
+            b"push 1\nextend 2 3 4\ndequeue\nskip\ndequeue\nclear\n",
+            "pushed\nextended\ndequeued 3\nskipped\ndequeued none\ncleared\nitems\n",
+        ),
+        (
+            "3",
+            b"extend 1 2 3\nskip\npush 4\n",
+            "extended\nskipped\npushed\nitems 2 3 4\n",
+        ),
+        // each capacity
+        ("1", eleven, "extended\nitems 11\n"),
+        ("2", eleven, "extended\nitems 10 11\n"),
+        ("3", eleven, "extended\nitems 9 10 11\n"),
+        ("4", eleven, "extended\nitems 8 9 10 11\n"),
+        ("8", eleven, "extended\nitems 4 5 6 7 8 9 10 11\n"),
+        ("10", eleven, "extended\nitems 2 3 4 5 6 7 8 9 10 11\n"),
+        // how numbers are written
+        (
+            "3",
+            b"push +5\n  push\t-0\r\npush 007",
+            "pushed\npushed\npushed\nitems 5 0 7\n",
+        ),
+        (
+            "2",
+            b"push -9223372036854775808\npush 9223372036854775807\ndequeue",
+            "pushed\npushed\ndequeued -9223372036854775808\nitems 9223372036854775807\n",
+        ),
+        (
+            "1",
+            b"push +00000000000000000000000000000001\n",
+            "pushed\nitems 1\n",
+        ),
+        // what stands between words, and lines without words
+        ("3", b"extend\x0c1\x0c\t 2\r3", "extended\nitems 1 2 3\n"),
+        (
+            "3",
+            b"\x0cskip\x0c\n\rclear\r\n\tdequeue\t\n skip ",
+            "skipped\ncleared\ndequeued none\nskipped\nitems\n",
+        ),
+        ("3", b"\n\n \n\t\x0c\r\n\n", "items\n"),
+        ("3", b"\n\nskip\n\n\n", "skipped\nitems\n"),
+        ("3", b"\n", "items\n"),
+        ("3", b" ", "items\n"),
+    ];
+    for (capacity, script, want) in cases {
+        let outcome = run_script(rt.alloc(), capacity, script)?;
+        assert_eq!(rt; outcome.output.text()?, want);
+        assert_eq!(rt; outcome.errors.text()?, "");
+        assert_eq!(rt; outcome.status, 0);
+    }
+    Ok(())
+}
+
+#[test]
+fn names_the_first_line_that_is_no_command(rt: HostRuntime) -> Result<(), Fail> {
+    let first: [&[u8]; 36] = [
+        b"push",
+        b"push 1 2",
+        b"push x",
+        b"push 1.",
+        b"push -",
+        b"push +",
+        b"push ++1",
+        b"push +-1",
+        b"push - 1",
+        b"push 0x1",
+        b"push 1_0",
+        b"push 9223372036854775808",
+        b"push -9223372036854775809",
+        b"push \xd9\xa1",
+        b"PUSH 1",
+        b"Push 1",
+        b"push1",
+        b"pushed 1",
+        b"pus 1",
+        b"1",
+        b"dequeue 1",
+        b"skip 1",
+        b"clear 1",
+        b"dequeued",
+        b"extend x",
+        b"extend 1 x",
+        b"extend 1 2 9223372036854775808",
+        b"extend 1,2",
+        b"items",
+        b"\xff",
+        b"skip \xff",
+        b"\xc3",
+        b"skip\x0b",
+        b"\x0b",
+        b"push\xc2\xa01",
+        b"skip\x00",
+    ];
+    for script in first {
+        let outcome = run_script(rt.alloc(), "3", script)?;
+        assert_eq!(rt; outcome.status, 1, "at {script:?}");
+        assert_eq!(rt; outcome.output.text()?, "");
+        assert_eq!(rt; outcome.errors.text()?, "ringrun: line 1: not a command\n");
+    }
+    let later: [(&[u8], &str); 6] = [
+        (b"push 1\npush x", "ringrun: line 2: not a command\n"),
+        (b"\n\npush x", "ringrun: line 3: not a command\n"),
+        (b"push 1\n\xff\n", "ringrun: line 2: not a command\n"),
+        (b"skip\n\xc3\n\xa9\n", "ringrun: line 2: not a command\n"),
+        (b"skip\npush\nx\n\xff", "ringrun: line 2: not a command\n"),
+        (
+            b"\n\n\n\n\n\n\n\n\n\n\nx\n",
+            "ringrun: line 12: not a command\n",
+        ),
+    ];
+    for (script, want) in later {
+        let outcome = run_script(rt.alloc(), "3", script)?;
+        assert_eq!(rt; outcome.status, 1);
+        assert_eq!(rt; outcome.output.text()?, "");
+        assert_eq!(rt; outcome.errors.text()?, want);
+    }
+    Ok(())
+}
+
+#[test]
+fn refuses_arguments_before_it_reads(rt: HostRuntime) -> Result<(), Fail> {
+    let cases: [&[&str]; 28] = [
+        &[],
+        &[""],
+        &["array"],
+        &["heap"],
+        &["2"],
+        &["array 2"],
+        &["array", ""],
+        &["array", "2", "3"],
+        &["array", "2", ""],
+        &["", "array", "2"],
+        &["2", "array"],
+        &["ARRAY", "2"],
+        &["arrays", "2"],
+        &["array", "0"],
+        &["array", "5"],
+        &["array", "9"],
+        &["array", "11"],
+        &["array", "+2"],
+        &["array", "-2"],
+        &["array", " 2"],
+        &["array", "2.0"],
+        &["array", "0x2"],
+        &["array", "two"],
+        &["array", "18446744073709551616"],
+        &["array", "18446744073709551618"],
+        &["heap", "0"],
+        &["heap", "2"],
+        &["grow", "2"],
+    ];
+    for arguments in cases {
+        let input = Source::failing_between((b"", SCRIPT), ErrorKind::BrokenPipe);
+        let outcome = run(rt.alloc(), arguments, input, Sink::new(rt.alloc())?)?;
+        assert_eq!(rt; outcome.status, 2, "by {arguments:?}");
+        assert_eq!(rt; outcome.output.text()?, "");
+        assert_eq!(rt; outcome.errors.text()?, USAGE);
+    }
+    Ok(())
+}
+
+#[test]
+fn reads_what_comes_in_pieces(rt: HostRuntime) -> Result<(), Fail> {
+    let input = Source::in_pieces(SCRIPT, 1);
+    let outcome = run(rt.alloc(), &["array", "2"], input, Sink::new(rt.alloc())?)?;
+    assert_eq!(rt; outcome.status, 0);
+    assert_eq!(rt; outcome.output.text()?, ANSWER);
+    for k in 0..=SCRIPT.len() {
+        let input = Source::failing_between(SCRIPT.split_at(k), ErrorKind::Interrupted);
+        let outcome = run(rt.alloc(), &["array", "2"], input, Sink::new(rt.alloc())?)?;
+        assert_eq!(rt; outcome.status, 0, "interrupted after {k}");
+        assert_eq!(rt; outcome.output.text()?, ANSWER);
+    }
+    Ok(())
+}
+
+#[test]
+fn reads_a_long_script(rt: HostRuntime) -> Result<(), Fail> {
+    let mut script = repeated(rt.alloc(), b"push 7\n", 3000)?;
+    let mut answer = repeated(rt.alloc(), b"pushed\n", 3000)?;
+    answer.extend_from_slice(b"items 7\n")?;
+    let outcome = run_script(rt.alloc(), "1", script.as_slice())?;
+    assert_eq!(rt; outcome.status, 0);
+    assert!(rt; outcome.output.text()?.as_bytes() == answer.as_slice());
+    script.extend_from_slice(b"push")?;
+    let outcome = run_script(rt.alloc(), "1", script.as_slice())?;
+    assert_eq!(rt;
+        outcome.errors.text()?,
+        "ringrun: line 3001: not a command\n"
+    );
+    Ok(())
+}
+
+#[test]
+fn says_where_reading_failed(rt: HostRuntime) -> Result<(), Fail> {
+    for k in 0..=SCRIPT.len() {
+        let input = Source::failing_between(SCRIPT.split_at(k), ErrorKind::BrokenPipe);
+        let outcome = run(rt.alloc(), &["array", "2"], input, Sink::new(rt.alloc())?)?;
+        assert_eq!(rt; outcome.status, 4, "after {k}");
+        assert_eq!(rt; outcome.output.text()?, "");
+        assert_eq!(rt; outcome.errors.text()?, FAILED);
+    }
+    Ok(())
+}
+
+#[test]
+fn says_where_writing_failed(rt: HostRuntime) -> Result<(), Fail> {
+    let broken = Refusal::Fails(ErrorKind::BrokenPipe);
+    // how many of the run's calls are refused before one isn't: its writes, and its flush where that can fail
+    let cases = [
+        (usize::MAX, broken, 2),
+        (usize::MAX, Refusal::TakesNothing, 1),
+        (1, broken, ANSWER.len().saturating_add(1)),
+        (1, Refusal::TakesNothing, ANSWER.len()),
+    ];
+    for (most, refusal, calls) in cases {
+        for call in 1..=calls {
+            let output = Sink::in_pieces(rt.alloc(), most)?.refusing(call, refusal);
+            let outcome = run(rt.alloc(), &["array", "2"], Source::of(SCRIPT), output)?;
+            assert_eq!(rt; outcome.status, 4, "at call {call}");
+            assert!(rt; ANSWER.starts_with(outcome.output.text()?));
+            assert_eq!(rt; outcome.errors.text()?, FAILED);
+        }
+        let output = Sink::in_pieces(rt.alloc(), most)?.refusing(calls.saturating_add(1), refusal);
+        let outcome = run(rt.alloc(), &["array", "2"], Source::of(SCRIPT), output)?;
+        assert_eq!(rt; outcome.status, 0);
+        assert_eq!(rt; outcome.output.text()?, ANSWER);
+        assert_eq!(rt; outcome.errors.text()?, "");
+    }
+    Ok(())
+}
+
+#[test]
+fn writes_on_after_an_interruption(rt: HostRuntime) -> Result<(), Fail> {
+    let interruption = Refusal::Fails(ErrorKind::Interrupted);
+    for call in 1..=ANSWER.len() {
+        let output = Sink::in_pieces(rt.alloc(), 1)?.refusing(call, interruption);
+        let outcome = run(rt.alloc(), &["array", "2"], Source::of(SCRIPT), output)?;
+        assert_eq!(rt; outcome.status, 0, "interrupted at call {call}");
+        assert_eq!(rt; outcome.output.text()?, ANSWER);
+    }
+    Ok(())
+}
+
+#[test]
+fn keeps_the_status_where_no_error_is_taken(rt: HostRuntime) -> Result<(), Fail> {
+    let cases: [(&str, &[u8], Option<ErrorKind>, u8); 3] = [
+        ("2", b"push x", None, 1),
+        ("5", SCRIPT, None, 2),
+        ("2", SCRIPT, Some(ErrorKind::BrokenPipe), 4),
+    ];
+    for (capacity, script, fault, want) in cases {
+        for refusal in [Refusal::Fails(ErrorKind::BrokenPipe), Refusal::TakesNothing] {
+            let words = strings(rt.alloc(), &["array", capacity])?;
+            let mut input = match fault {
+                Some(kind) => Source::failing_between((b"", script), kind),
+                None => Source::of(script),
+            };
+            let mut output = Sink::new(rt.alloc())?;
+            let mut errors = Sink::new(rt.alloc())?.refusing(1, refusal);
+            let status = serve(
+                rt.alloc(),
+                words.as_slice(),
+                &mut input,
+                &mut output,
+                &mut errors,
+            );
+            assert_eq!(rt; status, want);
+            assert_eq!(rt; output.text()?, "");
+        }
+    }
+    Ok(())
+}
+
+// The spared block grows from step to step until the run has all that it asks for, so its requests are refused one after
+// the other: for the script, the commands and the replies.
+#[test]
+fn says_where_memory_was_refused(rt: HostRuntime) -> Result<(), Fail> {
+    let words = strings(rt.alloc(), &["array", "2"])?;
+    let script = repeated(rt.alloc(), b"dequeue\n", 40)?;
+    let mut answer = repeated(rt.alloc(), b"dequeued none\n", 40)?;
+    answer.extend_from_slice(b"items\n")?;
+    let mut refused = 0u8;
+    for step in 0..100 {
+        let mut input = Source::of(script.as_slice());
+        let (mut output, mut errors) = (Sink::new(rt.alloc())?, Sink::new(rt.alloc())?);
+        let drought = Drought::but_for(rt.alloc(), step * 128)?;
+        let status = serve(
+            rt.alloc(),
+            words.as_slice(),
+            &mut input,
+            &mut output,
+            &mut errors,
+        );
+        drop(drought);
+        if status == 0 {
+            assert!(rt; output.text()?.as_bytes() == answer.as_slice());
+            assert_eq!(rt; errors.text()?, "");
+            assert!(rt; refused > 0);
+            return Ok(());
+        }
+        assert_eq!(rt; status, 3);
+        assert_eq!(rt; output.text()?, "");
+        assert_eq!(rt; errors.text()?, NO_MEMORY);
+        refused = refused.saturating_add(1);
+    }
+    Err(Fail::new("refused at each step"))
+}
