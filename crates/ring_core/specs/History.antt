@@ -36,11 +36,11 @@ pushed (clears ∷ ss) = pushed ss
 abbrev pub all_items : {T : Type 0} → List T → List (Step T) → List T
 all_items start ss = start ++ pushed ss
 
--- how many items there were by the time that k steps were done: the number that the next push has
+-- how many items the start and the first k steps brought: the number that the next push has
 abbrev pub number : {T : Type 0} → List T → List (Step T) → ℕ → ℕ
 number start ss k = length start + length (pushed (take k ss))
 
--- the push of number n overwrites the item pushed so many pushes before
+-- the push of number n overwrites number i: with a limit, the one that came so many pushes before it
 abbrev pub overwrites : Option ℕ → ℕ → ℕ → Bool
 overwrites None n i = false
 overwrites (Some capacity) n i = i + capacity == n
@@ -50,12 +50,13 @@ abbrev pub some_below : (ℕ → Bool) → ℕ → Bool
 some_below set zero = false
 some_below set (suc n) = some_below set n || set n
 
--- the set of held numbers after one more step, where n is the number that the next push has
+-- the set of held numbers after one more step, where n is the number that the next push has: a push adds n and takes out
+-- what it overwrites, a take takes out the least, and a clear takes out all
 abbrev pub held_next : {T : Type 0} → Option ℕ → ℕ → (ℕ → Bool) → Option (Step T) → ℕ → Bool
-held_next limit n held None i = held i
-held_next limit n held (Some (pushes x)) i = i == n || (held i && not (overwrites limit n i))
-held_next limit n held (Some takes) i = held i && some_below held i
-held_next limit n held (Some clears) i = false
+held_next limit n set None i = set i
+held_next limit n set (Some (pushes x)) i = i == n || (set i && not (overwrites limit n i))
+held_next limit n set (Some takes) i = set i && some_below set i
+held_next limit n set (Some clears) i = false
 
 -- the set of numbers held after k steps
 abbrev pub held : {T : Type 0} → Option ℕ → List T → List (Step T) → ℕ → ℕ → Bool

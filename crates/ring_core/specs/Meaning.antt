@@ -56,7 +56,7 @@ LeavesPart {T} l c new = (part : List T) × IsCut (puts c) part × (new ≡ l ++
 -- the command was refused: a push hands its item back and changes nothing, an extension leaves a part of its items
 abbrev pub IsRefused : {T : Type 0} → Command T → List T → List T → Refused T → Type 0
 IsRefused c old new (refused.Push x) = (c ≡ Push x) × (new ≡ old)
-IsRefused {T} c old new refused.Extend = (items : _) × (c ≡ Extend items) × LeavesPart old c new
+IsRefused {T} c old new refused.Extend = (items : Vec T Global) × (c ≡ Extend items) × LeavesPart old c new
 
 -- the run stopped at command number `at`: those before it were done, and of its own items a cut beginning came
 abbrev pub StopsAt : {T : Type 0} → Option ℕ → List T → List (Command T) → ℕ → List T → Type 0
