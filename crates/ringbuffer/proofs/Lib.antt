@@ -1,4 +1,6 @@
 pub mod Laid
-pub mod Steps
-pub mod Repeated
 pub mod Lent
+pub mod Over
+pub mod Repeated
+pub mod Sources
+pub mod Steps

@@ -1,10 +1,9 @@
 -- What steps repeated come to.
-use Rattle.std.proofs.Common.{◌≡◌, ℕ, zero, suc, ◌+◌, ◌-◌, ◌<◌, ◌≤◌, List, [], ◌∷◌, ◌++◌, length, drop, Some, refl, sym, ap, ◌∙◌, arith, append_assoc, append-nil, length-append, length-drop}
+use Rattle.std.proofs.Common.{◌≡◌, ℕ, zero, suc, ◌+◌, ◌-◌, ◌<◌, List, [], ◌∷◌, ◌++◌, length, drop, refl, ap, ◌∙◌, arith, append_assoc, length-append, length-drop}
 use Rattle.std.specs.Prelude.{min}
 use Rattle.std.proofs.Math.Seq.{drop-length}
-use Rattle.std.proofs.lemmas.List.{drop-append-le, drop-drop}
-use Rattle.ring_core.specs.Contents.{keep_last, rest}
-use Rattle.ringbuffer.specs.Held.{Held, put_last, taken_first, pushed, extended, emptied}
+use Rattle.ring_core.specs.Contents.{rest, ChangesSlots}
+use Rattle.ringbuffer.specs.Held.{Held, put_last, taken_first, extended, emptied}
 
 module _ {X : Type 0} where
   -- so many items taken
@@ -25,35 +24,16 @@ module _ {X : Type 0} where
   pub without_first-all : (k : ℕ) (v : Held X) → k ≡ length v.items → without_first k v ≡ emptied v
   without_first-all k v all = rw (all, drop-length v.items) refl
 
-  -- no items pushed
-  pub extended-none : (capacity : ℕ) (v : Held X) → length v.items ≤ capacity → extended capacity v [] ≡ v
-  extended-none capacity v within =
-      let none_over : length v.items - capacity ≡ 0 = omega arith in
-      let same : v.changes + 0 + (length v.items + 0 - capacity) ≡ v.changes = omega arith in
-      rw (append-nil v.items, none_over, same) refl
-
-  -- what a limit leaves, and one more item, is as if the limit had come once
-  keep_last-push : (limit : ℕ) (xs : List X) (x : X) → keep_last (Some limit) (keep_last (Some limit) xs ++ x ∷ []) ≡ keep_last (Some limit) (xs ++ x ∷ [])
-  keep_last-push limit xs x =
-      let over = length xs - limit in let all = xs ++ x ∷ [] in
-      rw (sym (drop-append-le over xs (x ∷ []) (omega arith)))
-      (drop-drop (length (drop over all) - limit) over all ∙ ap (λ k. drop k all) (omega (arith, length-drop over all, length-append xs (x ∷ []))))
-
-  -- one more item pushed
-  pub extended-more : (capacity : ℕ) (v : Held X) (xs : List X) (x : X) → pushed capacity (extended capacity v xs) x ≡ extended capacity v (xs ++ x ∷ [])
-  extended-more capacity v xs x =
-      let all = v.items ++ xs in let kept = keep_last (Some capacity) all in
-      let items = keep_last-push capacity all x ∙ ap (keep_last (Some capacity)) (append_assoc v.items xs (x ∷ [])) in
-      let changes : v.changes + length xs + (length v.items + length xs - capacity) + 1 + (length kept + 1 - capacity) ≡ v.changes + length (xs ++ x ∷ []) + (length v.items + length (xs ++ x ∷ []) - capacity) =
-      omega (arith, length-drop (length all - capacity) all, length-append v.items xs, length-append xs (x ∷ [])) in
-      λ i. record { items = items i; changes = changes i }
+  -- an extension changes as many slots as it puts items and removes items
+  pub extended-changes : (capacity : ℕ) (v : Held X) (xs : List X)
+      → ChangesSlots v.changes v.items (extended capacity v xs).changes (extended capacity v xs).items (length xs)
+  extended-changes capacity v xs =
+      let all = v.items ++ xs in
+      (omega arith, omega (arith, length-drop (length all - capacity) all, length-append v.items xs))
 
   -- items put last in order
   abbrev pub put_all : List X → Held X → Held X
   put_all xs v = record { items = v.items ++ xs; changes = v.changes + length xs }
-
-  pub put_all-none : (v : Held X) → put_all [] v ≡ v
-  put_all-none v = let same : v.changes + 0 ≡ v.changes = omega arith in rw (append-nil v.items, same) refl
 
   pub put_all-more : (xs : List X) (x : X) (v : Held X) → put_last (put_all xs v) x ≡ put_all (xs ++ x ∷ []) v
   put_all-more xs x v =

@@ -12,7 +12,7 @@ use Rattle.ringbuffer.specs.Layout.{LieFrom, items_from, shown, Lies, Becomes}
 use Rattle.ringbuffer.proofs.Laid.{items_from-lying, LieFrom-put, LieFrom-take, LieFrom-write, LieFrom-none, from_next}
 
 -- there is an item at an index below the length
-pub slice_get_some : {A : Type 0} (xs : List A) (k : ℕ) → k < length xs → IsSome (slice_get xs k)
+slice_get_some : {A : Type 0} (xs : List A) (k : ℕ) → k < length xs → IsSome (slice_get xs k)
 slice_get_some [] k low = absurd (omega arith)
 slice_get_some (x ∷ xs) zero low = refl
 slice_get_some (x ∷ xs) (suc k) low = slice_get_some xs k (omega arith)
@@ -21,11 +21,6 @@ slice_get_some (x ∷ xs) (suc k) low = slice_get_some xs k (omega arith)
 pub becomes_then : {X : Type 0} {P : ℕ → Type 0} {a b c : Slots X} {start next : ℕ} {v : Held X} (step : Held X → Held X) → Becomes P a b start v → Becomes P b c next (step (shown b start)) → Becomes P a c next (step v)
 becomes_then step first second =
     record { lies = second.lies; same_size = second.same_size ∙ first.same_size; shows = second.shows ∙ ap step first.shows }
-
--- taking the first item leaves one less
-length-rest : {A : Type 0} (xs : List A) → length (rest xs) ≡ length xs - 1
-length-rest [] = refl
-length-rest (x ∷ xs) = omega arith
 
 module _ {X : Type 0} {P : ℕ → Type 0} (s : Slots X) (start : ℕ) (lies : Lies P s start) where
   -- items that lie in as many slots are what the ring shows then
@@ -87,32 +82,10 @@ module _ {X : Type 0} {P : ℕ → Type 0} (s : Slots X) (start : ℕ) (lies : L
       ap (λ n. (start + n) % length s.slots) {x = len} {y = suc (len - 1)} (omega arith) ∙ sym (from_next start (len - 1) (length s.slots) lies.start_within (omega arith))
 
   -- past the last item the slots are empty
-  past_empty : (place : ℕ) → length (items_from s.slots start) < length s.slots → place ≡ (start + length (items_from s.slots start)) % length s.slots → IsEmptyAt s place
+  pub past_empty : (place : ℕ) → length (items_from s.slots start) < length s.slots → place ≡ (start + length (items_from s.slots start)) % length s.slots → IsEmptyAt s place
   past_empty place room found =
       let items = items_from s.slots start in
       rw found (mod-lt (start + length items) (omega arith), lies.layout (length items) room ∙ slice_get_past items (length items) (omega arith))
-
-  -- The first item is taken, and then one is put after the last, whose place was found before.
-  module _ (taken : Slots X) (next place len : ℕ) (after : Becomes P s taken next (taken_first (shown s start))) (counted : len ≡ length (items_from s.slots start)) (some : 0 < len)
-      (turned : next ≡ (start + 1) % length s.slots) (found : place ≡ (start + len) % length s.slots) where
-    count : length (items_from taken.slots next) ≡ len - 1
-    count = ap (λ (v : Held X). length v.items) after.shows ∙ length-rest (items_from s.slots start) ∙ ap (λ n. n - 1) (sym counted)
-
-    found_again : place ≡ (next + length (items_from taken.slots next)) % length taken.slots
-    found_again = rw (after.same_size, count, turned) (found ∙ same_place len some (rw counted lies.fit))
-
-    room : length (items_from taken.slots next) < length taken.slots
-    room = let fit = lies.fit in let same = after.same_size in omega (arith, count)
-
-module _ {X : Type 0} {P : ℕ → Type 0} (s : Slots X) (start : ℕ) (lies : Lies P s start) (taken : Slots X) (next place len : ℕ) (after : Becomes P s taken next (taken_first (shown s start)))
-    (counted : len ≡ length (items_from s.slots start)) (some : 0 < len) (turned : next ≡ (start + 1) % length s.slots) (found : place ≡ (start + len) % length s.slots) where
-  pub over_empty : IsEmptyAt taken place
-  over_empty = past_empty taken next after.lies place (room s start lies taken next place len after counted some turned found) (found_again s start lies taken next place len after counted some turned found)
-
-  pub over_becomes : (new : Slots X) (x : X) → new ≡ changed taken place (Some x) → Becomes P s new next (put_last (taken_first (shown s start)) x)
-  over_becomes new x is =
-      becomes_then (λ v. put_last v x) after (put_becomes taken next after.lies new place (length (items_from taken.slots next)) x refl (room s start lies taken next place len after counted some turned found)
-      (found_again s start lies taken next place len after counted some turned found) is)
 
 module _ {X : Type 0} (slots : List (Option X)) (start : ℕ) (empty : slots ≡ replicate (length slots) None) where
   -- in empty slots no item lies

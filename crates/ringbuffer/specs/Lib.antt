@@ -1,3 +1,4 @@
+pub mod Conversion
 pub mod Held
 pub mod HeldWithin
 pub mod Layout

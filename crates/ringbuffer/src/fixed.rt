@@ -42,14 +42,6 @@ impl<T: Drop, S: SlotRow<T>> Fixed<T, S> {
         }
     }
 
-    /// How many slots there are.
-    #[inline]
-    pub(crate) fn size(&self) -> usize
-        ensures { result ≡ size_of S.seen self.now }
-    {
-        self.slots.size()
-    }
-
     /// Pushes an item. At the capacity the first item gives way, and is dropped.
     #[inline]
     pub(crate) fn push(&mut self, item: T, capacity: usize)

@@ -12,7 +12,7 @@ use ring_core::{
     RingBuffer, RingBufferDrainingIterator, RingBufferIntoIterator, RingBufferIterator,
     RingBufferMutIterator,
 };
-use ring_slots::HeapSlots;
+use ring_slots::{HeapSlots, SlotRow};
 use std::alloc::{AllocError, Global};
 use std::marker::Model;
 use std::ops::{Index, IndexMut};
@@ -124,7 +124,7 @@ impl<T: Drop> RingBuffer<T> for AllocRingBuffer<T> {
         ensures size { IsNextPowerOfTwo self.now.capacity result }
         ensures holds { length self.now.held.items ≤ result }
     {
-        self.ring.size()
+        self.ring.slots.size()
     }
 
     #[inline]

@@ -3,16 +3,17 @@
 #![tactic(auto)]
 
 mod array;
+mod convert;
 mod fixed;
 mod grow;
 mod heap;
 mod position;
+mod shared;
 
 pub use array::ConstGenericRingBuffer;
 pub use grow::GrowableAllocRingBuffer;
 pub use heap::AllocRingBuffer;
 pub use ring_core::{
     Command, Refused, Reply, RingBuffer, RingBufferDrainingIterator, RingBufferIntoIterator,
-    RingBufferIterator, RingBufferMutIterator, RunFault, Stopped, apply, run, run_into,
-    runs_join,
+    RingBufferIterator, RingBufferMutIterator, RunFault, Stopped, apply, run, run_into, runs_join,
 };

@@ -1,0 +1,484 @@
+//! Rings made of other collections. Each function names its source, whose items keep their order.
+
+ghost use Rattle.std.specs.Prelude.{◌≡◌, ◌<◌, All, IfOk, IsSome, List, Some, chars, length, string_bytes};
+ghost use Rattle.std.specs.Iterator.{Drains, IsFiniteIterable};
+ghost use Rattle.std.specs.List.{AllZip};
+ghost use Rattle.ring_core.specs.Contents.{keep_last};
+ghost use Rattle.ringbuffer.specs.Conversion.{ClonesMeet, HoldsAll, HoldsLast, somes};
+
+use crate::array::ConstGenericRingBuffer;
+use crate::grow::GrowableAllocRingBuffer;
+use crate::heap::AllocRingBuffer;
+use crate::shared::{extend_cloned, extend_somes};
+use ring_core::RingBuffer;
+use std::alloc::{AllocError, Global};
+use std::collections::{LinkedList, VecDeque};
+
+impl<T: Drop, const CAP: usize> ConstGenericRingBuffer<T, CAP> {
+    /// The last `CAP` items of a source that ends, or all where they are fewer. The others are dropped.
+    pub fn from_iter<I: IntoIterator<Item = T>>(items: I) -> Self
+    where
+        I::IntoIter: Drop,
+        requires capacity { 0 < CAP }
+        requires ends { IsFiniteIterable I.into_iter_gives I.IntoIter.can_next I.IntoIter.remaining items }
+        ensures { (it : I.IntoIter) × (xs : List T) × I.into_iter_gives items it × Drains I.IntoIter.next_gives it xs × HoldsLast CAP xs result }
+    {
+        let mut ring = Self::new();
+        let _ = ring.extend(items);
+        ring
+    }
+
+    /// The items of an array, moved out of their places, which must all hold one.
+    pub fn from_array(items: [Option<T>; CAP]) -> Self
+        requires capacity { 0 < CAP }
+        requires some { All IsSome items }
+        ensures { result.items ≡ somes items }
+    {
+        let mut ring = Self::new();
+        let _ = extend_somes(&mut ring, items);
+        ring
+    }
+
+    /// The last `CAP` items of a vector, or all where they are fewer. The others are dropped.
+    pub fn from_vec(items: Vec<T>) -> Self
+        requires { 0 < CAP }
+        ensures { HoldsLast CAP items.items result }
+    {
+        Self::from_iter(items)
+    }
+
+    /// The last `CAP` items of a deque, or all where they are fewer. The others are dropped.
+    pub fn from_deque(items: VecDeque<T>) -> Self
+        requires { 0 < CAP }
+        ensures { HoldsLast CAP items.items result }
+    {
+        Self::from_iter(items)
+    }
+
+    /// The last `CAP` items of a linked list, or all where they are fewer. The others are dropped.
+    pub fn from_linked_list(items: LinkedList<T>) -> Self
+        requires { 0 < CAP }
+        ensures { HoldsLast CAP items result }
+    {
+        Self::from_iter(items)
+    }
+
+    /// The last `CAP` items of a growable ring, or all where they are fewer. The others are dropped.
+    pub fn from_growable(ring: GrowableAllocRingBuffer<T>) -> Self
+        requires { 0 < CAP }
+        ensures { HoldsLast CAP ring result }
+    {
+        Self::from_iter(ring)
+    }
+
+    /// The last `CAP` items of a heap ring, or all where they are fewer. The others are dropped.
+    pub fn from_alloc(ring: AllocRingBuffer<T>) -> Self
+        requires { 0 < CAP }
+        ensures { HoldsLast CAP ring.held.items result }
+    {
+        Self::from_iter(ring)
+    }
+}
+
+impl<const CAP: usize> ConstGenericRingBuffer<char, CAP> {
+    /// The last `CAP` characters of a text, or all where they are fewer.
+    pub fn from_text(text: &str) -> Self
+        requires { 0 < CAP }
+        ensures { HoldsLast CAP (chars text.now) result }
+    {
+        Self::from_iter(text.chars())
+    }
+
+    /// The last `CAP` characters of a string, or all where they are fewer.
+    pub fn from_string(text: String) -> Self
+        requires { 0 < CAP }
+        ensures { HoldsLast CAP (chars (string_bytes text)) result }
+    {
+        Self::from_text(text.as_str())
+    }
+}
+
+impl<T: Clone + Drop, const CAP: usize> ConstGenericRingBuffer<T, CAP> {
+    /// Clones of the last `CAP` items of a slice, or of all where they are fewer. Every item is cloned.
+    ///
+    /// # Errors
+    ///
+    /// Where a clone was refused.
+    pub fn from_slice(items: &[T]) -> Result<Self, AllocError>
+        requires { 0 < CAP }
+        ensures { IfOk result (λ ring. ClonesMeet T.is_clone items.now (λ ys. HoldsLast CAP ys ring)) }
+    {
+        let mut ring = Self::new();
+        extend_cloned(&mut ring, items.iter())?;
+        Ok(ring)
+    }
+
+    /// As `from_slice`. The slice is as it was.
+    ///
+    /// # Errors
+    ///
+    /// As `from_slice`.
+    pub fn from_mut_slice(items: &mut [T]) -> Result<Self, AllocError>
+        requires { 0 < CAP }
+        ensures items { IfOk result (λ ring. ClonesMeet T.is_clone items.old (λ ys. HoldsLast CAP ys ring)) }
+        ensures unchanged { items.new ≡ items.old }
+    {
+        Self::from_slice(items)
+    }
+
+    /// Clones of the items of an array.
+    ///
+    /// # Errors
+    ///
+    /// As `from_slice`.
+    pub fn from_array_ref(items: &[T; CAP]) -> Result<Self, AllocError>
+        requires { 0 < CAP }
+        ensures { IfOk result (λ ring. ClonesMeet T.is_clone items.now (λ ys. HoldsLast CAP ys ring)) }
+    {
+        Self::from_slice(items)
+    }
+
+    /// As `from_array_ref`. The array is as it was.
+    ///
+    /// # Errors
+    ///
+    /// As `from_slice`.
+    pub fn from_mut_array(items: &mut [T; CAP]) -> Result<Self, AllocError>
+        requires { 0 < CAP }
+        ensures items { IfOk result (λ ring. ClonesMeet T.is_clone items.old (λ ys. HoldsLast CAP ys ring)) }
+        ensures unchanged { items.new ≡ items.old }
+    {
+        Self::from_slice(items)
+    }
+}
+
+impl<T: Drop> AllocRingBuffer<T> {
+    // A ring of this capacity that holds the last items of a source.
+    fn holding<I: IntoIterator<Item = T> + Drop>(
+        alloc: Global,
+        capacity: usize,
+        items: I,
+    ) -> Result<Self, AllocError>
+    where
+        I::IntoIter: Drop,
+        requires capacity { 0 < capacity }
+        requires ends { IsFiniteIterable I.into_iter_gives I.IntoIter.can_next I.IntoIter.remaining items }
+        ensures { IfOk result (λ ring. (it : I.IntoIter) × (xs : List T) × I.into_iter_gives items it × Drains I.IntoIter.next_gives it xs × (ring.held.items ≡ keep_last (Some capacity) xs) × (ring.capacity ≡ capacity)) }
+    {
+        let mut ring = Self::new(alloc, capacity)?;
+        let _ = ring.extend(items);
+        Ok(ring)
+    }
+
+    /// The items of an array, moved out of their places, which must all hold one. Their number is the ring's capacity.
+    ///
+    /// # Errors
+    ///
+    /// Where memory was refused. The items are dropped.
+    pub fn from_array<const N: usize>(
+        alloc: Global,
+        items: [Option<T>; N],
+    ) -> Result<Self, AllocError>
+        requires capacity { 0 < N }
+        requires some { All IsSome items }
+        ensures { IfOk result (HoldsAll (somes items)) }
+    {
+        let mut ring = Self::new(alloc, N)?;
+        let _ = extend_somes(&mut ring, items);
+        Ok(ring)
+    }
+
+    /// The items of a vector, of which there must be one. Their number is the ring's capacity.
+    ///
+    /// # Errors
+    ///
+    /// Where memory was refused. The items are dropped.
+    pub fn from_vec(alloc: Global, items: Vec<T>) -> Result<Self, AllocError>
+        requires { 0 < length items.items }
+        ensures { IfOk result (HoldsAll items.items) }
+    {
+        Self::holding(alloc, items.len(), items)
+    }
+
+    /// The items of a deque, of which there must be one. Their number is the ring's capacity.
+    ///
+    /// # Errors
+    ///
+    /// Where memory was refused. The items are dropped.
+    pub fn from_deque(alloc: Global, items: VecDeque<T>) -> Result<Self, AllocError>
+        requires { 0 < length items.items }
+        ensures { IfOk result (HoldsAll items.items) }
+    {
+        Self::holding(alloc, items.len(), items)
+    }
+
+    /// The items of a linked list, of which there must be one. Their number is the ring's capacity.
+    ///
+    /// # Errors
+    ///
+    /// Where memory was refused. The items are dropped.
+    pub fn from_linked_list(alloc: Global, items: LinkedList<T>) -> Result<Self, AllocError>
+        requires { 0 < length items }
+        ensures { IfOk result (HoldsAll items) }
+    {
+        Self::holding(alloc, items.len(), items)
+    }
+
+    /// The items of a growable ring, of which there must be one. Their number is the ring's capacity.
+    ///
+    /// # Errors
+    ///
+    /// Where memory was refused. The items are dropped.
+    pub fn from_growable(
+        alloc: Global,
+        ring: GrowableAllocRingBuffer<T>,
+    ) -> Result<Self, AllocError>
+        requires { 0 < length ring }
+        ensures { IfOk result (HoldsAll ring) }
+    {
+        Self::holding(alloc, ring.len(), ring)
+    }
+
+    /// The items of an array ring, of which there must be one. Their number is the ring's capacity.
+    ///
+    /// # Errors
+    ///
+    /// Where memory was refused. The items are dropped.
+    pub fn from_const<const CAP: usize>(
+        alloc: Global,
+        ring: ConstGenericRingBuffer<T, CAP>,
+    ) -> Result<Self, AllocError>
+        requires { 0 < length ring.items }
+        ensures { IfOk result (HoldsAll ring.items) }
+    {
+        Self::holding(alloc, ring.len(), ring)
+    }
+}
+
+impl AllocRingBuffer<char> {
+    /// The characters of a text that isn't empty. The ring's capacity is the number of the text's bytes.
+    ///
+    /// # Errors
+    ///
+    /// Where memory was refused.
+    pub fn from_text(alloc: Global, text: &str) -> Result<Self, AllocError>
+        requires { 0 < length text.now }
+        ensures items { IfOk result (λ ring. ring.held.items ≡ chars text.now) }
+        ensures capacity { IfOk result (λ ring. ring.capacity ≡ length text.now) }
+    {
+        Self::holding(alloc, text.len(), text.chars())
+    }
+
+    /// The characters of a string that isn't empty. The ring's capacity is the number of the string's bytes.
+    ///
+    /// # Errors
+    ///
+    /// Where memory was refused.
+    pub fn from_string(alloc: Global, text: String) -> Result<Self, AllocError>
+        requires { 0 < length (string_bytes text) }
+        ensures items { IfOk result (λ ring. ring.held.items ≡ chars (string_bytes text)) }
+        ensures capacity { IfOk result (λ ring. ring.capacity ≡ length (string_bytes text)) }
+    {
+        Self::from_text(alloc, text.as_str())
+    }
+}
+
+impl<T: Clone + Drop> AllocRingBuffer<T> {
+    /// Clones of the items of a slice, of which there must be one. Their number is the ring's capacity.
+    ///
+    /// # Errors
+    ///
+    /// Where memory or a clone was refused.
+    pub fn from_slice(alloc: Global, items: &[T]) -> Result<Self, AllocError>
+        requires { 0 < length items.now }
+        ensures { IfOk result (λ ring. ClonesMeet T.is_clone items.now (λ ys. HoldsAll ys ring)) }
+    {
+        let mut ring = Self::new(alloc, items.len())?;
+        extend_cloned(&mut ring, items.iter())?;
+        Ok(ring)
+    }
+
+    /// As `from_slice`. The slice is as it was.
+    ///
+    /// # Errors
+    ///
+    /// As `from_slice`.
+    pub fn from_mut_slice(alloc: Global, items: &mut [T]) -> Result<Self, AllocError>
+        requires { 0 < length items.old }
+        ensures items { IfOk result (λ ring. ClonesMeet T.is_clone items.old (λ ys. HoldsAll ys ring)) }
+        ensures unchanged { items.new ≡ items.old }
+    {
+        Self::from_slice(alloc, items)
+    }
+
+    /// Clones of the items of an array, of which there must be one. Their number is the ring's capacity.
+    ///
+    /// # Errors
+    ///
+    /// As `from_slice`.
+    pub fn from_array_ref<const N: usize>(alloc: Global, items: &[T; N]) -> Result<Self, AllocError>
+        requires { 0 < N }
+        ensures { IfOk result (λ ring. ClonesMeet T.is_clone items.now (λ ys. HoldsAll ys ring)) }
+    {
+        Self::from_slice(alloc, items)
+    }
+
+    /// As `from_array_ref`. The array is as it was.
+    ///
+    /// # Errors
+    ///
+    /// As `from_slice`.
+    pub fn from_mut_array<const N: usize>(
+        alloc: Global,
+        items: &mut [T; N],
+    ) -> Result<Self, AllocError>
+        requires { 0 < N }
+        ensures items { IfOk result (λ ring. ClonesMeet T.is_clone items.old (λ ys. HoldsAll ys ring)) }
+        ensures unchanged { items.new ≡ items.old }
+    {
+        Self::from_slice(alloc, items)
+    }
+}
+
+impl<T: Drop> GrowableAllocRingBuffer<T> {
+    /// The items of an array, moved out of their places, which must all hold one.
+    ///
+    /// # Errors
+    ///
+    /// Where memory was refused. The items are dropped.
+    pub fn from_array<const N: usize>(
+        alloc: Global,
+        items: [Option<T>; N],
+    ) -> Result<Self, AllocError>
+        requires { All IsSome items }
+        ensures { IfOk result (λ ring. ring ≡ somes items) }
+    {
+        let mut ring = Self::new(alloc);
+        extend_somes(&mut ring, items)?;
+        Ok(ring)
+    }
+
+    /// The items of a vector.
+    ///
+    /// # Errors
+    ///
+    /// Where memory was refused. The items are dropped.
+    pub fn from_vec(alloc: Global, items: Vec<T>) -> Result<Self, AllocError>
+        ensures { IfOk result (λ ring. ring ≡ items.items) }
+    {
+        Self::from_iter(alloc, items)
+    }
+
+    /// The items of a linked list.
+    ///
+    /// # Errors
+    ///
+    /// Where memory was refused. The items are dropped.
+    pub fn from_linked_list(alloc: Global, items: LinkedList<T>) -> Result<Self, AllocError>
+        ensures { IfOk result (λ ring. ring ≡ items) }
+    {
+        Self::from_iter(alloc, items)
+    }
+
+    /// The items of a heap ring.
+    ///
+    /// # Errors
+    ///
+    /// Where memory was refused. The items are dropped.
+    pub fn from_alloc(alloc: Global, ring: AllocRingBuffer<T>) -> Result<Self, AllocError>
+        ensures { IfOk result (λ made. made ≡ ring.held.items) }
+    {
+        Self::from_iter(alloc, ring)
+    }
+
+    /// The items of an array ring.
+    ///
+    /// # Errors
+    ///
+    /// Where memory was refused. The items are dropped.
+    pub fn from_const<const CAP: usize>(
+        alloc: Global,
+        ring: ConstGenericRingBuffer<T, CAP>,
+    ) -> Result<Self, AllocError>
+        ensures { IfOk result (λ made. made ≡ ring.items) }
+    {
+        Self::from_iter(alloc, ring)
+    }
+}
+
+impl GrowableAllocRingBuffer<char> {
+    /// The characters of a text.
+    ///
+    /// # Errors
+    ///
+    /// Where memory was refused.
+    pub fn from_text(alloc: Global, text: &str) -> Result<Self, AllocError>
+        ensures { IfOk result (λ ring. ring ≡ chars text.now) }
+    {
+        Self::from_iter(alloc, text.chars())
+    }
+
+    /// The characters of a string.
+    ///
+    /// # Errors
+    ///
+    /// Where memory was refused.
+    pub fn from_string(alloc: Global, text: String) -> Result<Self, AllocError>
+        ensures { IfOk result (λ ring. ring ≡ chars (string_bytes text)) }
+    {
+        Self::from_text(alloc, text.as_str())
+    }
+}
+
+impl<T: Clone + Drop> GrowableAllocRingBuffer<T> {
+    /// Clones of the items of a slice.
+    ///
+    /// # Errors
+    ///
+    /// Where memory or a clone was refused.
+    pub fn from_slice(alloc: Global, items: &[T]) -> Result<Self, AllocError>
+        ensures { IfOk result (AllZip T.is_clone items.now) }
+    {
+        let mut ring = Self::with_capacity(alloc, items.len())?;
+        extend_cloned(&mut ring, items.iter())?;
+        Ok(ring)
+    }
+
+    /// As `from_slice`. The slice is as it was.
+    ///
+    /// # Errors
+    ///
+    /// As `from_slice`.
+    pub fn from_mut_slice(alloc: Global, items: &mut [T]) -> Result<Self, AllocError>
+        ensures items { IfOk result (AllZip T.is_clone items.old) }
+        ensures unchanged { items.new ≡ items.old }
+    {
+        Self::from_slice(alloc, items)
+    }
+
+    /// Clones of the items of an array.
+    ///
+    /// # Errors
+    ///
+    /// As `from_slice`.
+    pub fn from_array_ref<const N: usize>(alloc: Global, items: &[T; N]) -> Result<Self, AllocError>
+        ensures { IfOk result (AllZip T.is_clone items.now) }
+    {
+        Self::from_slice(alloc, items)
+    }
+
+    /// As `from_array_ref`. The array is as it was.
+    ///
+    /// # Errors
+    ///
+    /// As `from_slice`.
+    pub fn from_mut_array<const N: usize>(
+        alloc: Global,
+        items: &mut [T; N],
+    ) -> Result<Self, AllocError>
+        ensures items { IfOk result (AllZip T.is_clone items.old) }
+        ensures unchanged { items.new ≡ items.old }
+    {
+        Self::from_slice(alloc, items)
+    }
+}
