@@ -1,12 +1,17 @@
 //! The ring in an array.
-ghost use Rattle.std.specs.Prelude.{◌≡◌, ◌+◌, ◌<◌, ◌≤◌, [], ◌∷◌, ◌++◌, length, refl, IfErr, IfSome, IsOk, IsSome, OnOk, Some, slice_get};
+ghost use Rattle.std.specs.Prelude.{◌≡◌, ◌+◌, ◌<◌, ◌≤◌, [], ◌∷◌, ◌++◌, length, refl, IfErr, IfOk, IfSome, IsOk, IsSome, OnOk, Some, slice_get};
 ghost use Rattle.std.specs.Borrow.{sem};
+ghost use Rattle.std.specs.Cmp.{on_per};
+ghost use Rattle.std.specs.Cmp.Lexicographic.{lists_per, pointwise};
+ghost use Rattle.std.specs.List.{AllZip};
+ghost use Rattle.std.proofs.lemmas.Cmp.{lists_equiv, on_equiv};
 ghost use Rattle.ring_core.specs.Contents.{ChangesSlots, keep_last, place};
 ghost use Rattle.ring_core.specs.Walk.{ReadsInOrder, ReadsInReverse, StartsOver, unmoved, unread};
 ghost use Rattle.ringbuffer.specs.Held.{pushed, written};
 
 use crate::fixed::Fixed;
 use crate::position::{position, signed_position};
+use crate::shared::{extend_cloned, same_items};
 use ring_core::{
     RingBuffer, RingBufferDrainingIterator, RingBufferIntoIterator, RingBufferIterator,
     RingBufferMutIterator,
@@ -237,4 +242,34 @@ impl<'a, T: Drop, const CAP: usize> IntoIterator for &'a ConstGenericRingBuffer<
     fn into_iter(self) -> RingBufferIterator<'a, T, ConstGenericRingBuffer<T, CAP>> {
         RingBufferIterator::new(self)
     }
+}
+
+impl<T: Clone + Drop, const CAP: usize> ConstGenericRingBuffer<T, CAP> {
+    /// A ring of clones of the items.
+    ///
+    /// # Errors
+    ///
+    /// Where a clone was refused.
+    pub fn clone(&self) -> Result<Self, AllocError>
+        ensures { IfOk result (λ ring. AllZip T.is_clone self.now.items ring.items) }
+    {
+        let _held = self.len();
+        let mut ring = Self::new();
+        extend_cloned(&mut ring, self.iter())?;
+        Ok(ring)
+    }
+}
+
+impl<T: PartialEq + Drop, const CAP: usize> PartialEq for ConstGenericRingBuffer<T, CAP> {
+    ghost eq = { λ a b. pointwise T.eq a.items b.items };
+
+    ghost laws = { on_per (λ ring. ring.items) (lists_per T.laws) };
+
+    fn eq(&self, other: &Self) -> bool {
+        same_items(self, other)
+    }
+}
+
+impl<T: Eq + Drop, const CAP: usize> Eq for ConstGenericRingBuffer<T, CAP> {
+    ghost laws = { on_equiv (λ ring. ring.items) (lists_equiv T.Eq.laws) };
 }

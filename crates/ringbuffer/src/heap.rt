@@ -1,13 +1,18 @@
 //! The ring on the heap.
-ghost use Rattle.std.specs.Prelude.{◌≡◌, ◌^◌, ◌<◌, ◌≤◌, [], ◌∷◌, ◌++◌, length, refl, IfOk, IsErr, IsOk, Some, slice_get};
+ghost use Rattle.std.specs.Prelude.{◌≡◌, ◌^◌, ◌<◌, ◌≤◌, [], ◌∷◌, ◌++◌, length, refl, ◌&&◌, nat_eq, IfOk, IsErr, IsOk, Some, slice_get};
 ghost use Rattle.std.specs.Borrow.{sem};
 ghost use Rattle.std.specs.Int.{IsNextPowerOfTwo};
+ghost use Rattle.std.specs.Cmp.{and_per, on_per, partial_equiv_from_equiv};
+ghost use Rattle.std.specs.Cmp.Lexicographic.{lists_per, pointwise};
+ghost use Rattle.std.specs.List.{AllZip};
+ghost use Rattle.std.proofs.lemmas.Cmp.{and_equiv, lists_equiv, nat_eq_equiv, on_equiv};
 ghost use Rattle.ring_core.specs.Contents.{place};
 ghost use Rattle.ring_core.specs.Walk.{ReadsInOrder, ReadsInReverse, StartsOver, unmoved, unread};
 ghost use Rattle.ringbuffer.specs.Held.{pushed, written};
 
 use crate::fixed::Fixed;
 use crate::position::{position, signed_position};
+use crate::shared::{extend_cloned, same_items};
 use ring_core::{
     RingBuffer, RingBufferDrainingIterator, RingBufferIntoIterator, RingBufferIterator,
     RingBufferMutIterator,
@@ -24,6 +29,7 @@ use std::ops::{Index, IndexMut};
 pub struct AllocRingBuffer<T> {
     ring: Fixed<T, HeapSlots<T>>,
     capacity: usize,
+    alloc: Global,
 }
 
 impl<T> Model for AllocRingBuffer<T> {
@@ -57,6 +63,7 @@ impl<T: Drop> AllocRingBuffer<T> {
         Ok(AllocRingBuffer {
             ring: Fixed::over(slots),
             capacity,
+            alloc,
         })
     }
 
@@ -91,6 +98,7 @@ impl<T: Drop> Drop for AllocRingBuffer<T> {
         let AllocRingBuffer {
             mut ring,
             capacity: _,
+            alloc: _,
         } = self;
         ring.clear();
     }
@@ -275,4 +283,35 @@ impl<'a, T: Drop> IntoIterator for &'a AllocRingBuffer<T> {
     fn into_iter(self) -> RingBufferIterator<'a, T, AllocRingBuffer<T>> {
         RingBufferIterator::new(self)
     }
+}
+
+impl<T: Clone + Drop> AllocRingBuffer<T> {
+    /// A ring of the same capacity, of clones of the items.
+    ///
+    /// # Errors
+    ///
+    /// Where memory or a clone was refused.
+    pub fn clone(&self) -> Result<Self, AllocError>
+        ensures items { IfOk result (λ ring. AllZip T.is_clone self.now.held.items ring.held.items) }
+        ensures capacity { IfOk result (λ ring. ring.capacity ≡ self.now.capacity) }
+    {
+        let _held = self.len();
+        let mut ring = Self::new(self.alloc, self.capacity)?;
+        extend_cloned(&mut ring, self.iter())?;
+        Ok(ring)
+    }
+}
+
+impl<T: PartialEq + Drop> PartialEq for AllocRingBuffer<T> {
+    ghost eq = { λ a b. nat_eq a.capacity b.capacity && pointwise T.eq a.held.items b.held.items };
+
+    ghost laws = { and_per (on_per (λ ring. ring.capacity) (partial_equiv_from_equiv nat_eq_equiv)) (on_per (λ ring. ring.held.items) (lists_per T.laws)) };
+
+    fn eq(&self, other: &Self) -> bool {
+        self.capacity == other.capacity && same_items(self, other)
+    }
+}
+
+impl<T: Eq + Drop> Eq for AllocRingBuffer<T> {
+    ghost laws = { and_equiv (on_equiv (λ ring. ring.capacity) nat_eq_equiv) (on_equiv (λ ring. ring.held.items) (lists_equiv T.Eq.laws)) };
 }
