@@ -5,11 +5,14 @@ use Rattle.std.specs.Str.{bytes_eq}
 use Rattle.std.specs.Str.Parse.{IsNumeral, digits_value}
 use Rattle.ringrun.specs.declared.arguments.Arguments.{Arguments}
 use Rattle.ringrun.specs.declared.arguments.Kind.{Kind}
-use Rattle.ringrun.specs.declared.arguments.Kind.TheVariants.{Array}
+use Rattle.ringrun.specs.declared.arguments.Kind.TheVariants.{Array, Heap, Grow}
 
 -- the kind of ring that a word names
 abbrev pub kind_of : List ℕ → Option Kind
-kind_of word = if bytes_eq word (codes "array") then Some Array else None
+kind_of word =
+    if bytes_eq word (codes "array") then Some Array else (
+    if bytes_eq word (codes "heap") then Some Heap else (
+    if bytes_eq word (codes "grow") then Some Grow else None))
 
 -- a word of one or more decimal digits, in the range of a `usize`
 abbrev pub IsCapacity : List ℕ → Type 0
@@ -23,6 +26,8 @@ AsksFor words a = (kind : List ℕ) × (capacity : List ℕ) × (words ≡ kind 
 -- the program has a ring of this kind and capacity
 abbrev pub IsOffered : Kind → ℕ → Type 0
 IsOffered Array capacity = IsTrue (list_any (λ n. n == capacity) (1 ∷ 2 ∷ 3 ∷ 4 ∷ 8 ∷ 10 ∷ []))
+IsOffered Heap capacity = 0 < capacity
+IsOffered Grow capacity = Unit {0}
 
 -- the words ask for a ring that the program has
 abbrev pub NamesRing : List (List ℕ) → Type 0

@@ -10,8 +10,12 @@ use crate::fault::Fault;
 /// A kind of ring.
 #[derive(Clone, Copy, Debug, PartialEq, Eq)]
 pub enum Kind {
-    /// A ring over an array, of a capacity that the program was built with.
+    /// A ring in an array, of a capacity that the program was built with.
     Array,
+    /// A ring on the heap, of any capacity above zero.
+    Heap,
+    /// A growable ring, with room for so many items at first.
+    Grow,
 }
 
 /// The ring that the program's arguments ask for, which may be one that it has not.
@@ -47,6 +51,8 @@ fn parse_kind(word: &str) -> Option<Kind>
 {
     match word {
         "array" => Some(Kind::Array),
+        "heap" => Some(Kind::Heap),
+        "grow" => Some(Kind::Grow),
         _ => None,
     }
 }

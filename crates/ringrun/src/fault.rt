@@ -5,7 +5,7 @@ ghost use Rattle.std.specs.IoError.{error_kind};
 ghost use Rattle.ringrun.specs.Fault.{status_of};
 ghost use Rattle.ringrun.specs.declared.fault.Fault.TheVariants.{NoMemory};
 
-use ringbuffer::Stopped;
+use ringbuffer::RunFault;
 use std::alloc::{AllocError, AllocFailed};
 use std::io::ErrorKind;
 use std::{fmt, io};
@@ -76,10 +76,10 @@ impl<T: Drop> From<AllocFailed<T>> for Fault {
     }
 }
 
-impl From<Stopped> for Fault {
+impl<T: Drop> From<RunFault<T>> for Fault {
     ghost from_gives = { λ _ fault. fault ≡ NoMemory };
 
-    fn from(_: Stopped) -> Fault {
+    fn from(_: RunFault<T>) -> Fault {
         Fault::NoMemory
     }
 }

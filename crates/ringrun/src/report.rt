@@ -1,6 +1,6 @@
 //! What the program prints.
 
-use ringbuffer::{Reply, RingBuffer};
+use ringbuffer::{Reply, RingBuffer, RingBufferIterator};
 use std::alloc::{AllocError, Global};
 
 // Most lines that answer a command are no longer than this.
@@ -13,11 +13,11 @@ const USUAL_LINE: usize = b"extended\n".len();
 /// Where memory was refused.
 pub fn text<R: RingBuffer<i64>>(
     alloc: Global,
-    replies: &[Option<Reply<i64>>],
+    replies: &[Reply<i64>],
     ring: &R,
 ) -> Result<String, AllocError> {
     let mut text = String::with_capacity(alloc, replies.len().saturating_mul(USUAL_LINE))?;
-    for reply in replies.iter().flatten() {
+    for reply in replies {
         push_reply(&mut text, reply)?;
     }
     push_items(&mut text, ring)?;
@@ -37,7 +37,7 @@ fn push_reply(text: &mut String, reply: &Reply<i64>) -> Result<(), AllocError> {
 
 fn push_items<R: RingBuffer<i64>>(text: &mut String, ring: &R) -> Result<(), AllocError> {
     text.push_str("items")?;
-    for item in (0..ring.len()).filter_map(|index| ring.get(index)) {
+    for item in RingBufferIterator::new(ring) {
         write!(text, " {item}")?;
     }
     text.push_str("\n")

@@ -8,7 +8,9 @@ ghost use Rattle.ringrun.specs.Fault.{status_of};
 use crate::arguments::{Arguments, Kind};
 use crate::fault::Fault;
 use crate::{report, script};
-use ringbuffer::{Command, ConstGenericRingBuffer, RingBuffer, run_into};
+use ringbuffer::{
+    AllocRingBuffer, Command, ConstGenericRingBuffer, GrowableAllocRingBuffer, RingBuffer, run,
+};
 use std::alloc::Global;
 use std::io::{Read, Write};
 
@@ -67,6 +69,8 @@ fn answer<I: Read>(alloc: Global, words: &[String], input: &mut I) -> Result<Str
     let Arguments { kind, capacity } = Arguments::parse(words)?;
     match kind {
         Kind::Array => answer_by_array(alloc, capacity, input),
+        Kind::Heap => answer_by_heap(alloc, capacity, input),
+        Kind::Grow => answer_by_grow(alloc, capacity, input),
     }
 }
 
@@ -85,6 +89,24 @@ fn answer_by_array<I: Read>(alloc: Global, capacity: usize, input: &mut I) -> Re
     }
 }
 
+fn answer_by_heap<I: Read>(alloc: Global, capacity: usize, input: &mut I) -> Result<String, Fault>
+    ensures arguments { IsErrOf result Fault.BadArguments ↔ (¬ IsOffered Kind.Heap capacity) }
+    ensures unread { IsErrOf result Fault.BadArguments → input.new ≡ input.old }
+{
+    if capacity == 0 {
+        return Err(Fault::BadArguments);
+    }
+    let mut ring = AllocRingBuffer::new(alloc, capacity)?;
+    answer_by(&mut ring, alloc, input)
+}
+
+fn answer_by_grow<I: Read>(alloc: Global, capacity: usize, input: &mut I) -> Result<String, Fault>
+    ensures { IfErr result (λ fault. fault ≢ Fault.BadArguments) }
+{
+    let mut ring = GrowableAllocRingBuffer::with_capacity(alloc, capacity)?;
+    answer_by(&mut ring, alloc, input)
+}
+
 /// The text that this ring's answers to the input's commands make.
 fn answer_by<R: RingBuffer<i64>, I: Read>(
     ring: &mut R,
@@ -94,9 +116,7 @@ fn answer_by<R: RingBuffer<i64>, I: Read>(
     ensures { IfErr result (λ fault. fault ≢ Fault.BadArguments) }
 {
     let commands = read_commands(alloc, input)?;
-    let mut replies = Vec::new(alloc);
-    replies.resize_with(commands.len(), || None)?;
-    run_into(ring, commands, replies.as_mut_slice())?;
+    let replies = run(alloc, ring, commands)?;
     Ok(report::text(alloc, replies.as_slice(), ring)?)
 }
 

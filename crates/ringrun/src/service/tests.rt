@@ -142,6 +142,66 @@ fn prints_what_the_commands_answer(rt: HostRuntime) -> Result<(), Fail> {
 }
 
 #[test]
+fn runs_on_each_kind_of_ring(rt: HostRuntime) -> Result<(), Fail> {
+    let cases: [([&str; 2], &[u8], &str); 6] = [
+        (
+            ["heap", "2"],
+            b"extend 1 2 3\n\nextend\nclear\ndequeue\n",
+            "extended\nextended\ncleared\ndequeued none\nitems\n",
+        ),
+        (["heap", "2"], b"", "items\n"),
+        (["heap", "2"], SCRIPT, ANSWER),
+        (
+            ["heap", "5"],
+            b"extend 1 2 3 4 5 6 7",
+            "extended\nitems 3 4 5 6 7\n",
+        ),
+        (
+            ["grow", "0"],
+            b"extend 1 2 3\nskip\npush 4\n",
+            "extended\nskipped\npushed\nitems 2 3 4\n",
+        ),
+        (
+            ["grow", "2"],
+            SCRIPT,
+            "pushed\npushed\npushed\ndequeued 5\nitems 42 1\n",
+        ),
+    ];
+    for (words, script, want) in cases {
+        let outcome = run(
+            rt.alloc(),
+            &words,
+            Source::of(script),
+            Sink::new(rt.alloc())?,
+        )?;
+        assert_eq!(rt; outcome.output.text()?, want);
+        assert_eq!(rt; outcome.errors.text()?, "");
+        assert_eq!(rt; outcome.status, 0);
+    }
+    Ok(())
+}
+
+#[test]
+fn has_no_memory_for_too_large_a_ring(rt: HostRuntime) -> Result<(), Fail> {
+    for words in [
+        ["heap", "9223372036854775809"],
+        ["heap", "18446744073709551615"],
+        ["grow", "18446744073709551615"],
+    ] {
+        let outcome = run(
+            rt.alloc(),
+            &words,
+            Source::of(SCRIPT),
+            Sink::new(rt.alloc())?,
+        )?;
+        assert_eq!(rt; outcome.status, 3);
+        assert_eq!(rt; outcome.output.text()?, "");
+        assert_eq!(rt; outcome.errors.text()?, NO_MEMORY);
+    }
+    Ok(())
+}
+
+#[test]
 fn names_the_first_line_that_is_no_command(rt: HostRuntime) -> Result<(), Fail> {
     let first: [&[u8]; 36] = [
         b"push",
@@ -236,8 +296,8 @@ fn refuses_arguments_before_it_reads(rt: HostRuntime) -> Result<(), Fail> {
         &["array", "18446744073709551616"],
         &["array", "18446744073709551618"],
         &["heap", "0"],
-        &["heap", "2"],
-        &["grow", "2"],
+        &["heap", "+1"],
+        &["grow", ""],
     ];
     for arguments in cases {
         let input = Source::failing_between((b"", SCRIPT), ErrorKind::BrokenPipe);
