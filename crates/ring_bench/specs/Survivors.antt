@@ -1,5 +1,5 @@
 -- What a run leaves on a ring, in the words of somebody who counts items.
-use Rattle.std.specs.Prelude.{◌≡◌, ℕ, ◌+◌, ◌*◌, ◌≤◌, ◌<◌, Bool, List, length, take, filter, slice_get, Option, Some, IfSome, IsTrue}
+use Rattle.std.specs.Prelude.{◌≡◌, ℕ, ◌+◌, ◌*◌, ◌≤◌, Bool, List, length, take, filter, slice_get, Option, Some, IfSome, IsTrue}
 use Rattle.std.specs.List.{filter_map, range_with_len}
 use Rattle.ringbuffer.specs.declared.Command.{Command}
 use Rattle.ringbuffer.specs.declared.Reply.{Reply}

@@ -3,11 +3,10 @@
 ghost use Rattle.std.specs.Prelude.{◌≡◌, ◌+◌, ◌%◌, ◌<◌, ◌^◌, [], ◌∷◌, ◌++◌, All, IfOk, IsSome, IsTrue, drop, map, reverse, slice_set, sum};
 ghost use Rattle.ringbuffer.specs.Contents.{ChangesSlots, keep_last};
 
-use std::alloc::{AllocError, Global};
-
 use ringbuffer::{
     RingBuffer, RingBufferDrainingIterator, RingBufferIterator, RingBufferMutIterator,
 };
+use std::alloc::{AllocError, Global};
 
 /// Pushes two items onto a ring with a limit.
 pub fn push_two<T: Drop, R: RingBuffer<T>>(ring: &mut R, x: T, y: T)

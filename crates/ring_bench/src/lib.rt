@@ -2,4 +2,7 @@
 #![tactic(auto)]
 
 pub mod callers;
+pub mod conditions;
 pub mod headline;
+#[cfg(test)]
+mod tests;

@@ -1,5 +1,5 @@
 -- What a contract sees of the slots of a ring.
-use Rattle.std.specs.Prelude.{◌≡◌, ℕ, ◌+◌, ◌<◌, List, length, slice_index_or, slice_set, Option, None, Some, IsSome}
+use Rattle.std.specs.Prelude.{◌≡◌, ℕ, ◌+◌, ◌<◌, List, length, slice_index_or, slice_set, Option, None, IsSome}
 
 -- what each slot holds, an item or nothing, and how many changes the slots have had
 pub record Slots (X : Type 0) : Type 0 where

@@ -3,7 +3,7 @@ ghost use Rattle.std.specs.Prelude.{◌≡◌, ◌<◌, ℕ, length, replicate, 
 ghost use Rattle.std.specs.Borrow.{sem};
 ghost use Rattle.ring_slots.specs.Slots.{IsEmptyAt, IsFullAt, changed, slot_at};
 
-use crate::place::wrapped;
+use crate::place::{wrapped, wrapped_after, wrapped_next};
 use crate::row::SlotRow;
 use crate::tally::Tally;
 use std::marker::Model;
@@ -147,6 +147,16 @@ impl<T: Drop, const CAP: usize> SlotRow<T> for ArraySlots<T, CAP> {
     #[inline]
     fn place(&self, start: usize, k: usize) -> usize {
         wrapped(start, k, self.size())
+    }
+
+    #[inline]
+    fn place_after(&self, start: usize, len: usize) -> usize {
+        wrapped_after(start, len, self.size())
+    }
+
+    #[inline]
+    fn next(&self, place: usize) -> usize {
+        wrapped_next(place, self.size())
     }
 
     #[inline]

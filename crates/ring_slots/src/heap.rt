@@ -115,6 +115,11 @@ impl<T: Drop> SlotRow<T> for HeapSlots<T> {
     }
 
     #[inline]
+    fn next(&self, place: usize) -> usize {
+        masked(place, 1, self.size())
+    }
+
+    #[inline]
     fn put(&mut self, place: usize, item: T) {
         HeapSlots::put(self, place, item);
     }

@@ -1,5 +1,5 @@
 //! What a ring asks of its slots, which both kinds of slots give.
-ghost use Rattle.std.specs.Prelude.{◌≡◌, ◌+◌, ◌%◌, ◌^◌, ◌<◌, ◌≤◌, ℕ, length, None, Some};
+ghost use Rattle.std.specs.Prelude.{◌≡◌, ◌+◌, ◌%◌, ◌<◌, ◌≤◌, ℕ, length, None, Some};
 ghost use Rattle.std.specs.Borrow.{Lends, sem};
 ghost use Rattle.ring_slots.specs.Slots.{Slots, IsEmptyAt, IsFullAt, changed, slot_at};
 
@@ -22,8 +22,23 @@ pub trait SlotRow<T: Drop>: Sized {
         requires size { is_size (length (seen self.now).slots) }
         requires start { start < length (seen self.now).slots }
         requires count { k ≤ length (seen self.now).slots }
-        ensures place { result ≡ (start + k) % length (seen self.now).slots }
-        ensures fits { length (seen self.now).slots < 2 ^ 64 };
+        ensures { result ≡ (start + k) % length (seen self.now).slots };
+
+    /// The place after `len` items that begin at `start`, counted round the slots. It may be `start` again.
+    fn place_after(&self, start: usize, len: usize) -> usize
+        requires size { is_size (length (seen self.now).slots) }
+        requires start { start < length (seen self.now).slots }
+        requires len { len ≤ length (seen self.now).slots }
+        ensures { result ≡ (start + len) % length (seen self.now).slots }
+    {
+        self.place(start, len)
+    }
+
+    /// The place after a place, counted round the slots.
+    fn next(&self, place: usize) -> usize
+        requires size { is_size (length (seen self.now).slots) }
+        requires place { place < length (seen self.now).slots }
+        ensures { result ≡ (place + 1) % length (seen self.now).slots };
 
     /// Puts an item into an empty slot.
     fn put(&mut self, place: usize, item: T)

@@ -209,7 +209,7 @@ impl<T: Drop, S: SlotRow<T>> Fixed<T, S> {
         requires some { 0 < len }
         ensures { Becomes S.is_size (S.seen slots.old) (S.seen slots.new) result (put_last (taken_first (shown (S.seen slots.old) start)) item) }
     {
-        let place = slots.place(start, len);
+        let place = slots.place_after(start, len);
         let (next, _) = Self::take_from(slots, start);
         slots.put(place, item);
         next
@@ -224,7 +224,7 @@ impl<T: Drop, S: SlotRow<T>> Fixed<T, S> {
         ensures next { result.0 ≡ (start + 1) % length (S.seen slots.old).slots }
         ensures after { Becomes S.is_size (S.seen slots.old) (S.seen slots.new) result.0 (taken_first (shown (S.seen slots.old) start)) }
     {
-        let next = slots.place(start, 1);
+        let next = slots.next(start);
         (next, slots.take(start))
     }
 }

@@ -1,4 +1,4 @@
-use Rattle.std.proofs.Common.{◌≡◌, ℕ, zero, suc, ◌+◌, List, [], ◌∷◌, map, Option, Some, None, refl, rules, zero-add, arith}
+use Rattle.std.proofs.Common.{◌≡◌, ℕ, zero, suc, ◌+◌, List, [], ◌∷◌, map, Some, None, refl, rules, zero-add, arith}
 use Rattle.std.specs.List.{enumerate_from, slice_get}
 use Rattle.std.proofs.lemmas.Option.{slice_get-map}
 use Rattle.ringbuffer.specs.History.{replies_of}

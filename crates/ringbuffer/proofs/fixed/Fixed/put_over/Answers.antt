@@ -5,11 +5,11 @@ use Rattle.ringbuffer.proofs.fixed.Fixed.put_over.Goals as goal
 pub put-requires : goal.put-requires
 put-requires g c =
     let took = c.take_from-next.ensures in
-    let taken : HasTaken _ _ _ _ _ _ _ = record { lies = c.requires.lies; counted = c.requires.len; some = c.requires.some; found = c.place-place.ensures.place; turned = took.next; after = took.after } in
+    let taken : HasTaken _ _ _ _ _ _ _ = record { lies = c.requires.lies; counted = c.requires.len; some = c.requires.some; found = c.place_after-place.ensures; turned = took.next; after = took.after } in
     over_empty taken
 
 pub returns : goal.returns
 returns g c =
     let took = c.take_from-next.ensures in
-    let taken : HasTaken _ _ _ _ _ _ _ = record { lies = c.requires.lies; counted = c.requires.len; some = c.requires.some; found = c.place-place.ensures.place; turned = took.next; after = took.after } in
+    let taken : HasTaken _ _ _ _ _ _ _ = record { lies = c.requires.lies; counted = c.requires.len; some = c.requires.some; found = c.place_after-place.ensures; turned = took.next; after = took.after } in
     over_becomes taken _ _ c.put.ensures

@@ -10,4 +10,4 @@ pub returns-clause-value : goal.returns-clause-value
 returns-clause-value g c = sym (first_lies _ _ c.requires.lies) ∙ c.take.ensures.value
 
 pub returns-clause-after : goal.returns-clause-after
-returns-clause-after g c = take_becomes _ _ c.requires.lies _ _ c.requires.some c.place-next.ensures.place c.take.ensures.after
+returns-clause-after g c = take_becomes _ _ c.requires.lies _ _ c.requires.some c.next-next.ensures c.take.ensures.after

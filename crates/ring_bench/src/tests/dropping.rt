@@ -1,0 +1,279 @@
+//! What becomes of items: each is dropped exactly once, also where items have no size.
+
+use super::counted::{Counted, Drops};
+use ringbuffer::{
+    AllocRingBuffer, Command, ConstGenericRingBuffer, GrowableAllocRingBuffer, RingBuffer,
+    RingBufferDrainingIterator, RingBufferIntoIterator, apply,
+};
+use std::alloc::AllocError;
+use std::process::Abort;
+
+/// Pushes the items whose numbers are below `count`. None is refused.
+fn push_first<'a, R: RingBuffer<Counted<'a>>>(
+    rt: &impl Abort,
+    ring: &mut R,
+    drops: &'a Drops,
+    count: usize,
+) {
+    for number in 0..count {
+        assert!(rt; ring.push(drops.item(rt, number)).is_ok());
+    }
+}
+
+/// The items of some numbers.
+fn items<'a>(
+    rt: &(impl Abort + AllocGlobal),
+    drops: &'a Drops,
+    numbers: &[usize],
+) -> Result<Vec<Counted<'a>>, AllocError> {
+    let mut items = Vec::with_capacity(rt.alloc(), numbers.len())?;
+    for number in numbers {
+        items.push(drops.item(rt, *number))?;
+    }
+    Ok(items)
+}
+
+#[test]
+fn a_push_drops_what_it_overwrites(rt: HostRuntime) -> Result<(), AllocError> {
+    fn on<'a, R: RingBuffer<Counted<'a>> + Drop>(
+        rt: &impl Abort,
+        mut ring: R,
+        drops: &'a Drops,
+        overwritten: u8,
+    ) {
+        push_first(rt, &mut ring, drops, 1);
+        assert_eq!(rt; drops.of(rt, 0), 0);
+        assert!(rt; ring.push(drops.item(rt, 1)).is_ok());
+        assert_eq!(rt; drops.of(rt, 0), overwritten);
+        assert_eq!(rt; drops.of(rt, 1), 0);
+        drop(ring);
+        drops.assert_each_once(rt);
+    }
+    let drops = Drops::new(rt.alloc(), 2)?;
+    on(&rt, ConstGenericRingBuffer::<Counted, 1>::new(), &drops, 1);
+    let drops = Drops::new(rt.alloc(), 2)?;
+    on(&rt, AllocRingBuffer::new(rt.alloc(), 1)?, &drops, 1);
+    let drops = Drops::new(rt.alloc(), 2)?;
+    on(
+        &rt,
+        GrowableAllocRingBuffer::with_capacity(rt.alloc(), 1)?,
+        &drops,
+        0,
+    );
+    Ok(())
+}
+
+#[test]
+fn a_ring_that_ends_drops_its_items(rt: HostRuntime) -> Result<(), AllocError> {
+    fn on<'a, R: RingBuffer<Counted<'a>> + Drop>(rt: &impl Abort, mut ring: R, drops: &'a Drops) {
+        push_first(rt, &mut ring, drops, 5);
+        let taken = ring.dequeue().expect(rt, "an item");
+        assert_eq!(rt; drops.of(rt, taken.number), 0);
+        drop(taken);
+        drop(ring);
+        drops.assert_each_once(rt);
+    }
+    let drops = Drops::new(rt.alloc(), 5)?;
+    on(&rt, ConstGenericRingBuffer::<Counted, 3>::new(), &drops);
+    let drops = Drops::new(rt.alloc(), 5)?;
+    on(&rt, AllocRingBuffer::new(rt.alloc(), 3)?, &drops);
+    let drops = Drops::new(rt.alloc(), 5)?;
+    on(
+        &rt,
+        GrowableAllocRingBuffer::with_capacity(rt.alloc(), 3)?,
+        &drops,
+    );
+    Ok(())
+}
+
+#[test]
+fn a_skip_and_a_clear_drop_at_once(rt: HostRuntime) -> Result<(), AllocError> {
+    fn on<'a, R: RingBuffer<Counted<'a>> + Drop>(rt: &impl Abort, mut ring: R, drops: &'a Drops) {
+        push_first(rt, &mut ring, drops, 4);
+        ring.skip();
+        assert_eq!(rt; drops.of(rt, 0), 1);
+        assert_eq!(rt; drops.of(rt, 1), 0);
+        assert!(rt; ring.push(drops.item(rt, 4)).is_ok());
+        ring.clear();
+        drops.assert_each_once(rt);
+        drop(ring);
+        drops.assert_each_once(rt);
+    }
+    let drops = Drops::new(rt.alloc(), 5)?;
+    on(&rt, ConstGenericRingBuffer::<Counted, 4>::new(), &drops);
+    let drops = Drops::new(rt.alloc(), 5)?;
+    on(&rt, AllocRingBuffer::new(rt.alloc(), 4)?, &drops);
+    let drops = Drops::new(rt.alloc(), 5)?;
+    on(
+        &rt,
+        GrowableAllocRingBuffer::with_capacity(rt.alloc(), 4)?,
+        &drops,
+    );
+    Ok(())
+}
+
+#[test]
+fn an_extension_drops_what_it_overwrites(rt: HostRuntime) -> Result<(), AllocError> {
+    fn on<'a, R: RingBuffer<Counted<'a>> + Drop>(
+        rt: &(impl Abort + AllocGlobal),
+        mut ring: R,
+        drops: &'a Drops,
+        overwritten: u8,
+    ) -> Result<(), AllocError> {
+        push_first(rt, &mut ring, drops, 1);
+        ring.extend(items(rt, drops, &[1, 2, 3, 4])?)?;
+        assert_eq!(rt; drops.of(rt, 2), overwritten);
+        assert_eq!(rt; drops.of(rt, 3), 0);
+        drop(ring);
+        drops.assert_each_once(rt);
+        Ok(())
+    }
+    let drops = Drops::new(rt.alloc(), 5)?;
+    on(&rt, ConstGenericRingBuffer::<Counted, 2>::new(), &drops, 1)?;
+    let drops = Drops::new(rt.alloc(), 5)?;
+    on(&rt, AllocRingBuffer::new(rt.alloc(), 2)?, &drops, 1)?;
+    let drops = Drops::new(rt.alloc(), 5)?;
+    on(
+        &rt,
+        GrowableAllocRingBuffer::with_capacity(rt.alloc(), 2)?,
+        &drops,
+        0,
+    )
+}
+
+#[test]
+fn a_write_drops_the_item_before_it(rt: HostRuntime) -> Result<(), AllocError> {
+    fn on<'a, R: RingBuffer<Counted<'a>> + Drop>(rt: &impl Abort, mut ring: R, drops: &'a Drops) {
+        push_first(rt, &mut ring, drops, 2);
+        *ring.get_mut(1).expect(rt, "an item") = drops.item(rt, 2);
+        assert_eq!(rt; drops.of(rt, 1), 1);
+        assert_eq!(rt; drops.of(rt, 2), 0);
+        drop(ring);
+        drops.assert_each_once(rt);
+    }
+    let drops = Drops::new(rt.alloc(), 3)?;
+    on(&rt, ConstGenericRingBuffer::<Counted, 2>::new(), &drops);
+    let drops = Drops::new(rt.alloc(), 3)?;
+    on(&rt, AllocRingBuffer::new(rt.alloc(), 2)?, &drops);
+    let drops = Drops::new(rt.alloc(), 3)?;
+    on(
+        &rt,
+        GrowableAllocRingBuffer::with_capacity(rt.alloc(), 2)?,
+        &drops,
+    );
+    Ok(())
+}
+
+#[test]
+fn a_drain_hands_its_items_over(rt: HostRuntime) -> Result<(), AllocError> {
+    fn on<'a, R: RingBuffer<Counted<'a>> + Drop>(rt: &impl Abort, mut ring: R, drops: &'a Drops) {
+        push_first(rt, &mut ring, drops, 4);
+        let mut walk = RingBufferDrainingIterator::new(&mut ring);
+        let taken = walk.next().expect(rt, "an item");
+        assert_eq!(rt; taken.number, 0);
+        assert_eq!(rt; drops.of(rt, 0), 0);
+        drop(walk);
+        assert_eq!(rt; drops.of(rt, 1), 0);
+        drop(ring);
+        assert_eq!(rt; drops.of(rt, 0), 0);
+        drop(taken);
+        drops.assert_each_once(rt);
+    }
+    let drops = Drops::new(rt.alloc(), 4)?;
+    on(&rt, ConstGenericRingBuffer::<Counted, 4>::new(), &drops);
+    let drops = Drops::new(rt.alloc(), 4)?;
+    on(&rt, AllocRingBuffer::new(rt.alloc(), 4)?, &drops);
+    let drops = Drops::new(rt.alloc(), 4)?;
+    on(
+        &rt,
+        GrowableAllocRingBuffer::with_capacity(rt.alloc(), 4)?,
+        &drops,
+    );
+    Ok(())
+}
+
+#[test]
+fn an_owning_walk_that_ends_drops_the_rest(rt: HostRuntime) -> Result<(), AllocError> {
+    fn on<'a, R: RingBuffer<Counted<'a>> + Drop>(rt: &impl Abort, mut ring: R, drops: &'a Drops) {
+        push_first(rt, &mut ring, drops, 4);
+        let mut walk = RingBufferIntoIterator::new(ring);
+        drop(walk.next());
+        assert_eq!(rt; drops.of(rt, 0), 1);
+        assert_eq!(rt; drops.of(rt, 1), 0);
+        drop(walk);
+        drops.assert_each_once(rt);
+    }
+    let drops = Drops::new(rt.alloc(), 4)?;
+    on(&rt, ConstGenericRingBuffer::<Counted, 4>::new(), &drops);
+    let drops = Drops::new(rt.alloc(), 4)?;
+    on(&rt, AllocRingBuffer::new(rt.alloc(), 4)?, &drops);
+    let drops = Drops::new(rt.alloc(), 4)?;
+    on(
+        &rt,
+        GrowableAllocRingBuffer::with_capacity(rt.alloc(), 4)?,
+        &drops,
+    );
+    Ok(())
+}
+
+#[test]
+fn commands_hand_their_items_to_the_ring(rt: HostRuntime) -> Result<(), AllocError> {
+    fn on<'a, R: RingBuffer<Counted<'a>> + Drop>(
+        rt: &(impl Abort + AllocGlobal),
+        mut ring: R,
+        drops: &'a Drops,
+    ) -> Result<(), AllocError> {
+        assert!(rt; apply(&mut ring, Command::Push(drops.item(rt, 0))).is_ok());
+        let extension = items(rt, drops, &[1, 2, 3])?;
+        assert!(rt; apply(&mut ring, Command::Extend(extension)).is_ok());
+        assert_eq!(rt; drops.of(rt, 3), 0);
+        let dequeued = apply(&mut ring, Command::Dequeue);
+        assert!(rt; apply(&mut ring, Command::Clear).is_ok());
+        assert_eq!(rt; drops.of(rt, 3), 1);
+        drop(dequeued);
+        drop(ring);
+        drops.assert_each_once(rt);
+        Ok(())
+    }
+    let drops = Drops::new(rt.alloc(), 4)?;
+    on(&rt, ConstGenericRingBuffer::<Counted, 2>::new(), &drops)?;
+    let drops = Drops::new(rt.alloc(), 4)?;
+    on(&rt, AllocRingBuffer::new(rt.alloc(), 2)?, &drops)?;
+    let drops = Drops::new(rt.alloc(), 4)?;
+    on(
+        &rt,
+        GrowableAllocRingBuffer::with_capacity(rt.alloc(), 2)?,
+        &drops,
+    )
+}
+
+#[test]
+fn items_may_have_no_size(rt: HostRuntime) -> Result<(), AllocError> {
+    fn on<R: RingBuffer<()> + Drop>(rt: &impl Abort, mut ring: R, kept: usize) {
+        for _ in 0..7 {
+            assert!(rt; ring.push(()).is_ok());
+        }
+        assert_eq!(rt; ring.len(), kept);
+        assert_eq!(rt; ring.get_signed(-1).copied(), Some(()));
+        for _ in 0..kept {
+            assert_eq!(rt; ring.dequeue(), Some(()));
+        }
+        assert_eq!(rt; ring.dequeue(), None);
+    }
+    on(&rt, ConstGenericRingBuffer::<(), 5>::new(), 5);
+    on(&rt, AllocRingBuffer::new(rt.alloc(), 5)?, 5);
+    on(
+        &rt,
+        GrowableAllocRingBuffer::with_capacity(rt.alloc(), 5)?,
+        7,
+    );
+    Ok(())
+}
+
+#[test]
+fn a_heap_ring_of_items_without_size_has_its_capacity(rt: HostRuntime) -> Result<(), AllocError> {
+    let ring = AllocRingBuffer::<()>::new(rt.alloc(), 5)?;
+    assert_eq!(rt; ring.capacity(), 5);
+    assert_eq!(rt; ring.buffer_size(), 8);
+    Ok(())
+}

@@ -1,0 +1,42 @@
+//! A time without memory.
+
+use std::alloc::{AllocError, Global};
+
+// More blocks than an address space is cut into.
+const MOST_BLOCKS: usize = 1 << 17;
+
+// A request that no address space has room for.
+const TOO_LARGE: usize = 1 << 47;
+
+/// While it lasts, no memory is had but one block. It takes all address space, and writes nothing there.
+///
+/// Under `rt try`, whose allocator has limits of its own, nothing is known of it.
+#[derive(Drop)]
+pub struct Drought {
+    _taken: Vec<Vec<u8>>,
+}
+
+impl Drought {
+    /// A drought that leaves one block of so many bytes.
+    pub fn but_for(alloc: Global, spare: usize) -> Result<Drought, AllocError> {
+        let mut taken = Vec::with_capacity(alloc, MOST_BLOCKS)?;
+        let kept = Vec::<u8>::with_capacity(alloc, spare)?;
+        let mut size = TOO_LARGE;
+        for _ in 0..MOST_BLOCKS {
+            if let Ok(block) = Vec::with_capacity(alloc, size) {
+                taken.push(block)?;
+            } else if size > 1 {
+                size /= 2;
+            } else {
+                break;
+            }
+        }
+        drop(kept);
+        Ok(Drought { _taken: taken })
+    }
+
+    /// A drought that leaves nothing.
+    pub fn total(alloc: Global) -> Result<Drought, AllocError> {
+        Drought::but_for(alloc, 0)
+    }
+}

@@ -1,0 +1,298 @@
+//! Positions, reading and writing.
+
+use super::{assert_gives, assert_holds, push_all};
+use ringbuffer::{AllocRingBuffer, ConstGenericRingBuffer, GrowableAllocRingBuffer, RingBuffer};
+use std::alloc::AllocError;
+use std::process::Abort;
+
+/// Reading and writing find these items at the positions from 0 on.
+fn assert_from_oldest<R: RingBuffer<i64>>(rt: &impl Abort, ring: &mut R, items: &[i64]) {
+    for (i, item) in items.iter().enumerate() {
+        assert_eq!(rt; ring.get(i).copied(), Some(*item), "at {i}");
+        assert_eq!(rt; ring.get_mut(i).copied(), Some(*item), "at {i}");
+    }
+}
+
+/// Reading and writing find the item at a position that may be negative.
+fn assert_at<R: RingBuffer<i64>>(rt: &impl Abort, ring: &mut R, index: isize, item: i64) {
+    assert_eq!(rt; ring.get_signed(index).copied(), Some(item), "at {index}");
+    assert_eq!(rt;
+        ring.get_mut_signed(index).copied(),
+        Some(item),
+        "at {index}"
+    );
+}
+
+/// Writes an item at a position.
+fn write<R: RingBuffer<i64>>(rt: &impl Abort, ring: &mut R, index: usize, item: i64) {
+    *ring.get_mut(index).expect(rt, "an item at each position") = item;
+}
+
+/// Writes an item at a position that may be negative.
+fn write_signed<R: RingBuffer<i64>>(rt: &impl Abort, ring: &mut R, index: isize, item: i64) {
+    *ring
+        .get_mut_signed(index)
+        .expect(rt, "an item at each position") = item;
+}
+
+#[test]
+fn position_minus_one_is_the_newest(rt: HostRuntime) -> Result<(), AllocError> {
+    fn on<R: RingBuffer<i64> + Drop>(rt: &impl Abort, mut ring: R) {
+        for item in 0..10 {
+            push_all(rt, &mut ring, &[item]);
+            assert_at(rt, &mut ring, -1, item);
+        }
+    }
+    on(&rt, ConstGenericRingBuffer::<i64, 8>::new());
+    on(&rt, AllocRingBuffer::new(rt.alloc(), 8)?);
+    on(&rt, GrowableAllocRingBuffer::with_capacity(rt.alloc(), 8)?);
+    Ok(())
+}
+
+#[test]
+fn position_zero_is_the_oldest(rt: HostRuntime) -> Result<(), AllocError> {
+    fn on<R: RingBuffer<i64> + Drop>(rt: &impl Abort, mut ring: R) {
+        push_all(rt, &mut ring, &[0, 1, 2, 3, 4, 5, 6, 7]);
+        assert_from_oldest(rt, &mut ring, &[0, 1, 2, 3, 4, 5, 6, 7]);
+    }
+    on(&rt, ConstGenericRingBuffer::<i64, 8>::new());
+    on(&rt, AllocRingBuffer::new(rt.alloc(), 8)?);
+    on(&rt, GrowableAllocRingBuffer::with_capacity(rt.alloc(), 8)?);
+    Ok(())
+}
+
+#[test]
+fn the_ends_have_names(rt: HostRuntime) -> Result<(), AllocError> {
+    fn on<R: RingBuffer<i64> + Drop>(rt: &impl Abort, mut ring: R) {
+        push_all(rt, &mut ring, &[1, 2]);
+        assert_eq!(rt; ring.peek().copied(), Some(1));
+        assert_eq!(rt; ring.front().copied(), Some(1));
+        assert_eq!(rt; ring.front_mut().copied(), Some(1));
+        assert_eq!(rt; ring.back().copied(), Some(2));
+        assert_eq!(rt; ring.back_mut().copied(), Some(2));
+    }
+    on(&rt, ConstGenericRingBuffer::<i64, 2>::new());
+    on(&rt, AllocRingBuffer::new(rt.alloc(), 2)?);
+    on(&rt, GrowableAllocRingBuffer::with_capacity(rt.alloc(), 2)?);
+    Ok(())
+}
+
+#[test]
+fn the_ends_can_be_written(rt: HostRuntime) -> Result<(), AllocError> {
+    fn on<R: RingBuffer<i64> + Drop>(rt: &impl Abort, mut ring: R) {
+        push_all(rt, &mut ring, &[1, 2, 3]);
+        *ring.front_mut().expect(rt, "an oldest item") = 8;
+        *ring.back_mut().expect(rt, "a newest item") = 9;
+        assert_holds(rt, &ring, &[8, 2, 9]);
+    }
+    on(&rt, ConstGenericRingBuffer::<i64, 4>::new());
+    on(&rt, AllocRingBuffer::new(rt.alloc(), 4)?);
+    on(&rt, GrowableAllocRingBuffer::with_capacity(rt.alloc(), 4)?);
+    Ok(())
+}
+
+#[test]
+fn an_empty_ring_has_no_positions(rt: HostRuntime) -> Result<(), AllocError> {
+    fn on<R: RingBuffer<i64> + Drop>(rt: &impl Abort, mut ring: R) {
+        assert!(rt; ring.peek().is_none());
+        assert!(rt; ring.front().is_none());
+        assert!(rt; ring.back().is_none());
+        assert!(rt; ring.front_mut().is_none());
+        assert!(rt; ring.back_mut().is_none());
+        assert!(rt; ring.get(1).is_none());
+        assert!(rt; ring.get_signed(-1).is_none());
+        assert!(rt; ring.get_mut(1).is_none());
+        assert!(rt; ring.get_mut_signed(-1).is_none());
+        assert!(rt; ring.dequeue().is_none());
+    }
+    on(&rt, ConstGenericRingBuffer::<i64, 8>::new());
+    on(&rt, AllocRingBuffer::new(rt.alloc(), 8)?);
+    on(&rt, GrowableAllocRingBuffer::with_capacity(rt.alloc(), 8)?);
+    Ok(())
+}
+
+#[test]
+fn positions_wrap_by_the_length(rt: HostRuntime) -> Result<(), AllocError> {
+    fn on<R: RingBuffer<i64> + Drop>(rt: &impl Abort, mut ring: R) {
+        push_all(rt, &mut ring, &[0, 1]);
+        assert_from_oldest(rt, &mut ring, &[0, 1, 0, 1]);
+        for (index, item) in [(-1, 1), (-2, 0), (-3, 1), (-4, 0)] {
+            assert_at(rt, &mut ring, index, item);
+        }
+    }
+    on(&rt, ConstGenericRingBuffer::<i64, 8>::new());
+    on(&rt, AllocRingBuffer::new(rt.alloc(), 8)?);
+    on(&rt, GrowableAllocRingBuffer::with_capacity(rt.alloc(), 8)?);
+    Ok(())
+}
+
+#[test]
+fn positions_wrap_below_zero(rt: HostRuntime) -> Result<(), AllocError> {
+    fn on<R: RingBuffer<i64> + Drop>(rt: &impl Abort, mut ring: R) {
+        push_all(rt, &mut ring, &[1, 2]);
+        for (index, item) in [(1, 2), (0, 1), (-1, 2), (-2, 1), (-3, 2)] {
+            assert_at(rt, &mut ring, index, item);
+        }
+    }
+    on(&rt, ConstGenericRingBuffer::<i64, 2>::new());
+    on(&rt, AllocRingBuffer::new(rt.alloc(), 2)?);
+    on(&rt, GrowableAllocRingBuffer::new(rt.alloc()));
+    Ok(())
+}
+
+#[test]
+fn positions_move_with_the_oldest_item(rt: HostRuntime) -> Result<(), AllocError> {
+    fn on<R: RingBuffer<i64> + Drop>(rt: &impl Abort, mut ring: R) {
+        push_all(rt, &mut ring, &[0, 1, 2]);
+        assert_from_oldest(rt, &mut ring, &[1, 2]);
+        write(rt, &mut ring, 0, 3);
+        assert_holds(rt, &ring, &[3, 2]);
+    }
+    on(&rt, ConstGenericRingBuffer::<i64, 2>::new());
+    on(&rt, AllocRingBuffer::new(rt.alloc(), 2)?);
+    Ok(())
+}
+
+#[test]
+fn a_growable_ring_has_every_position(rt: HostRuntime) -> Result<(), AllocError> {
+    let mut ring = GrowableAllocRingBuffer::with_capacity(rt.alloc(), 2)?;
+    push_all(&rt, &mut ring, &[0, 1, 2]);
+    assert_from_oldest(&rt, &mut ring, &[0, 1, 2]);
+    write(&rt, &mut ring, 0, 3);
+    assert_holds(&rt, &ring, &[3, 1, 2]);
+    Ok(())
+}
+
+#[test]
+fn a_write_changes_its_place_alone(rt: HostRuntime) -> Result<(), AllocError> {
+    fn on<R: RingBuffer<i64> + Drop>(rt: &impl Abort, mut ring: R) {
+        push_all(rt, &mut ring, &[0, 1]);
+        write(rt, &mut ring, 0, 3);
+        assert_holds(rt, &ring, &[3, 1]);
+        write(rt, &mut ring, 1, 4);
+        assert_holds(rt, &ring, &[3, 4]);
+    }
+    on(&rt, ConstGenericRingBuffer::<i64, 8>::new());
+    on(&rt, AllocRingBuffer::new(rt.alloc(), 8)?);
+    on(&rt, GrowableAllocRingBuffer::with_capacity(rt.alloc(), 8)?);
+    Ok(())
+}
+
+#[test]
+fn writes_wrap_by_the_length(rt: HostRuntime) -> Result<(), AllocError> {
+    fn on<R: RingBuffer<i64> + Drop>(rt: &impl Abort, mut ring: R) {
+        push_all(rt, &mut ring, &[1, 2, 3]);
+        write_signed(rt, &mut ring, -4, 9);
+        assert_holds(rt, &ring, &[1, 2, 9]);
+        write(rt, &mut ring, 4, 8);
+        assert_holds(rt, &ring, &[1, 8, 9]);
+    }
+    on(&rt, ConstGenericRingBuffer::<i64, 4>::new());
+    on(&rt, AllocRingBuffer::new(rt.alloc(), 4)?);
+    on(&rt, GrowableAllocRingBuffer::with_capacity(rt.alloc(), 4)?);
+    Ok(())
+}
+
+#[test]
+fn positions_hold_after_a_ring_was_emptied(rt: HostRuntime) -> Result<(), AllocError> {
+    fn on<R: RingBuffer<i64> + Drop>(rt: &impl Abort, mut ring: R) {
+        for _ in 0..2 {
+            push_all(rt, &mut ring, &[0, 1, 2]);
+            assert_gives(rt, &mut ring, &[1, 2]);
+        }
+        push_all(rt, &mut ring, &[0, 1, 2]);
+        for (index, item) in [(-1, 2), (-2, 1), (-3, 2)] {
+            assert_at(rt, &mut ring, index, item);
+        }
+    }
+    on(&rt, ConstGenericRingBuffer::<i64, 2>::new());
+    on(&rt, AllocRingBuffer::new(rt.alloc(), 2)?);
+    Ok(())
+}
+
+#[test]
+fn growable_positions_hold_after_a_ring_was_emptied(rt: HostRuntime) -> Result<(), AllocError> {
+    let mut ring = GrowableAllocRingBuffer::with_capacity(rt.alloc(), 2)?;
+    for _ in 0..2 {
+        push_all(&rt, &mut ring, &[0, 1, 2]);
+        assert_gives(&rt, &mut ring, &[0, 1, 2]);
+    }
+    push_all(&rt, &mut ring, &[0, 1, 2]);
+    for (index, item) in [(-1, 2), (-2, 1), (-3, 0)] {
+        assert_at(&rt, &mut ring, index, item);
+    }
+    Ok(())
+}
+
+// The remainders of -(2^63), 2^63 - 1 and 2^64 - 1 by the lengths 3, 5, 7 and 1 were found by hand.
+#[test]
+fn extreme_positions_wrap_too(rt: HostRuntime) -> Result<(), AllocError> {
+    fn on<R: RingBuffer<i64> + Drop>(rt: &impl Abort, mut ring: R) {
+        let cases: [(&[i64], i64, i64, i64); 4] = [
+            (&[1, 2, 3], 2, 2, 1),
+            (&[0, 1, 2, 3, 4], 2, 2, 0),
+            (&[0, 1, 2, 3, 4, 5, 6], 6, 0, 1),
+            (&[7], 7, 7, 7),
+        ];
+        for (items, at_least_signed, at_greatest_signed, at_greatest) in cases {
+            push_all(rt, &mut ring, items);
+            assert_at(rt, &mut ring, isize::MIN, at_least_signed);
+            assert_at(rt, &mut ring, isize::MAX, at_greatest_signed);
+            assert_eq!(rt; ring.get(usize::MAX).copied(), Some(at_greatest));
+            assert_eq!(rt; ring.get_mut(usize::MAX).copied(), Some(at_greatest));
+            assert_gives(rt, &mut ring, items);
+        }
+        push_all(rt, &mut ring, &[7]);
+        assert_at(rt, &mut ring, -1, 7);
+    }
+    on(&rt, ConstGenericRingBuffer::<i64, 8>::new());
+    on(&rt, AllocRingBuffer::new(rt.alloc(), 8)?);
+    on(&rt, GrowableAllocRingBuffer::with_capacity(rt.alloc(), 8)?);
+    Ok(())
+}
+
+// No trait that the rings share has indexes, so the body is a macro.
+macro_rules! assert_indexed {
+    ($rt:expr, $ring:expr) => {
+        let mut ring = $ring;
+        push_all($rt, &mut ring, &[2]);
+        assert_eq!($rt; ring.len(), 1);
+        assert_eq!($rt; ring[0], 2);
+        ring[0] = 5;
+        assert_eq!($rt; ring[0], 5);
+        push_all($rt, &mut ring, &[6, 7]);
+        assert_eq!($rt; ring.len(), 3);
+        ring[3] = 9;
+        assert_eq!($rt; ring[5], 7);
+        assert_holds($rt, &ring, &[9, 6, 7]);
+    };
+}
+
+#[test]
+fn an_array_ring_is_indexed_by_positions(rt: HostRuntime) {
+    assert_indexed!(&rt, ConstGenericRingBuffer::<i64, 8>::new());
+}
+
+#[test]
+fn a_heap_ring_is_indexed_by_positions(rt: HostRuntime) -> Result<(), AllocError> {
+    assert_indexed!(&rt, AllocRingBuffer::new(rt.alloc(), 8)?);
+    Ok(())
+}
+
+#[test]
+fn a_growable_ring_is_indexed_by_positions(rt: HostRuntime) -> Result<(), AllocError> {
+    assert_indexed!(&rt, GrowableAllocRingBuffer::with_capacity(rt.alloc(), 8)?);
+    Ok(())
+}
+
+#[test]
+fn growable_writes_name_the_places_of_reads(rt: HostRuntime) -> Result<(), AllocError> {
+    let mut ring = GrowableAllocRingBuffer::new(rt.alloc());
+    push_all(&rt, &mut ring, &[1, 2, 3]);
+    assert_eq!(rt; ring.back_mut().copied(), Some(3));
+    assert_eq!(rt; ring.get_mut(4).copied(), Some(2));
+    assert_eq!(rt; ring.len(), 3);
+    ring[3] = 9;
+    assert_holds(&rt, &ring, &[9, 2, 3]);
+    Ok(())
+}

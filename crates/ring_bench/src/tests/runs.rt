@@ -1,0 +1,229 @@
+//! Commands, one by one and in runs.
+
+use super::drought::Drought;
+use super::{assert_holds, push_all};
+use ringbuffer::{
+    AllocRingBuffer, Command, ConstGenericRingBuffer, GrowableAllocRingBuffer, Refused, Reply,
+    RingBuffer, RunFault, Stopped, apply, run, run_into, runs_join,
+};
+use std::alloc::{AllocError, Global};
+use std::process::Abort;
+
+/// A run that has each kind of command.
+fn every_command(alloc: Global) -> Result<Vec<Command<i64>>, AllocError> {
+    Ok(vec![in alloc;
+        Command::Push(1),
+        Command::Extend(vec![in alloc; 2, 3, 4]?),
+        Command::Dequeue,
+        Command::Skip,
+        Command::Dequeue,
+        Command::Clear,
+    ]?)
+}
+
+/// What a fixed ring of capacity 2 replies to it.
+const REPLIES_OF_TWO: [Reply<i64>; 6] = [
+    Reply::Pushed,
+    Reply::Extended,
+    Reply::Dequeued(Some(3)),
+    Reply::Skipped,
+    Reply::Dequeued(None),
+    Reply::Cleared,
+];
+
+/// What a growable ring replies to it.
+const REPLIES_WITHOUT_LIMIT: [Reply<i64>; 6] = [
+    Reply::Pushed,
+    Reply::Extended,
+    Reply::Dequeued(Some(1)),
+    Reply::Skipped,
+    Reply::Dequeued(Some(3)),
+    Reply::Cleared,
+];
+
+/// Runs the commands over places that hold old replies, and finds these replies.
+fn assert_run_into<R: RingBuffer<i64>>(
+    rt: &(impl Abort + AllocGlobal),
+    ring: &mut R,
+    commands: Vec<Command<i64>>,
+    replies: &[Reply<i64>],
+) -> Result<(), AllocError> {
+    let mut places = Vec::with_capacity(rt.alloc(), replies.len())?;
+    for _ in replies {
+        places.push(Some(Reply::Cleared))?;
+    }
+    assert_eq!(rt; places.len(), commands.len());
+    assert_eq!(rt; run_into(ring, commands, places.as_mut_slice()), Ok(()));
+    for (place, reply) in places.iter().zip(replies) {
+        assert!(rt; place.as_ref() == Some(reply), "{place:?} for {reply:?}");
+    }
+    Ok(())
+}
+
+/// Runs the commands, and finds these replies.
+fn assert_run<R: RingBuffer<i64>>(
+    rt: &(impl Abort + AllocGlobal),
+    ring: &mut R,
+    commands: Vec<Command<i64>>,
+    replies: &[Reply<i64>],
+) {
+    let answered = run(rt.alloc(), ring, commands).expect(rt, "memory for the replies");
+    assert_eq!(rt; answered.as_slice(), replies);
+}
+
+#[test]
+fn each_place_holds_its_reply(rt: HostRuntime) -> Result<(), AllocError> {
+    fn on<R: RingBuffer<i64> + Drop>(
+        rt: &(impl Abort + AllocGlobal),
+        mut ring: R,
+    ) -> Result<(), AllocError> {
+        let commands = every_command(rt.alloc())?;
+        assert_run_into(rt, &mut ring, commands, &REPLIES_OF_TWO)?;
+        assert_holds(rt, &ring, &[]);
+        Ok(())
+    }
+    on(&rt, ConstGenericRingBuffer::<i64, 2>::new())?;
+    on(&rt, AllocRingBuffer::new(rt.alloc(), 2)?)
+}
+
+#[test]
+fn each_place_holds_the_reply_of_a_growable_ring(rt: HostRuntime) -> Result<(), AllocError> {
+    let mut ring = GrowableAllocRingBuffer::with_capacity(rt.alloc(), 2)?;
+    let commands = every_command(rt.alloc())?;
+    assert_run_into(&rt, &mut ring, commands, &REPLIES_WITHOUT_LIMIT)?;
+    assert_holds(&rt, &ring, &[]);
+    Ok(())
+}
+
+#[test]
+fn a_run_makes_its_replies(rt: HostRuntime) -> Result<(), AllocError> {
+    fn on<R: RingBuffer<i64> + Drop>(
+        rt: &(impl Abort + AllocGlobal),
+        mut ring: R,
+    ) -> Result<(), AllocError> {
+        let commands = every_command(rt.alloc())?;
+        assert_run(rt, &mut ring, commands, &REPLIES_OF_TWO);
+        assert_holds(rt, &ring, &[]);
+        Ok(())
+    }
+    on(&rt, ConstGenericRingBuffer::<i64, 2>::new())?;
+    on(&rt, AllocRingBuffer::new(rt.alloc(), 2)?)
+}
+
+#[test]
+fn a_run_on_a_growable_ring_makes_its_replies(rt: HostRuntime) -> Result<(), AllocError> {
+    let mut ring = GrowableAllocRingBuffer::with_capacity(rt.alloc(), 2)?;
+    let commands = every_command(rt.alloc())?;
+    assert_run(&rt, &mut ring, commands, &REPLIES_WITHOUT_LIMIT);
+    assert_holds(&rt, &ring, &[]);
+    Ok(())
+}
+
+#[test]
+fn a_run_leaves_what_its_commands_leave(rt: HostRuntime) -> Result<(), AllocError> {
+    fn on<R: RingBuffer<i64> + Drop>(
+        rt: &(impl Abort + AllocGlobal),
+        mut ring: R,
+    ) -> Result<(), AllocError> {
+        let extension = vec![in rt.alloc(); 1, 2, 3]?;
+        let commands = vec![in rt.alloc(); Command::Extend(extension), Command::Push(4)]?;
+        assert_run(rt, &mut ring, commands, &[Reply::Extended, Reply::Pushed]);
+        assert_holds(rt, &ring, &[3, 4]);
+        Ok(())
+    }
+    on(&rt, ConstGenericRingBuffer::<i64, 2>::new())?;
+    on(&rt, AllocRingBuffer::new(rt.alloc(), 2)?)
+}
+
+#[test]
+fn an_empty_run_changes_nothing(rt: HostRuntime) -> Result<(), AllocError> {
+    fn on<R: RingBuffer<i64> + Drop>(
+        rt: &(impl Abort + AllocGlobal),
+        mut ring: R,
+    ) -> Result<(), AllocError> {
+        push_all(rt, &mut ring, &[1, 2, 3]);
+        assert_run_into(rt, &mut ring, Vec::new(rt.alloc()), &[])?;
+        assert_run(rt, &mut ring, Vec::new(rt.alloc()), &[]);
+        assert_holds(rt, &ring, &[1, 2, 3]);
+        Ok(())
+    }
+    on(&rt, ConstGenericRingBuffer::<i64, 3>::new())?;
+    on(&rt, AllocRingBuffer::new(rt.alloc(), 3)?)?;
+    on(&rt, GrowableAllocRingBuffer::with_capacity(rt.alloc(), 3)?)
+}
+
+#[test]
+fn a_run_may_take_more_than_there_is(rt: HostRuntime) -> Result<(), AllocError> {
+    fn on<R: RingBuffer<i64> + Drop>(
+        rt: &(impl Abort + AllocGlobal),
+        mut ring: R,
+    ) -> Result<(), AllocError> {
+        push_all(rt, &mut ring, &[1, 2, 3]);
+        let commands = vec![in rt.alloc();
+            Command::Dequeue,
+            Command::Dequeue,
+            Command::Dequeue,
+            Command::Dequeue,
+        ]?;
+        let replies = [
+            Reply::Dequeued(Some(1)),
+            Reply::Dequeued(Some(2)),
+            Reply::Dequeued(Some(3)),
+            Reply::Dequeued(None),
+        ];
+        assert_run_into(rt, &mut ring, commands, &replies)?;
+        assert_holds(rt, &ring, &[]);
+        Ok(())
+    }
+    on(&rt, ConstGenericRingBuffer::<i64, 3>::new())?;
+    on(&rt, AllocRingBuffer::new(rt.alloc(), 3)?)?;
+    on(&rt, GrowableAllocRingBuffer::with_capacity(rt.alloc(), 3)?)
+}
+
+#[test]
+fn a_command_does_what_it_names(rt: HostRuntime) -> Result<(), AllocError> {
+    fn on<R: RingBuffer<i64> + Drop>(
+        rt: &(impl Abort + AllocGlobal),
+        mut ring: R,
+    ) -> Result<(), AllocError> {
+        assert_eq!(rt; apply(&mut ring, Command::Push(1)), Ok(Reply::Pushed));
+        let extension = vec![in rt.alloc(); 2, 3, 4]?;
+        assert_eq!(rt;
+            apply(&mut ring, Command::Extend(extension)),
+            Ok(Reply::Extended)
+        );
+        assert_holds(rt, &ring, &[1, 2, 3, 4]);
+        assert_eq!(rt;
+            apply(&mut ring, Command::Dequeue),
+            Ok(Reply::Dequeued(Some(1)))
+        );
+        assert_eq!(rt; apply(&mut ring, Command::Skip), Ok(Reply::Skipped));
+        assert_holds(rt, &ring, &[3, 4]);
+        assert_eq!(rt; apply(&mut ring, Command::Clear), Ok(Reply::Cleared));
+        assert_eq!(rt;
+            apply(&mut ring, Command::Dequeue),
+            Ok(Reply::Dequeued(None))
+        );
+        Ok(())
+    }
+    on(&rt, ConstGenericRingBuffer::<i64, 8>::new())?;
+    on(&rt, AllocRingBuffer::new(rt.alloc(), 8)?)?;
+    on(&rt, GrowableAllocRingBuffer::with_capacity(rt.alloc(), 8)?)
+}
+
+#[test]
+fn runs_join_to_one(rt: HostRuntime) -> Result<(), AllocError> {
+    fn on<R: RingBuffer<i64> + Drop>(
+        rt: &(impl Abort + AllocGlobal),
+        mut ring: R,
+    ) -> Result<(), AllocError> {
+        runs_join::<i64>();
+        for (command, reply) in every_command(rt.alloc())?.into_iter().zip(REPLIES_OF_TWO) {
+            assert_run_into(rt, &mut ring, vec![in rt.alloc(); command]?, &[reply])?;
+        }
+        assert_holds(rt, &ring, &[]);
+        Ok(())
+    }
+    on(&rt, ConstGenericRingBuffer::<i64, 2>::new())?;
+    on(&rt, AllocRingBuffer::new(rt.alloc(), 2)?)
+}

@@ -1,0 +1,464 @@
+//! Walks over the items: reading, writing and taking; lists of the items.
+
+use super::{assert_holds, push_all};
+use End::{Back, Front};
+use ringbuffer::{
+    AllocRingBuffer, ConstGenericRingBuffer, GrowableAllocRingBuffer, RingBuffer,
+    RingBufferDrainingIterator, RingBufferIntoIterator, RingBufferIterator, RingBufferMutIterator,
+};
+use std::alloc::AllocError;
+use std::process::Abort;
+
+/// An end that a walk takes a step from.
+#[derive(Clone, Copy)]
+enum End {
+    Front,
+    Back,
+}
+
+/// Steps of a reading walk over all items, each with what it finds. The number still to come is exact before each.
+fn assert_reads<R: RingBuffer<i64>>(rt: &impl Abort, ring: &R, steps: &[(End, Option<i64>)]) {
+    let mut walk = RingBufferIterator::new(ring);
+    let mut left = ring.len();
+    for (end, found) in steps {
+        assert_eq!(rt; walk.size_hint(), (left, Some(left)), "before {found:?}");
+        assert_eq!(rt; walk.len(), left, "before {found:?}");
+        let item = match end {
+            Front => walk.next(),
+            Back => walk.next_back(),
+        };
+        assert_eq!(rt; item.copied(), *found);
+        left = left.saturating_sub(1);
+    }
+}
+
+/// The same for a cursor.
+fn assert_lends<R: RingBuffer<i64>>(rt: &impl Abort, ring: &mut R, steps: &[(End, Option<i64>)]) {
+    let mut left = ring.len();
+    let mut walk = RingBufferMutIterator::new(ring);
+    for (end, found) in steps {
+        assert_eq!(rt; walk.size_hint(), (left, Some(left)), "before {found:?}");
+        let item = match end {
+            Front => walk.next().copied(),
+            Back => walk.next_back().copied(),
+        };
+        assert_eq!(rt; item, *found);
+        left = left.saturating_sub(1);
+    }
+}
+
+/// Adds one to each item.
+fn increment<R: RingBuffer<i64>>(rt: &impl Abort, ring: &mut R) {
+    let mut walk = RingBufferMutIterator::new(ring);
+    for _ in 0..walk.size_hint().0 {
+        let item = walk.next().expect(rt, "an item to come");
+        *item = item.wrapping_add(1);
+    }
+    assert!(rt; walk.next().is_none());
+}
+
+#[test]
+fn walks_meet_in_the_middle(rt: HostRuntime) -> Result<(), AllocError> {
+    fn on<R: RingBuffer<i64> + Drop>(rt: &impl Abort, mut ring: R) {
+        push_all(rt, &mut ring, &[1, 2, 3, 4, 5, 6, 7]);
+        let steps = [
+            (Front, Some(1)),
+            (Back, Some(7)),
+            (Front, Some(2)),
+            (Front, Some(3)),
+            (Back, Some(6)),
+            (Back, Some(5)),
+            (Front, Some(4)),
+            (Front, None),
+        ];
+        assert_reads(rt, &ring, &steps);
+        assert_lends(rt, &mut ring, &steps);
+    }
+    on(&rt, ConstGenericRingBuffer::<i64, 8>::new());
+    on(&rt, AllocRingBuffer::new(rt.alloc(), 8)?);
+    on(&rt, GrowableAllocRingBuffer::with_capacity(rt.alloc(), 8)?);
+    on(&rt, ConstGenericRingBuffer::<i64, 7>::new());
+    on(&rt, AllocRingBuffer::new(rt.alloc(), 7)?);
+    on(&rt, GrowableAllocRingBuffer::with_capacity(rt.alloc(), 7)?);
+    Ok(())
+}
+
+#[test]
+fn walks_begin_at_either_end(rt: HostRuntime) -> Result<(), AllocError> {
+    fn on<R: RingBuffer<i64> + Drop>(rt: &impl Abort, mut ring: R) {
+        push_all(rt, &mut ring, &[1, 2, 3, 4]);
+        let steps = [
+            (Back, Some(4)),
+            (Back, Some(3)),
+            (Front, Some(1)),
+            (Back, Some(2)),
+            (Back, None),
+        ];
+        assert_reads(rt, &ring, &steps);
+        assert_lends(rt, &mut ring, &steps);
+    }
+    on(&rt, ConstGenericRingBuffer::<i64, 8>::new());
+    on(&rt, AllocRingBuffer::new(rt.alloc(), 8)?);
+    on(&rt, GrowableAllocRingBuffer::with_capacity(rt.alloc(), 8)?);
+    Ok(())
+}
+
+#[test]
+fn an_ended_walk_stays_ended(rt: HostRuntime) -> Result<(), AllocError> {
+    fn on<R: RingBuffer<i64> + Drop>(rt: &impl Abort, mut ring: R) {
+        push_all(rt, &mut ring, &[1]);
+        let steps = [(Back, Some(1)), (Front, None), (Back, None), (Front, None)];
+        assert_reads(rt, &ring, &steps);
+        assert_lends(rt, &mut ring, &steps);
+    }
+    on(&rt, ConstGenericRingBuffer::<i64, 8>::new());
+    on(&rt, AllocRingBuffer::new(rt.alloc(), 8)?);
+    on(&rt, GrowableAllocRingBuffer::with_capacity(rt.alloc(), 8)?);
+    Ok(())
+}
+
+#[test]
+fn an_empty_ring_has_nothing_to_come(rt: HostRuntime) -> Result<(), AllocError> {
+    fn on<R: RingBuffer<i64> + Drop>(rt: &impl Abort, mut ring: R) {
+        assert_reads(rt, &ring, &[(Front, None), (Back, None)]);
+        assert_lends(rt, &mut ring, &[(Front, None), (Back, None)]);
+        assert!(rt; RingBufferDrainingIterator::new(&mut ring).next().is_none());
+        assert!(rt; RingBufferIntoIterator::new(ring).next().is_none());
+    }
+    on(&rt, ConstGenericRingBuffer::<i64, 8>::new());
+    on(&rt, AllocRingBuffer::new(rt.alloc(), 8)?);
+    on(&rt, GrowableAllocRingBuffer::with_capacity(rt.alloc(), 8)?);
+    Ok(())
+}
+
+#[test]
+fn a_walk_reads_in_order(rt: HostRuntime) -> Result<(), AllocError> {
+    fn on<R: RingBuffer<i64> + Drop>(rt: &impl Abort, mut ring: R) {
+        push_all(rt, &mut ring, &[1, 2, 3, 4, 5, 6, 7]);
+        let mut walk = RingBufferIterator::new(&ring);
+        for item in 1..8 {
+            assert_eq!(rt; walk.next().copied(), Some(item));
+        }
+        assert!(rt; walk.next().is_none());
+    }
+    on(&rt, ConstGenericRingBuffer::<i64, 7>::new());
+    on(&rt, AllocRingBuffer::new(rt.alloc(), 7)?);
+    on(&rt, GrowableAllocRingBuffer::with_capacity(rt.alloc(), 7)?);
+    Ok(())
+}
+
+#[test]
+fn an_owning_walk_takes_in_order(rt: HostRuntime) -> Result<(), AllocError> {
+    fn on<R: RingBuffer<i64> + Drop>(rt: &impl Abort, mut ring: R) {
+        push_all(rt, &mut ring, &[1, 2, 3, 4, 5, 6, 7]);
+        let mut walk = RingBufferIntoIterator::new(ring);
+        for (item, left) in [(1, 7), (2, 6), (3, 5), (4, 4), (5, 3), (6, 2), (7, 1)] {
+            assert_eq!(rt; walk.size_hint(), (left, Some(left)), "before {item}");
+            assert_eq!(rt; walk.next(), Some(item));
+        }
+        assert_eq!(rt; walk.size_hint(), (0, Some(0)));
+        assert!(rt; walk.next().is_none());
+    }
+    on(&rt, ConstGenericRingBuffer::<i64, 8>::new());
+    on(&rt, AllocRingBuffer::new(rt.alloc(), 8)?);
+    on(&rt, GrowableAllocRingBuffer::with_capacity(rt.alloc(), 8)?);
+    Ok(())
+}
+
+#[test]
+fn items_may_be_borrowed_texts(rt: HostRuntime) -> Result<(), AllocError> {
+    fn on<'a, R: RingBuffer<&'a str> + Drop>(rt: &impl Abort, mut ring: R, text: &'a str) {
+        for i in 0..3 {
+            let letter = text.get(i..i + 1).expect(rt, "three letters");
+            assert!(rt; ring.push(letter).is_ok());
+        }
+        let mut walk = RingBufferIterator::new(&ring);
+        for letter in ["a", "b", "c"] {
+            assert!(rt; *walk.next().expect(rt, "a letter") == letter);
+        }
+    }
+    let text = String::from_str(rt.alloc(), "abc")?;
+    on(&rt, ConstGenericRingBuffer::<&str, 8>::new(), text.as_str());
+    on(&rt, AllocRingBuffer::new(rt.alloc(), 8)?, text.as_str());
+    on(
+        &rt,
+        GrowableAllocRingBuffer::with_capacity(rt.alloc(), 8)?,
+        text.as_str(),
+    );
+    Ok(())
+}
+
+#[test]
+fn items_may_be_references(rt: HostRuntime) -> Result<(), AllocError> {
+    fn on<'a, R: RingBuffer<&'a i64> + Drop>(rt: &impl Abort, mut ring: R, numbers: &'a [i64]) {
+        for number in numbers {
+            assert!(rt; ring.push(number).is_ok());
+        }
+        for (item, number) in RingBufferIterator::new(&ring).zip(numbers) {
+            assert_eq!(rt; **item, *number);
+        }
+        let oldest = ring.dequeue().expect(rt, "an item");
+        *ring.back_mut().expect(rt, "a newest item") = oldest;
+        assert_eq!(rt; ring.get(0).map(|item| **item), Some(2));
+        assert_eq!(rt; ring.get(1).map(|item| **item), Some(1));
+    }
+    let numbers = [1, 2, 3];
+    on(&rt, ConstGenericRingBuffer::<&i64, 3>::new(), &numbers);
+    on(&rt, AllocRingBuffer::new(rt.alloc(), 3)?, &numbers);
+    on(
+        &rt,
+        GrowableAllocRingBuffer::with_capacity(rt.alloc(), 3)?,
+        &numbers,
+    );
+    Ok(())
+}
+
+#[test]
+fn two_walks_go_side_by_side(rt: HostRuntime) -> Result<(), AllocError> {
+    fn on<R: RingBuffer<i64> + Drop>(rt: &impl Abort, mut ring: R) {
+        push_all(rt, &mut ring, &[1, 2, 3]);
+        let mut one = RingBufferIterator::new(&ring);
+        let mut other = RingBufferIterator::new(&ring);
+        for item in 1..4 {
+            assert_eq!(rt; one.next().copied(), Some(item));
+            assert_eq!(rt; other.next().copied(), Some(item));
+        }
+    }
+    on(&rt, ConstGenericRingBuffer::<i64, 8>::new());
+    on(&rt, AllocRingBuffer::new(rt.alloc(), 8)?);
+    on(&rt, GrowableAllocRingBuffer::with_capacity(rt.alloc(), 8)?);
+    Ok(())
+}
+
+#[test]
+fn an_overwritten_item_is_not_seen(rt: HostRuntime) -> Result<(), AllocError> {
+    fn on<R: RingBuffer<i64> + Drop>(
+        rt: &(impl Abort + AllocGlobal),
+        mut ring: R,
+    ) -> Result<(), AllocError> {
+        push_all(rt, &mut ring, &[1, 2, 3]);
+        assert_reads(
+            rt,
+            &ring,
+            &[(Front, Some(2)), (Front, Some(3)), (Front, None)],
+        );
+        assert_eq!(rt; ring.to_vec(rt.alloc())?.as_slice(), [2, 3].as_slice());
+        increment(rt, &mut ring);
+        assert_holds(rt, &ring, &[3, 4]);
+        Ok(())
+    }
+    on(&rt, ConstGenericRingBuffer::<i64, 2>::new())?;
+    on(&rt, AllocRingBuffer::new(rt.alloc(), 2)?)
+}
+
+#[test]
+fn all_items_of_a_growable_ring_are_seen(rt: HostRuntime) -> Result<(), AllocError> {
+    let mut ring = GrowableAllocRingBuffer::with_capacity(rt.alloc(), 2)?;
+    push_all(&rt, &mut ring, &[1, 2, 3]);
+    let steps = [
+        (Front, Some(1)),
+        (Front, Some(2)),
+        (Front, Some(3)),
+        (Front, None),
+    ];
+    assert_reads(&rt, &ring, &steps);
+    assert_eq!(rt; ring.to_vec(rt.alloc())?.as_slice(), [1, 2, 3].as_slice());
+    increment(&rt, &mut ring);
+    assert_holds(&rt, &ring, &[2, 3, 4]);
+    Ok(())
+}
+
+#[test]
+fn a_cursor_writes_each_item(rt: HostRuntime) -> Result<(), AllocError> {
+    fn on<R: RingBuffer<i64> + Drop>(rt: &impl Abort, mut ring: R) {
+        push_all(rt, &mut ring, &[1, 2, 3]);
+        increment(rt, &mut ring);
+        assert_holds(rt, &ring, &[2, 3, 4]);
+    }
+    on(&rt, ConstGenericRingBuffer::<i64, 8>::new());
+    on(&rt, AllocRingBuffer::new(rt.alloc(), 8)?);
+    on(&rt, GrowableAllocRingBuffer::with_capacity(rt.alloc(), 8)?);
+    Ok(())
+}
+
+#[test]
+fn a_cursor_writes_from_both_ends(rt: HostRuntime) -> Result<(), AllocError> {
+    fn on<R: RingBuffer<i64> + Drop>(rt: &impl Abort, mut ring: R) {
+        push_all(rt, &mut ring, &[1, 2, 3, 4]);
+        let mut walk = RingBufferMutIterator::new(&mut ring);
+        let first = walk.next().expect(rt, "a first item");
+        *first = first.wrapping_add(10);
+        let last = walk.next_back().expect(rt, "a last item");
+        *last = last.wrapping_add(20);
+        assert_eq!(rt; walk.size_hint(), (2, Some(2)));
+        drop(walk);
+        assert_holds(rt, &ring, &[11, 2, 3, 24]);
+    }
+    on(&rt, ConstGenericRingBuffer::<i64, 4>::new());
+    on(&rt, AllocRingBuffer::new(rt.alloc(), 4)?);
+    on(&rt, GrowableAllocRingBuffer::with_capacity(rt.alloc(), 4)?);
+    Ok(())
+}
+
+#[test]
+fn a_dropped_cursor_keeps_what_was_written(rt: HostRuntime) -> Result<(), AllocError> {
+    fn on<R: RingBuffer<i64> + Drop>(rt: &impl Abort, mut ring: R) {
+        push_all(rt, &mut ring, &[1, 2, 3]);
+        let mut walk = RingBufferMutIterator::new(&mut ring);
+        *walk.next().expect(rt, "a first item") = 5;
+        drop(walk);
+        assert_holds(rt, &ring, &[5, 2, 3]);
+    }
+    on(&rt, ConstGenericRingBuffer::<i64, 3>::new());
+    on(&rt, AllocRingBuffer::new(rt.alloc(), 3)?);
+    on(&rt, GrowableAllocRingBuffer::with_capacity(rt.alloc(), 3)?);
+    Ok(())
+}
+
+#[test]
+fn a_drain_empties_the_ring(rt: HostRuntime) -> Result<(), AllocError> {
+    fn on<R: RingBuffer<i64> + Drop>(rt: &impl Abort, mut ring: R) {
+        push_all(rt, &mut ring, &[0, 1, 2, 3, 4, 5, 6, 7]);
+        assert_eq!(rt; ring.len(), 8);
+        let mut walk = RingBufferDrainingIterator::new(&mut ring);
+        for (item, left) in [
+            (0, 8),
+            (1, 7),
+            (2, 6),
+            (3, 5),
+            (4, 4),
+            (5, 3),
+            (6, 2),
+            (7, 1),
+        ] {
+            assert_eq!(rt; walk.size_hint(), (left, Some(left)), "before {item}");
+            assert_eq!(rt; walk.next(), Some(item));
+        }
+        assert!(rt; walk.next().is_none());
+        drop(walk);
+        assert_eq!(rt; ring.len(), 0);
+    }
+    on(&rt, ConstGenericRingBuffer::<i64, 16>::new());
+    on(&rt, AllocRingBuffer::new(rt.alloc(), 16)?);
+    on(&rt, GrowableAllocRingBuffer::with_capacity(rt.alloc(), 16)?);
+    Ok(())
+}
+
+#[test]
+fn a_dropped_drain_leaves_the_rest(rt: HostRuntime) -> Result<(), AllocError> {
+    fn on<R: RingBuffer<i64> + Drop>(rt: &impl Abort, mut ring: R) {
+        push_all(rt, &mut ring, &[1, 2, 3, 4]);
+        drop(RingBufferDrainingIterator::new(&mut ring));
+        assert_holds(rt, &ring, &[1, 2, 3, 4]);
+        let mut walk = RingBufferDrainingIterator::new(&mut ring);
+        assert_eq!(rt; walk.next(), Some(1));
+        assert_eq!(rt; walk.next(), Some(2));
+        drop(walk);
+        assert_holds(rt, &ring, &[3, 4]);
+        assert_eq!(rt; RingBufferDrainingIterator::new(&mut ring).next(), Some(3));
+        assert_holds(rt, &ring, &[4]);
+    }
+    on(&rt, ConstGenericRingBuffer::<i64, 4>::new());
+    on(&rt, AllocRingBuffer::new(rt.alloc(), 4)?);
+    on(&rt, GrowableAllocRingBuffer::with_capacity(rt.alloc(), 4)?);
+    Ok(())
+}
+
+#[test]
+fn to_vec_clones_the_items_in_order(rt: HostRuntime) -> Result<(), AllocError> {
+    fn on<R: RingBuffer<i64> + Drop>(
+        rt: &(impl Abort + AllocGlobal),
+        mut ring: R,
+    ) -> Result<(), AllocError> {
+        push_all(rt, &mut ring, &[1, 2, 3]);
+        assert_eq!(rt; ring.to_vec(rt.alloc())?.as_slice(), [1, 2, 3].as_slice());
+        assert_holds(rt, &ring, &[1, 2, 3]);
+        Ok(())
+    }
+    on(&rt, ConstGenericRingBuffer::<i64, 8>::new())?;
+    on(&rt, AllocRingBuffer::new(rt.alloc(), 8)?)?;
+    on(&rt, GrowableAllocRingBuffer::with_capacity(rt.alloc(), 8)?)
+}
+
+#[test]
+fn contains_finds_the_items_alone(rt: HostRuntime) -> Result<(), AllocError> {
+    fn on<R: RingBuffer<i64> + Drop>(rt: &impl Abort, mut ring: R) {
+        push_all(rt, &mut ring, &[1, 2]);
+        assert!(rt; ring.contains(&1));
+        assert!(rt; ring.contains(&2));
+        assert!(rt; !ring.contains(&3));
+    }
+    on(&rt, ConstGenericRingBuffer::<i64, 8>::new());
+    on(&rt, AllocRingBuffer::new(rt.alloc(), 8)?);
+    on(&rt, GrowableAllocRingBuffer::with_capacity(rt.alloc(), 8)?);
+    Ok(())
+}
+
+// No trait that the rings share has these calls, so the body is a macro. Each walk takes 1, 2 and 3.
+macro_rules! assert_walked {
+    ($rt:expr, $ring:expr) => {
+        let mut ring = $ring;
+        push_all($rt, &mut ring, &[0, 1, 2]);
+        let mut walk = ring.iter_mut();
+        for _ in 0..3 {
+            let item = walk.next().expect($rt, "an item to come");
+            *item = item.wrapping_add(1);
+        }
+        drop(walk);
+        assert!($rt; ring.iter().rev().copied().eq([3, 2, 1]));
+        assert!($rt; ring.drain().eq([1, 2, 3]));
+        push_all($rt, &mut ring, &[1, 2, 3]);
+        assert!($rt; ring.into_iter().eq([1, 2, 3]));
+    };
+}
+
+#[test]
+fn an_array_ring_makes_its_walks(rt: HostRuntime) {
+    assert_walked!(&rt, ConstGenericRingBuffer::<i64, 3>::new());
+}
+
+#[test]
+fn a_heap_ring_makes_its_walks(rt: HostRuntime) -> Result<(), AllocError> {
+    assert_walked!(&rt, AllocRingBuffer::new(rt.alloc(), 3)?);
+    Ok(())
+}
+
+#[test]
+fn a_growable_ring_makes_its_walks(rt: HostRuntime) -> Result<(), AllocError> {
+    assert_walked!(&rt, GrowableAllocRingBuffer::new(rt.alloc()));
+    Ok(())
+}
+
+macro_rules! assert_looped {
+    ($rt:expr, $ring:expr) => {
+        let mut ring = $ring;
+        push_all($rt, &mut ring, &[1, 2, 3]);
+        let mut last = 0;
+        for item in &ring {
+            assert!($rt; last < *item);
+            last = *item;
+        }
+        assert_eq!($rt; last, 3);
+        for item in ring {
+            last = last.wrapping_sub(item);
+        }
+        assert_eq!($rt; last, -3);
+    };
+}
+
+#[test]
+fn loops_go_over_an_array_ring(rt: HostRuntime) {
+    assert_looped!(&rt, ConstGenericRingBuffer::<i64, 3>::new());
+}
+
+#[test]
+fn loops_go_over_a_heap_ring(rt: HostRuntime) -> Result<(), AllocError> {
+    assert_looped!(&rt, AllocRingBuffer::new(rt.alloc(), 3)?);
+    Ok(())
+}
+
+#[test]
+fn loops_go_over_a_growable_ring(rt: HostRuntime) -> Result<(), AllocError> {
+    assert_looped!(&rt, GrowableAllocRingBuffer::new(rt.alloc()));
+    Ok(())
+}
