@@ -1,0 +1,72 @@
+// The same work on Boost's circular_buffer.
+#include <boost/circular_buffer.hpp>
+#include <cstddef>
+#include <cstdint>
+
+using Ring = boost::circular_buffer<std::uint64_t>;
+
+namespace {
+
+enum Work : std::uint32_t { Push, PushDequeue, Extend, Walk, Get, Fill, Clone, Refill };
+
+constexpr std::uint64_t extension = 4096;
+
+[[gnu::noinline]] void push(Ring &ring, std::size_t items) {
+    for (std::size_t number = 0; number < items; ++number) ring.push_back(number);
+}
+
+[[gnu::noinline]] std::uint64_t push_dequeue(Ring &ring, std::size_t items) {
+    std::uint64_t sum = 0;
+    for (std::size_t number = 0; number < items; ++number) {
+        ring.push_back(number);
+        sum += ring.front();
+        ring.pop_front();
+    }
+    return sum;
+}
+
+[[gnu::noinline]] void extend(Ring &ring) {
+    for (std::uint64_t number = 0; number < extension; ++number) ring.push_back(number);
+}
+
+[[gnu::noinline]] std::uint64_t walk(const Ring &ring, std::uint64_t sum) {
+    for (std::uint64_t item : ring) sum += item;
+    return sum;
+}
+
+[[gnu::noinline]] std::uint64_t get(const Ring &ring, std::size_t count, std::uint64_t sum) {
+    for (std::size_t index = 0; index < count; ++index) sum += ring[index];
+    return sum;
+}
+
+[[gnu::noinline]] void fill(Ring &ring, std::uint64_t item) { ring.assign(ring.capacity(), item); }
+
+[[gnu::noinline]] std::uint64_t clone(const Ring &ring, std::uint64_t sum) {
+    Ring copy(ring);
+    return sum + copy[sum % copy.size()];
+}
+
+[[gnu::noinline]] void refill(Ring &ring, std::size_t capacity, std::uint64_t round) {
+    ring.clear();
+    for (std::size_t number = 0; number < capacity; ++number) ring.push_back(round + number);
+}
+
+}  // namespace
+
+extern "C" std::uint64_t boost_side(std::uint32_t work, std::size_t capacity, std::size_t items) {
+    Ring ring(capacity);
+    push(ring, capacity);
+    std::uint64_t sum = 0;
+    const std::size_t rounds = items / capacity;
+    switch (work) {
+        case Push: push(ring, items); break;
+        case PushDequeue: ring.pop_front(); sum = push_dequeue(ring, items); break;
+        case Extend: for (std::size_t i = 0; i < items / extension; ++i) extend(ring); break;
+        case Walk: for (std::size_t i = 0; i < rounds; ++i) sum = walk(ring, sum); break;
+        case Get: for (std::size_t i = 0; i < rounds; ++i) sum = get(ring, capacity, sum); break;
+        case Fill: for (std::size_t i = 0; i < rounds; ++i) fill(ring, i); break;
+        case Clone: for (std::size_t i = 0; i < rounds; ++i) sum = clone(ring, sum); break;
+        default: for (std::size_t i = 0; i < rounds; ++i) refill(ring, capacity, i); break;
+    }
+    return ring.empty() ? sum : sum + ring.back();
+}

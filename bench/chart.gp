@@ -1,0 +1,21 @@
+# The times at capacity 1024 as bars, one group for each kind of work.
+set terminal svg size 1100,460 font "sans-serif,12" background "white"
+set output "../docs/benchmarks.svg"
+set datafile separator ","
+set style data histograms
+set style histogram clustered gap 1
+set style fill solid 0.9 noborder
+set ylabel "nanoseconds per item, capacity 1024"
+set yrange [0:*]
+set grid ytics lc rgb "#dddddd"
+set key outside right top
+set xtics rotate by -20 nomirror
+of(name) = sprintf("< awk -F, -v name='%s' '$2 == 1024 && $3 == name { print $1 \",\" $4 }' target/times.csv", name)
+plot of("heap") using 2:xtic(1) title "heap" lc rgb "#1f4e9c", \
+     of("Rust heap") using 2 title "Rust heap" lc rgb "#9db8e6", \
+     of("array") using 2 title "array" lc rgb "#1d7a3e", \
+     of("Rust array") using 2 title "Rust array" lc rgb "#a3d6b3", \
+     of("growable") using 2 title "growable" lc rgb "#a8441a", \
+     of("Rust growable") using 2 title "Rust growable" lc rgb "#ecb896", \
+     of("VecDeque") using 2 title "VecDeque" lc rgb "#777777", \
+     of("limit") using 2 title "limit" lc rgb "#111111"

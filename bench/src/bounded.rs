@@ -1,0 +1,96 @@
+//! The same work on a `VecDeque` that is kept to its capacity by hand.
+
+use crate::work::{Work, EXTENSION};
+use std::collections::VecDeque;
+
+fn push_one(ring: &mut VecDeque<u64>, capacity: usize, item: u64) {
+    if ring.len() == capacity {
+        ring.pop_front();
+    }
+    ring.push_back(item);
+}
+
+#[inline(never)]
+fn push(ring: &mut VecDeque<u64>, capacity: usize, items: usize) {
+    for number in 0..items {
+        push_one(ring, capacity, number as u64);
+    }
+}
+
+#[inline(never)]
+fn push_dequeue(ring: &mut VecDeque<u64>, capacity: usize, items: usize) -> u64 {
+    let mut sum = 0u64;
+    for number in 0..items {
+        push_one(ring, capacity, number as u64);
+        if let Some(item) = ring.pop_front() {
+            sum = sum.wrapping_add(item);
+        }
+    }
+    sum
+}
+
+#[inline(never)]
+fn extend(ring: &mut VecDeque<u64>, capacity: usize) {
+    for item in 0..EXTENSION {
+        push_one(ring, capacity, item);
+    }
+}
+
+#[inline(never)]
+fn walk(ring: &VecDeque<u64>, mut sum: u64) -> u64 {
+    for item in ring.iter() {
+        sum = sum.wrapping_add(*item);
+    }
+    sum
+}
+
+#[inline(never)]
+fn get(ring: &VecDeque<u64>, count: usize, mut sum: u64) -> u64 {
+    for index in 0..count {
+        if let Some(item) = ring.get(index) {
+            sum = sum.wrapping_add(*item);
+        }
+    }
+    sum
+}
+
+#[inline(never)]
+fn fill(ring: &mut VecDeque<u64>, capacity: usize, item: u64) {
+    ring.clear();
+    ring.resize(capacity, item);
+}
+
+#[inline(never)]
+fn clone(ring: &VecDeque<u64>, sum: u64) -> u64 {
+    let copy = ring.clone();
+    copy.get(sum as usize % copy.len()).map_or(0, |item| sum.wrapping_add(*item))
+}
+
+#[inline(never)]
+fn refill(ring: &mut VecDeque<u64>, capacity: usize, round: u64) {
+    ring.clear();
+    for number in 0..capacity {
+        push_one(ring, capacity, round.wrapping_add(number as u64));
+    }
+}
+
+pub fn deque(work: Work, capacity: usize, items: usize) -> u64 {
+    let mut ring = VecDeque::with_capacity(capacity);
+    push(&mut ring, capacity, capacity);
+    let rounds = items / capacity;
+    let mut sum = 0u64;
+    match work {
+        Work::Push => push(&mut ring, capacity, items),
+        Work::PushDequeue => {
+            ring.pop_front();
+            sum = push_dequeue(&mut ring, capacity, items);
+        }
+        Work::Extend => (0..items / EXTENSION as usize).for_each(|_| extend(&mut ring, capacity)),
+        Work::Walk => (0..rounds).for_each(|_| sum = walk(&ring, sum)),
+        Work::Get => (0..rounds).for_each(|_| sum = get(&ring, capacity, sum)),
+        Work::Clone => (0..rounds).for_each(|_| sum = clone(&ring, sum)),
+        Work::Fill => (0..rounds).for_each(|round| fill(&mut ring, capacity, round as u64)),
+        Work::Refill => (0..rounds).for_each(|round| refill(&mut ring, capacity, round as u64)),
+    }
+    sum.wrapping_add(ring.back().copied().unwrap_or(0))
+}

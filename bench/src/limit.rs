@@ -1,0 +1,90 @@
+//! The limit: a bare write under a mask, and plain slices. It keeps no length and overwrites without a test.
+
+use crate::work::{Work, EXTENSION};
+
+struct Masked {
+    slots: Box<[u64]>,
+    next: usize,
+}
+
+impl Masked {
+    fn push(&mut self, item: u64) {
+        let at = self.next & (self.slots.len() - 1);
+        // SAFETY: the number of slots is a power of two, so the masked place is below it.
+        unsafe { *self.slots.get_unchecked_mut(at) = item };
+        self.next = self.next.wrapping_add(1);
+    }
+
+    fn read(&self, place: usize) -> u64 {
+        let at = place & (self.slots.len() - 1);
+        // SAFETY: as in `push`.
+        unsafe { *self.slots.get_unchecked(at) }
+    }
+}
+
+#[inline(never)]
+fn push(ring: &mut Masked, items: usize) {
+    for number in 0..items {
+        ring.push(number as u64);
+    }
+}
+
+#[inline(never)]
+fn push_dequeue(ring: &mut Masked, items: usize) -> u64 {
+    let mut sum = 0u64;
+    for number in 0..items {
+        ring.push(number as u64);
+        sum = sum.wrapping_add(ring.read(number));
+    }
+    sum
+}
+
+#[inline(never)]
+fn extend(ring: &mut Masked) {
+    for item in 0..EXTENSION {
+        ring.push(item);
+    }
+}
+
+#[inline(never)]
+fn walk(slots: &[u64], sum: u64) -> u64 {
+    slots.iter().fold(sum, |sum, item| sum.wrapping_add(*item))
+}
+
+#[inline(never)]
+fn fill(slots: &mut [u64], item: u64) {
+    slots.fill(item);
+}
+
+#[inline(never)]
+fn clone(slots: &[u64], sum: u64) -> u64 {
+    let copy = slots.to_vec();
+    sum.wrapping_add(copy[sum as usize % copy.len()])
+}
+
+#[inline(never)]
+fn refill(slots: &mut [u64], round: u64) {
+    for (number, slot) in slots.iter_mut().enumerate() {
+        *slot = round.wrapping_add(number as u64);
+    }
+}
+
+pub fn slices(work: Work, capacity: usize, items: usize) -> u64 {
+    let size = capacity.next_power_of_two();
+    let mut ring = Masked { slots: vec![0; size].into_boxed_slice(), next: 0 };
+    push(&mut ring, capacity);
+    let rounds = items / capacity;
+    let mut sum = 0u64;
+    match work {
+        Work::Push => push(&mut ring, items),
+        Work::PushDequeue => sum = push_dequeue(&mut ring, items),
+        Work::Extend => (0..items / EXTENSION as usize).for_each(|_| extend(&mut ring)),
+        Work::Walk | Work::Get => {
+            (0..rounds).for_each(|_| sum = walk(&ring.slots[..capacity], sum));
+        }
+        Work::Clone => (0..rounds).for_each(|_| sum = clone(&ring.slots[..capacity], sum)),
+        Work::Fill => (0..rounds).for_each(|round| fill(&mut ring.slots[..capacity], round as u64)),
+        Work::Refill => (0..rounds).for_each(|round| refill(&mut ring.slots[..capacity], round as u64)),
+    }
+    sum.wrapping_add(ring.read(0))
+}

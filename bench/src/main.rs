@@ -1,0 +1,102 @@
+//! Times the rings of this repository beside others, all in one process.
+//!
+//! `time` prints a line `work,capacity,contender,nanoseconds` for each. `list` prints the same names without a time, and
+//! `once CONTENDER WORK CAPACITY ITEMS` does one piece of work, for a program that counts instructions. `table TIMES
+//! COUNTS` prints both as tables of Markdown.
+
+mod bounded;
+mod limit;
+mod rust_side;
+mod table;
+mod work;
+
+use std::time::Instant;
+use std::{env, fs};
+use work::{Work, CAPACITIES};
+
+extern "C" {
+    fn ring_measure_array(work: u32, capacity: usize, items: usize) -> u64;
+    fn ring_measure_heap(work: u32, capacity: usize, items: usize) -> u64;
+    fn ring_measure_growable(work: u32, capacity: usize, items: usize) -> u64;
+    #[cfg(feature = "boost")]
+    fn boost_side(work: u32, capacity: usize, items: usize) -> u64;
+}
+
+pub struct Contender {
+    pub name: &'static str,
+    run: fn(Work, usize, usize) -> u64,
+}
+
+// SAFETY of the calls below: the exports take numbers alone and are proved for every number.
+pub const CONTENDERS: &[Contender] = &[
+    Contender { name: "array", run: |work, capacity, items| unsafe { ring_measure_array(work as u32, capacity, items) } },
+    Contender { name: "Rust array", run: rust_side::array },
+    Contender { name: "heap", run: |work, capacity, items| unsafe { ring_measure_heap(work as u32, capacity, items) } },
+    Contender { name: "Rust heap", run: rust_side::heap },
+    Contender { name: "growable", run: |work, capacity, items| unsafe { ring_measure_growable(work as u32, capacity, items) } },
+    Contender { name: "Rust growable", run: rust_side::growable },
+    Contender { name: "VecDeque", run: bounded::deque },
+    #[cfg(feature = "boost")]
+    Contender { name: "Boost", run: |work, capacity, items| unsafe { boost_side(work as u32, capacity, items) } },
+    Contender { name: "limit", run: limit::slices },
+];
+
+/// How many rounds are made, and how many items a round works on: eight times the greatest capacity.
+const ROUNDS: usize = 60;
+const ITEMS: usize = 1 << 19;
+
+fn seconds(contender: &Contender, work: Work, capacity: usize, items: usize) -> f64 {
+    let start = Instant::now();
+    std::hint::black_box((contender.run)(work, capacity, std::hint::black_box(items)));
+    start.elapsed().as_secs_f64()
+}
+
+/// The least time of many rounds in which all contenders take turns, less the least time of making and filling the ring.
+fn time_all() {
+    for work in Work::ALL {
+        for capacity in CAPACITIES {
+            let mut least = vec![(f64::MAX, f64::MAX); CONTENDERS.len()];
+            for _ in 0..ROUNDS {
+                for (contender, (made, done)) in CONTENDERS.iter().zip(&mut least) {
+                    *made = made.min(seconds(contender, work, capacity, 0));
+                    *done = done.min(seconds(contender, work, capacity, ITEMS));
+                }
+            }
+            for (contender, (made, done)) in CONTENDERS.iter().zip(least) {
+                let nanoseconds = (done - made) * 1e9 / ITEMS as f64;
+                println!("{},{capacity},{},{nanoseconds:.3}", work.name(), contender.name);
+            }
+        }
+    }
+}
+
+fn list() {
+    for work in Work::ALL {
+        for capacity in CAPACITIES {
+            for contender in CONTENDERS {
+                println!("{},{capacity},{}", work.name(), contender.name);
+            }
+        }
+    }
+}
+
+fn once(contender: &str, work: &str, capacity: &str, items: &str) {
+    let contender = CONTENDERS.iter().find(|it| it.name == contender).expect("a contender's name");
+    let work = Work::ALL.into_iter().find(|it| it.name() == work).expect("the name of a kind of work");
+    let (capacity, items) = (capacity.parse().expect("a capacity"), items.parse().expect("a number of items"));
+    std::hint::black_box((contender.run)(work, capacity, items));
+}
+
+fn main() {
+    let words: Vec<String> = env::args().skip(1).collect();
+    match words.iter().map(String::as_str).collect::<Vec<_>>()[..] {
+        ["time"] => time_all(),
+        ["list"] => list(),
+        ["once", contender, work, capacity, items] => once(contender, work, capacity, items),
+        ["table", times, counts] => {
+            let read = |path: &str| fs::read_to_string(path).expect("a file of measurements");
+            print!("{}", table::tables(&read(times), &read(counts)));
+        }
+        _ => panic!("time | list | once CONTENDER WORK CAPACITY ITEMS | table TIMES COUNTS"),
+    }
+}

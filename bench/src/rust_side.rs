@@ -1,0 +1,134 @@
+//! The same work on the rings of the Rust crate.
+
+use crate::work::{Work, EXTENSION};
+use ringbuffer::{AllocRingBuffer, ConstGenericRingBuffer, GrowableAllocRingBuffer, RingBuffer};
+
+#[inline(never)]
+fn push<R: RingBuffer<u64>>(ring: &mut R, items: usize) {
+    for number in 0..items {
+        ring.push(number as u64);
+    }
+}
+
+#[inline(never)]
+fn push_within<R: RingBuffer<u64>>(ring: &mut R, capacity: usize, items: usize) {
+    for number in 0..items {
+        if ring.len() == capacity {
+            ring.skip();
+        }
+        ring.push(number as u64);
+    }
+}
+
+#[inline(never)]
+fn push_dequeue<R: RingBuffer<u64>>(ring: &mut R, items: usize) -> u64 {
+    let mut sum = 0u64;
+    for number in 0..items {
+        ring.push(number as u64);
+        if let Some(item) = ring.dequeue() {
+            sum = sum.wrapping_add(item);
+        }
+    }
+    sum
+}
+
+#[inline(never)]
+fn extend<R: RingBuffer<u64>>(ring: &mut R) {
+    ring.extend(0..EXTENSION);
+}
+
+#[inline(never)]
+fn walk<R: RingBuffer<u64>>(ring: &R, mut sum: u64) -> u64 {
+    for item in ring.iter() {
+        sum = sum.wrapping_add(*item);
+    }
+    sum
+}
+
+#[inline(never)]
+fn get<R: RingBuffer<u64>>(ring: &R, count: usize, mut sum: u64) -> u64 {
+    for index in 0..count {
+        if let Some(item) = ring.get(index) {
+            sum = sum.wrapping_add(*item);
+        }
+    }
+    sum
+}
+
+#[inline(never)]
+fn fill<R: RingBuffer<u64>>(ring: &mut R, item: u64) {
+    ring.fill(item);
+}
+
+#[inline(never)]
+fn clone<R: RingBuffer<u64> + Clone>(ring: &R, sum: u64) -> u64 {
+    let copy = ring.clone();
+    copy.get(sum as usize).map_or(0, |item| sum.wrapping_add(*item))
+}
+
+#[inline(never)]
+fn refill<R: RingBuffer<u64>>(ring: &mut R, capacity: usize, round: u64) {
+    ring.clear();
+    for number in 0..capacity {
+        ring.push(round.wrapping_add(number as u64));
+    }
+}
+
+fn on_fixed<R: RingBuffer<u64> + Clone>(mut ring: R, work: Work, capacity: usize, items: usize) -> u64 {
+    push(&mut ring, capacity);
+    match work {
+        Work::Push => push(&mut ring, items),
+        Work::Extend => (0..items / EXTENSION as usize).for_each(|_| extend(&mut ring)),
+        _ => return on_full(ring, work, capacity, items),
+    }
+    outcome(&ring)
+}
+
+fn on_full<R: RingBuffer<u64> + Clone>(mut ring: R, work: Work, capacity: usize, items: usize) -> u64 {
+    let rounds = items / capacity;
+    let mut sum = 0u64;
+    match work {
+        Work::PushDequeue => {
+            ring.skip();
+            sum = push_dequeue(&mut ring, items);
+        }
+        Work::Walk => (0..rounds).for_each(|_| sum = walk(&ring, sum)),
+        Work::Get => (0..rounds).for_each(|_| sum = get(&ring, capacity, sum)),
+        Work::Clone => (0..rounds).for_each(|_| sum = clone(&ring, sum)),
+        Work::Fill => (0..rounds).for_each(|round| fill(&mut ring, round as u64)),
+        _ => (0..rounds).for_each(|round| refill(&mut ring, capacity, round as u64)),
+    }
+    sum.wrapping_add(outcome(&ring))
+}
+
+fn outcome<R: RingBuffer<u64>>(ring: &R) -> u64 {
+    ring.back().map_or(0, |newest| *newest)
+}
+
+pub fn array(work: Work, capacity: usize, items: usize) -> u64 {
+    match capacity {
+        7 => on_fixed(ConstGenericRingBuffer::<u64, 7>::new(), work, 7, items),
+        1000 => on_fixed(ConstGenericRingBuffer::<u64, 1000>::new(), work, 1000, items),
+        1024 => on_fixed(ConstGenericRingBuffer::<u64, 1024>::new(), work, 1024, items),
+        65536 => on_fixed(ConstGenericRingBuffer::<u64, 65536>::new(), work, 65536, items),
+        _ => unreachable!("no array ring of {capacity}"),
+    }
+}
+
+pub fn heap(work: Work, capacity: usize, items: usize) -> u64 {
+    on_fixed(AllocRingBuffer::new(capacity), work, capacity, items)
+}
+
+pub fn growable(work: Work, capacity: usize, items: usize) -> u64 {
+    let mut ring = GrowableAllocRingBuffer::with_capacity(capacity);
+    push(&mut ring, capacity);
+    match work {
+        Work::Push => push_within(&mut ring, capacity, items),
+        Work::Extend => (0..items / EXTENSION as usize).for_each(|_| {
+            ring.clear();
+            extend(&mut ring);
+        }),
+        _ => return on_full(ring, work, capacity, items),
+    }
+    outcome(&ring)
+}

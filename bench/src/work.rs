@@ -1,0 +1,45 @@
+//! What is timed. The numbers are those by which the static library knows each kind of work.
+
+/// The number of items of one extension.
+pub const EXTENSION: u64 = 4096;
+
+pub const CAPACITIES: [usize; 4] = [7, 1000, 1024, 65536];
+
+#[derive(Clone, Copy, PartialEq, Eq)]
+#[repr(u32)]
+pub enum Work {
+    Push,
+    PushDequeue,
+    Extend,
+    Walk,
+    Get,
+    Fill,
+    Clone,
+    Refill,
+}
+
+impl Work {
+    pub const ALL: [Work; 8] = [
+        Work::Push,
+        Work::PushDequeue,
+        Work::Extend,
+        Work::Walk,
+        Work::Get,
+        Work::Fill,
+        Work::Clone,
+        Work::Refill,
+    ];
+
+    pub fn name(self) -> &'static str {
+        match self {
+            Work::Push => "push into a full ring",
+            Work::PushDequeue => "push and dequeue",
+            Work::Extend => "extend by 4096",
+            Work::Walk => "iterate and sum",
+            Work::Get => "get each position",
+            Work::Fill => "fill",
+            Work::Clone => "clone and drop",
+            Work::Refill => "clear and refill",
+        }
+    }
+}

@@ -1,0 +1,72 @@
+//! Work to be timed from outside, exported to C.
+//!
+//! Each export makes a ring of u64 items, fills it, does so much work on it, and answers a number that depends on that
+//! work. Its first argument names the work, by the numbers of `Work`. It answers 0 where the work or the array's
+//! capacity isn't one of those named here, where the capacity is 0, and where memory is refused.
+#![tactic(auto)]
+
+mod rings;
+mod work;
+
+use ringbuffer::ConstGenericRingBuffer;
+use rings::{on_fixed, on_growable, on_heap};
+use std::alloc::Global;
+use work::Work;
+
+/// Work on an array ring. The capacity is 7, 1000, 1024 or 65536.
+#[unsafe(no_mangle)]
+pub extern "C" fn ring_measure_array(work: u32, capacity: usize, items: usize) -> u64 {
+    let Some(work) = Work::numbered(work) else {
+        return 0;
+    };
+    match capacity {
+        7 => on_fixed(&mut ConstGenericRingBuffer::<u64, 7>::new(), work, 7, items),
+        1000 => on_fixed(
+            &mut ConstGenericRingBuffer::<u64, 1000>::new(),
+            work,
+            1000,
+            items,
+        ),
+        1024 => on_fixed(
+            &mut ConstGenericRingBuffer::<u64, 1024>::new(),
+            work,
+            1024,
+            items,
+        ),
+        65536 => on_fixed(
+            &mut ConstGenericRingBuffer::<u64, 65536>::new(),
+            work,
+            65536,
+            items,
+        ),
+        _ => 0,
+    }
+}
+
+/// Work on a heap ring of this capacity.
+#[unsafe(no_mangle)]
+pub extern "C" fn ring_measure_heap(
+    alloc: Global,
+    work: u32,
+    capacity: usize,
+    items: usize,
+) -> u64 {
+    match Work::numbered(work) {
+        Some(work) if capacity > 0 => on_heap(alloc, work, capacity, items).unwrap_or(0),
+        _ => 0,
+    }
+}
+
+/// Work on a growable ring, which is kept to this capacity by hand.
+#[unsafe(no_mangle)]
+pub extern "C" fn ring_measure_growable(
+    alloc: Global,
+    work: u32,
+    capacity: usize,
+    items: usize,
+) -> u64 {
+    match Work::numbered(work) {
+        Some(work) if capacity > 0 => on_growable(alloc, work, capacity, items).unwrap_or(0),
+        _ => 0,
+    }
+}

@@ -1,0 +1,122 @@
+//! What is timed.
+//!
+//! The workers take the ring by `&mut` or `&` and are not inlined, as in a program whose rings live in other values. Those
+//! that only read go on from the sum of the round before, so that no round can be left out as a repetition.
+
+use ringbuffer::{RingBuffer, RingBufferIterator};
+
+/// The number of items of one extension.
+pub const EXTENSION: u64 = 4096;
+
+/// A kind of work.
+#[derive(Clone, Copy)]
+pub enum Work {
+    /// Pushes onto a full ring.
+    Push,
+    /// A push and a dequeue at a time, on a ring that holds one item less than its capacity.
+    PushDequeue,
+    /// Extensions by 4096 items.
+    Extend,
+    /// Walks over a full ring that add up its items.
+    Walk,
+    /// Reads of each position of a full ring in turn.
+    Get,
+    /// Fills by clones of one item.
+    Fill,
+    /// Clones of a full ring, each dropped.
+    Clone,
+    /// A clear and then as many pushes as the capacity.
+    Refill,
+}
+
+impl Work {
+    /// The kind of work that callers from outside name by this number.
+    pub fn numbered(number: u32) -> Option<Work> {
+        match number {
+            0 => Some(Work::Push),
+            1 => Some(Work::PushDequeue),
+            2 => Some(Work::Extend),
+            3 => Some(Work::Walk),
+            4 => Some(Work::Get),
+            5 => Some(Work::Fill),
+            6 => Some(Work::Clone),
+            7 => Some(Work::Refill),
+            _ => None,
+        }
+    }
+}
+
+/// Pushes the numbers below `items`.
+#[inline(never)]
+pub fn push<R: RingBuffer<u64>>(ring: &mut R, items: usize) {
+    for number in 0..items {
+        let _ = ring.push(number as u64);
+    }
+}
+
+/// Pushes the numbers below `items`, and takes out the oldest item before each push onto `capacity` items.
+#[inline(never)]
+pub fn push_within<R: RingBuffer<u64>>(ring: &mut R, capacity: usize, items: usize) {
+    for number in 0..items {
+        if ring.len() == capacity {
+            ring.skip();
+        }
+        let _ = ring.push(number as u64);
+    }
+}
+
+/// Pushes the numbers below `items`, and takes out an item after each.
+#[inline(never)]
+pub fn push_dequeue<R: RingBuffer<u64>>(ring: &mut R, items: usize) -> u64 {
+    let mut sum = 0u64;
+    for number in 0..items {
+        let _ = ring.push(number as u64);
+        if let Some(item) = ring.dequeue() {
+            sum = sum.wrapping_add(item);
+        }
+    }
+    sum
+}
+
+/// One extension.
+#[inline(never)]
+pub fn extend<R: RingBuffer<u64>>(ring: &mut R) {
+    let _ = ring.extend(0..EXTENSION);
+}
+
+/// The sum of the items, by a walk, added to `sum`.
+#[inline(never)]
+pub fn walk<R: RingBuffer<u64>>(ring: &R, sum: u64) -> u64 {
+    let mut sum = sum;
+    for item in RingBufferIterator::new(ring) {
+        sum = sum.wrapping_add(*item);
+    }
+    sum
+}
+
+/// The sum of the items at the positions below `count`, added to `sum`.
+#[inline(never)]
+pub fn get<R: RingBuffer<u64>>(ring: &R, count: usize, sum: u64) -> u64 {
+    let mut sum = sum;
+    for index in 0..count {
+        if let Some(item) = ring.get(index) {
+            sum = sum.wrapping_add(*item);
+        }
+    }
+    sum
+}
+
+/// One fill.
+#[inline(never)]
+pub fn fill<R: RingBuffer<u64>>(ring: &mut R, item: u64) {
+    let _ = ring.fill(item);
+}
+
+/// A clear, and then as many pushes as `capacity`, of numbers that begin at `round`.
+#[inline(never)]
+pub fn refill<R: RingBuffer<u64>>(ring: &mut R, capacity: usize, round: u64) {
+    ring.clear();
+    for number in 0..capacity {
+        let _ = ring.push(round.wrapping_add(number as u64));
+    }
+}
