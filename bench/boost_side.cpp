@@ -7,13 +7,15 @@ using Ring = boost::circular_buffer<std::uint64_t>;
 
 namespace {
 
-enum Work : std::uint32_t { Push, PushDequeue, Extend, Walk, Get, Fill, Clone, Refill };
+enum Work : std::uint32_t { Push, PushCall, PushDequeue, Extend, Walk, Get, Fill, Clone, Refill };
 
 constexpr std::uint64_t extension = 4096;
 
 [[gnu::noinline]] void push(Ring &ring, std::size_t items) {
     for (std::size_t number = 0; number < items; ++number) ring.push_back(number);
 }
+
+[[gnu::noinline]] void push_one(Ring &ring, std::uint64_t item) { ring.push_back(item); }
 
 [[gnu::noinline]] std::uint64_t push_dequeue(Ring &ring, std::size_t items) {
     std::uint64_t sum = 0;
@@ -60,6 +62,7 @@ extern "C" std::uint64_t boost_side(std::uint32_t work, std::size_t capacity, st
     const std::size_t rounds = items / capacity;
     switch (work) {
         case Push: push(ring, items); break;
+        case PushCall: for (std::size_t i = 0; i < items; ++i) push_one(ring, i); break;
         case PushDequeue: ring.pop_front(); sum = push_dequeue(ring, items); break;
         case Extend: for (std::size_t i = 0; i < items / extension; ++i) extend(ring); break;
         case Walk: for (std::size_t i = 0; i < rounds; ++i) sum = walk(ring, sum); break;

@@ -18,6 +18,11 @@ fn push(ring: &mut VecDeque<u64>, capacity: usize, items: usize) {
 }
 
 #[inline(never)]
+fn push_call(ring: &mut VecDeque<u64>, capacity: usize, item: u64) {
+    push_one(ring, capacity, item);
+}
+
+#[inline(never)]
 fn push_dequeue(ring: &mut VecDeque<u64>, capacity: usize, items: usize) -> u64 {
     let mut sum = 0u64;
     for number in 0..items {
@@ -81,6 +86,7 @@ pub fn deque(work: Work, capacity: usize, items: usize) -> u64 {
     let mut sum = 0u64;
     match work {
         Work::Push => push(&mut ring, capacity, items),
+        Work::PushCall => (0..items).for_each(|number| push_call(&mut ring, capacity, number as u64)),
         Work::PushDequeue => {
             ring.pop_front();
             sum = push_dequeue(&mut ring, capacity, items);

@@ -30,6 +30,11 @@ fn push(ring: &mut Masked, items: usize) {
 }
 
 #[inline(never)]
+fn push_call(ring: &mut Masked, item: u64) {
+    ring.push(item);
+}
+
+#[inline(never)]
 fn push_dequeue(ring: &mut Masked, items: usize) -> u64 {
     let mut sum = 0u64;
     for number in 0..items {
@@ -77,6 +82,7 @@ pub fn slices(work: Work, capacity: usize, items: usize) -> u64 {
     let mut sum = 0u64;
     match work {
         Work::Push => push(&mut ring, items),
+        Work::PushCall => (0..items).for_each(|number| push_call(&mut ring, number as u64)),
         Work::PushDequeue => sum = push_dequeue(&mut ring, items),
         Work::Extend => (0..items / EXTENSION as usize).for_each(|_| extend(&mut ring)),
         Work::Walk | Work::Get => {

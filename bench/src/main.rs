@@ -1,6 +1,6 @@
 //! Times the rings of this repository beside others, all in one process.
 //!
-//! `time` prints a line `work,capacity,contender,nanoseconds` for each. `list` prints the same names without a time, and
+//! `time` prints a line `work,capacity,contender,nanoseconds` for each, `time WORK` those of one kind of work. `list` prints the same names without a time, and
 //! `once CONTENDER WORK CAPACITY ITEMS` does one piece of work, for a program that counts instructions. `table TIMES
 //! COUNTS` prints both as tables of Markdown.
 
@@ -52,8 +52,8 @@ fn seconds(contender: &Contender, work: Work, capacity: usize, items: usize) -> 
 }
 
 /// The least time of many rounds in which all contenders take turns, less the least time of making and filling the ring.
-fn time_all() {
-    for work in Work::ALL {
+fn time(works: &[Work]) {
+    for &work in works {
         for capacity in CAPACITIES {
             let mut least = vec![(f64::MAX, f64::MAX); CONTENDERS.len()];
             for _ in 0..ROUNDS {
@@ -80,9 +80,13 @@ fn list() {
     }
 }
 
+fn named(work: &str) -> Work {
+    Work::ALL.into_iter().find(|it| it.name() == work).expect("the name of a kind of work")
+}
+
 fn once(contender: &str, work: &str, capacity: &str, items: &str) {
     let contender = CONTENDERS.iter().find(|it| it.name == contender).expect("a contender's name");
-    let work = Work::ALL.into_iter().find(|it| it.name() == work).expect("the name of a kind of work");
+    let work = named(work);
     let (capacity, items) = (capacity.parse().expect("a capacity"), items.parse().expect("a number of items"));
     std::hint::black_box((contender.run)(work, capacity, items));
 }
@@ -90,13 +94,14 @@ fn once(contender: &str, work: &str, capacity: &str, items: &str) {
 fn main() {
     let words: Vec<String> = env::args().skip(1).collect();
     match words.iter().map(String::as_str).collect::<Vec<_>>()[..] {
-        ["time"] => time_all(),
+        ["time"] => time(&Work::ALL),
+        ["time", work] => time(&[named(work)]),
         ["list"] => list(),
         ["once", contender, work, capacity, items] => once(contender, work, capacity, items),
         ["table", times, counts] => {
             let read = |path: &str| fs::read_to_string(path).expect("a file of measurements");
             print!("{}", table::tables(&read(times), &read(counts)));
         }
-        _ => panic!("time | list | once CONTENDER WORK CAPACITY ITEMS | table TIMES COUNTS"),
+        _ => panic!("time [WORK] | list | once CONTENDER WORK CAPACITY ITEMS | table TIMES COUNTS"),
     }
 }

@@ -21,6 +21,19 @@ fn push_within<R: RingBuffer<u64>>(ring: &mut R, capacity: usize, items: usize) 
 }
 
 #[inline(never)]
+fn push_one<R: RingBuffer<u64>>(ring: &mut R, item: u64) {
+    ring.push(item);
+}
+
+#[inline(never)]
+fn push_one_within<R: RingBuffer<u64>>(ring: &mut R, capacity: usize, item: u64) {
+    if ring.len() == capacity {
+        ring.skip();
+    }
+    ring.push(item);
+}
+
+#[inline(never)]
 fn push_dequeue<R: RingBuffer<u64>>(ring: &mut R, items: usize) -> u64 {
     let mut sum = 0u64;
     for number in 0..items {
@@ -78,6 +91,7 @@ fn on_fixed<R: RingBuffer<u64> + Clone>(mut ring: R, work: Work, capacity: usize
     push(&mut ring, capacity);
     match work {
         Work::Push => push(&mut ring, items),
+        Work::PushCall => (0..items).for_each(|number| push_one(&mut ring, number as u64)),
         Work::Extend => (0..items / EXTENSION as usize).for_each(|_| extend(&mut ring)),
         _ => return on_full(ring, work, capacity, items),
     }
@@ -124,6 +138,7 @@ pub fn growable(work: Work, capacity: usize, items: usize) -> u64 {
     push(&mut ring, capacity);
     match work {
         Work::Push => push_within(&mut ring, capacity, items),
+        Work::PushCall => (0..items).for_each(|number| push_one_within(&mut ring, capacity, number as u64)),
         Work::Extend => (0..items / EXTENSION as usize).for_each(|_| {
             ring.clear();
             extend(&mut ring);

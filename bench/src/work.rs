@@ -9,6 +9,7 @@ pub const CAPACITIES: [usize; 4] = [7, 1000, 1024, 65536];
 #[repr(u32)]
 pub enum Work {
     Push,
+    PushCall,
     PushDequeue,
     Extend,
     Walk,
@@ -19,8 +20,9 @@ pub enum Work {
 }
 
 impl Work {
-    pub const ALL: [Work; 8] = [
+    pub const ALL: [Work; 9] = [
         Work::Push,
+        Work::PushCall,
         Work::PushDequeue,
         Work::Extend,
         Work::Walk,
@@ -33,6 +35,7 @@ impl Work {
     pub fn name(self) -> &'static str {
         match self {
             Work::Push => "push into a full ring",
+            Work::PushCall => "push by a call each",
             Work::PushDequeue => "push and dequeue",
             Work::Extend => "extend by 4096",
             Work::Walk => "iterate and sum",

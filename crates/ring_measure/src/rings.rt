@@ -2,7 +2,8 @@
 ghost use Rattle.std.specs.Prelude.{◌<◌};
 
 use crate::work::{
-    EXTENSION, Work, extend, fill, get, push, push_dequeue, push_within, refill, walk,
+    EXTENSION, Work, extend, fill, get, push, push_dequeue, push_one, push_one_within, push_within,
+    refill, walk,
 };
 use ringbuffer::{AllocRingBuffer, ConstGenericRingBuffer, GrowableAllocRingBuffer, RingBuffer};
 use std::alloc::{AllocError, Global};
@@ -64,6 +65,11 @@ pub fn on_growable(
     push(&mut ring, capacity);
     match work {
         Work::Push => push_within(&mut ring, capacity, items),
+        Work::PushCall => {
+            for number in 0..items {
+                push_one_within(&mut ring, capacity, number as u64);
+            }
+        }
         Work::Extend => {
             for _ in 0..items / EXTENSION as usize {
                 ring.clear();
@@ -82,6 +88,11 @@ pub fn on_fixed<R: Cloned + Drop>(ring: &mut R, work: Work, capacity: usize, ite
     push(ring, capacity);
     match work {
         Work::Push => push(ring, items),
+        Work::PushCall => {
+            for number in 0..items {
+                push_one(ring, number as u64);
+            }
+        }
         Work::Extend => {
             for _ in 0..items / EXTENSION as usize {
                 extend(ring);

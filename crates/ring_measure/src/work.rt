@@ -11,8 +11,10 @@ pub const EXTENSION: u64 = 4096;
 /// A kind of work.
 #[derive(Clone, Copy)]
 pub enum Work {
-    /// Pushes onto a full ring.
+    /// Pushes onto a full ring, in a loop.
     Push,
+    /// Pushes onto a full ring, each by a call of its own.
+    PushCall,
     /// A push and a dequeue at a time, on a ring that holds one item less than its capacity.
     PushDequeue,
     /// Extensions by 4096 items.
@@ -34,13 +36,14 @@ impl Work {
     pub fn numbered(number: u32) -> Option<Work> {
         match number {
             0 => Some(Work::Push),
-            1 => Some(Work::PushDequeue),
-            2 => Some(Work::Extend),
-            3 => Some(Work::Walk),
-            4 => Some(Work::Get),
-            5 => Some(Work::Fill),
-            6 => Some(Work::Clone),
-            7 => Some(Work::Refill),
+            1 => Some(Work::PushCall),
+            2 => Some(Work::PushDequeue),
+            3 => Some(Work::Extend),
+            4 => Some(Work::Walk),
+            5 => Some(Work::Get),
+            6 => Some(Work::Fill),
+            7 => Some(Work::Clone),
+            8 => Some(Work::Refill),
             _ => None,
         }
     }
@@ -54,6 +57,12 @@ pub fn push<R: RingBuffer<u64>>(ring: &mut R, items: usize) {
     }
 }
 
+/// One push.
+#[inline(never)]
+pub fn push_one<R: RingBuffer<u64>>(ring: &mut R, item: u64) {
+    let _ = ring.push(item);
+}
+
 /// Pushes the numbers below `items`, and takes out the oldest item before each push onto `capacity` items.
 #[inline(never)]
 pub fn push_within<R: RingBuffer<u64>>(ring: &mut R, capacity: usize, items: usize) {
@@ -63,6 +72,15 @@ pub fn push_within<R: RingBuffer<u64>>(ring: &mut R, capacity: usize, items: usi
         }
         let _ = ring.push(number as u64);
     }
+}
+
+/// One push, before which the oldest item is taken out where the ring holds `capacity` items.
+#[inline(never)]
+pub fn push_one_within<R: RingBuffer<u64>>(ring: &mut R, capacity: usize, item: u64) {
+    if ring.len() == capacity {
+        ring.skip();
+    }
+    let _ = ring.push(item);
 }
 
 /// Pushes the numbers below `items`, and takes out an item after each.
