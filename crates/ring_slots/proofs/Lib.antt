@@ -1,0 +1,3 @@
+mod Opened
+mod Rows
+mod Sharing
