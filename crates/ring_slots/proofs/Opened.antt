@@ -9,22 +9,25 @@ use base.Logic.{ent, sep, never, id⊢}
 use base.Stored.{Gv}
 use base.Fml.{Fml, Lft, GName, Share, ftrue, fsep, flft, fobs, fauth, fbor, fobor}
 use mir.Syntax.{w64}
-use mir.Val.{Val, vptr, vint, vstruct, vcons, vnil}
+use mir.Val.{Val, vunit, vptr, vint, vstruct, vcons, vnil}
 use types.Logic.{Logic, sem}
-use types.Kit.{Item, Goal, Soaks, Seq, Step, step, ‵, ◌$◌, ◌∵◌, !, qed, move, drop, use3, rewrite, fsplit, fjoin, fpick, fpack, flt_i, flt_l, done}
+use types.Kit.{Item, Goal, Soaks, Seq, Step, step, ‵, ◌$◌, ◌∵◌, !, qed, move, drop, use3, rewrite, fsplit, fjoin, fpick, fpack, feq_i, flt_i, flt_l, done}
 use types.SemTy.{Body}
+use denote.Builtin.{usize}
 use denote.Laws.{Is, shows}
 use denote.Memory.{mem, cell_at}
 use denote.Param.{param}
 use denote.Param.Laws.{Laws, param_laws}
-use denote.RattleType.{RattleType}
-use denote.RawPtr.{Ptr, block_ptr, in_a_block}
-use denote.Steps.{nothing, opens, closes, peeks}
-use denote.Struct.Struct.{Struct}
+use denote.RattleType.{RattleType, Valss}
+use denote.RawPtr.{Ptr, RawPtr, block_ptr, in_a_block}
+use denote.Steps.{nothing, opens, closes, owned as made, peeks}
+use denote.Struct.Laws.{makes}
+use denote.Struct.Struct.{Struct, within}
 use denote.Struct.Owning.{shape, to}
 use Rattle.std.specs.Prelude.{Option}
 use Rattle.std.specs.Mem.{type_size}
 use Rattle.std.specs.declared.alloc.Global.{Global}
+use Rattle.std.specs.contracts.alloc.Global as heap
 use Rattle.std.proofs.alloc.Global.TheLaws as heap_laws
 use Rattle.ring_slots.specs.Slots.{Slots}
 use Rattle.ring_slots.specs.heap.Memory.{row, right, small, owned}
@@ -109,3 +112,22 @@ module _ (X : RattleType) (L : Laws X) {M : Type 1} {𝓤 : Ura M} {𝓛 : Logic
   slots_closed t z s cs n d b o rb ro lies counted fit same seen = step (λ k.
       let us = words b o s.size s.alloc ∷ [] in
       use3 𝓛 (‵ ((Seen X).own_val d us)) (slots_made X 𝓛 b o s cs n d us lies counted fit same seen) $ move t (1 ∷ 0 ∷ []) $ closes t z (Seen X) d us rb ro $ k)
+
+-- a handle of the heap, and fields with one, are made of nothing
+module _ {M : Type 1} {𝓤 : Ura M} {𝓛 : Logic 𝓤} {K : Type 0} {Γ : List (Item 𝓤)} {G : Goal 𝓤 𝓛.H} where
+  pub handle_made : K → (a : Global) → Step K 𝓛 (‵ (heap.the_row.own_val a (heap_laws.lowered a ∷ [])) ∷ Γ) G Γ G
+  handle_made t a = step (λ k. made t heap.the_row (Is heap.the_row) (makes heap.the_type heap_laws.the_plain 𝓛) a (heap_laws.lowered a ∷ [])
+      ((vstruct (vcons vunit vnil) ∷ [], tt), (refl, (((vunit ∷ [], tt), (refl, (refl, tt))), tt))) $ k)
+
+module _ (X : RattleType) (b o n : ℕ) (a : Global) where
+  -- slots at a place, of which none is counted yet
+  abbrev pub begun : List (Option X.Denot) → (Inside X).Denot
+  begun cs = record { ptr = block_ptr b o; size = n; alloc = a; slots = cs; changes = 0 }
+
+  module _ {M : Type 1} {𝓤 : Ura M} {𝓛 : Logic 𝓤} {K : Type 0} {Γ : List (Item 𝓤)} {G : Goal 𝓤 𝓛.H} where
+    pub fields_made : K → (cs : List (Option X.Denot)) → n < 2 ^ 64 → Step K 𝓛 (‵ ((Fields X).own_val (fields X (begun cs)) (words b o n a ∷ [])) ∷ Γ) G Γ G
+    fields_made t cs fits = step (λ k.
+        let place = vptr b o ∷ [] in let count = vint w64 n ∷ [] in let handle = heap_laws.lowered a ∷ [] in
+        nothing t $ handle_made t a $ fjoin t $ flt_i t n (2 ^ 64) fits $ feq_i t (List Val) count count refl $ fjoin t $ fjoin t $
+        feq_i t (List Val) place place refl $ fjoin t $ feq_i t (List Val) (words b o n a ∷ []) (words b o n a ∷ []) refl $ fjoin t $
+        fpack t (Valss (RawPtr ∷ usize ∷ heap.the_row ∷ [])) (within (shape (I.the_type (R X))) (fields X (begun cs)) (words b o n a ∷ [])) (place, (count, (handle, tt))) $ k)

@@ -1,0 +1,1 @@
+-- The heap is asked for a block, and is given it back, by a handle that lies in a local.
