@@ -1,10 +1,11 @@
 -- One slot of a row is taken out and put back, and a row is made of memory and gives it back.
-use mathlib.Core.Path.{◌≡◌, refl, sym, ap, subst}
+use mathlib.Core.Path.{◌≡◌, refl, sym, ap, ◌∙◌}
+use mathlib.Core.Bool.{Bool, true, false}
 use mathlib.Core.List.{List, [], ◌∷◌}
 use Prim.Native.Nat.{ℕ, zero, suc, ◌+◌, ◌*◌, ◌^◌, ◌<◌, ◌≤◌}
-use native.Mathlib.Nat.{zero-mul, one-mul, suc-mul, mul-le-mul_right}
+use native.Mathlib.Nat.{zero-mul, one-mul, mul-one, suc-mul, mul-le-mul_left, mul-le-mul_right}
 use native.Mathlib.Omega.{arith}
-use lib.Dec.{T}
+use lib.Dec.{T, eqb, eqb→eq}
 use lib.ListN.{length, get_or, set, replicate}
 use seplogic.Ra.Ura.{Ura}
 use base.Fraction.{full_share}
@@ -22,6 +23,8 @@ use denote.Param.{layout, param}
 use denote.RattleType.{RattleType}
 use denote.Steps.{nothing}
 use denote.Triple.Walked.{says}
+use prog.Capped.{capped_is}
+use prog.Memory.{capped}
 use borrow.Table.OneValue.{part_out}
 use Rattle.std.specs.Prelude.{Option, Some, None, IsSome}
 use Rattle.std.specs.Mem.{type_size}
@@ -44,6 +47,25 @@ place_fits i n bytes within fit =
     let once : 1 * bytes ≤ n * bytes = mul-le-mul_right bytes (omega arith) in
     let before : i * bytes ≤ n * bytes = mul-le-mul_right bytes (omega arith) in
     (omega (arith, one-mul bytes), omega arith)
+
+-- items with a size that fit a block are few
+pub count_fits : (n bytes : ℕ) → 0 < bytes → n * bytes < 2 ^ 63 → n < 2 ^ 64
+count_fits n bytes sized fit =
+    let least : n * 1 ≤ n * bytes = mul-le-mul_left n (omega arith) in omega (arith, mul-one n)
+
+-- a size that is capped at what a word holds makes the same product, where that product fits a word
+pub product_is : (k bytes : ℕ) → k * bytes < 2 ^ 64 → k * capped bytes ≡ k * bytes
+product_is zero bytes fits = zero-mul (capped bytes) ∙ sym (zero-mul bytes)
+product_is (suc k) bytes fits =
+    let once = suc-mul k bytes in ap (λ (j : ℕ). suc k * j) (capped_is bytes (omega arith))
+
+not_so : (y : Bool) → (T y → ⊥) → y ≡ false
+not_so true never = absurd (never tt)
+not_so false never = refl
+
+-- a size above 0 is not 0
+pub has_size : (bytes : ℕ) → 0 < bytes → eqb bytes 0 ≡ false
+has_size bytes sized = not_so (eqb bytes 0) (λ same. let none : bytes ≡ 0 = eqb→eq bytes 0 same in absurd (omega arith))
 
 -- what is owned of an item is one machine value
 pub one_value : (τ : Ty) (vs : List Val) → Typed (τ ∷ []) vs → (v : Val) × ((vs ≡ v ∷ []) × (T (has_ty τ v) × WT v))
