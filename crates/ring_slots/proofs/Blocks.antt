@@ -100,14 +100,14 @@ module _ {M : Type 1} {𝓤 : Ura M} (𝓛 : Logic 𝓤) (at_mem : Memory → SP
     pub asked : (v : Val) → ent 𝓤 (Ask.post ask v) (H.⇛ (sep 𝓤 (Answered Handle 𝓛 at_mem run a τ v) (A.lft κ q)))
     asked v = qed 𝓛 (raw (Ask.post ask v) ∷ []) ∵ updating ! $
         use1 𝓛 (later (some (λ (r : Answer.Denot). ((‵ (flft κ q) ⊛ ‵ ftrue) ⊛ ‵ (Answer.own_val r (v ∷ [])))
-          ⊛ some (λ (ws : Unit {0} × (Unit {0} × (Unit {0} × Unit {0}))). ‵ (fsep ftrue (fsep ftrue (fsep ftrue ftrue))) ⊛ ‵ (block_if_ok (ghosts.dealloc_token a) τ r))))) (id⊢ 𝓤 _) $
+        ⊛ some (λ (ws : Unit {0} × (Unit {0} × (Unit {0} × Unit {0}))). ‵ (fsep ftrue (fsep ftrue (fsep ftrue ftrue))) ⊛ ‵ (block_if_ok (ghosts.dealloc_token a) τ r))))) (id⊢ 𝓤 _) $
         await ! tt $ pick ! (λ r. split ! $ split ! $ split ! $ move ! (3 ∷ []) $ pick ! (λ _. split ! $ keep ! (4 ∷ 1 ∷ 2 ∷ []) $
         use2 𝓛 (raw (Answered Handle 𝓛 at_mem run a τ v)) (answered v r) $ now ! $ done !))
 
     pub gave : (b o : ℕ) (v : Val) → ent 𝓤 (Give.post (give b o) v) (H.⇛ (guard 𝓤 (v ≡ vunit) (A.lft κ q)))
     gave b o v = qed 𝓛 (raw (Give.post (give b o) v) ∷ []) ∵ updating ! $
         use1 𝓛 (later (some (λ (r : Unit {0}). ((‵ (flft κ q) ⊛ ‵ ftrue) ⊛ ‵ (unit.own_val r (v ∷ [])))
-          ⊛ some (λ (ws : Unit {0} × (Unit {0} × (Unit {0} × (Unit {0} × Unit {0})))). ‵ (fsep ftrue (fsep ftrue (fsep ftrue (fsep ftrue ftrue)))) ⊛ ‵ ftrue)))) (id⊢ 𝓤 _) $
+        ⊛ some (λ (ws : Unit {0} × (Unit {0} × (Unit {0} × (Unit {0} × Unit {0})))). ‵ (fsep ftrue (fsep ftrue (fsep ftrue (fsep ftrue ftrue)))) ⊛ ‵ ftrue)))) (id⊢ 𝓤 _) $
         await ! tt $ pick ! (λ r. split ! $ split ! $ split ! $ move ! (2 ∷ []) $ feq_l ! (λ e. now ! $ check ! (ap only e) $ keep ! (0 ∷ []) $ done !))
 
 module _ (X : RattleType) where

@@ -83,7 +83,7 @@ module _ (X : RattleType) (L : Laws X) {M : Type 1} {𝓤 : Ura M} {𝓛 : Logic
   -- [the row; the right to free its block; the fields]
   pub slots_had : K → (d : Slots X.Denot) (us : List Val)
       → ((s : (Inside X).Denot) (b o : ℕ) → H.the_view (R X) s ≡ d → length s.slots ≡ s.size → s.ptr ≡ block_ptr b o → AreSmall X s.slots → us ≡ words b o s.size s.alloc ∷ []
-        → Seq K 𝓛 (‵ (Row X 𝓛 b o s) ∷ ‵ (Right X 𝓛 b o s) ∷ ‵ ((Fields X).own_val (fields X s) us) ∷ Γ) G)
+      → Seq K 𝓛 (‵ (Row X 𝓛 b o s) ∷ ‵ (Right X 𝓛 b o s) ∷ ‵ ((Fields X).own_val (fields X s) us) ∷ Γ) G)
       → Seq K 𝓛 (‵ ((Seen X).own_val d us) ∷ Γ) G
   slots_had t d us next =
       fpick t (λ h. let s = h.0 in fsplit t $ move t (1 ∷ []) $ drop t $
@@ -96,8 +96,8 @@ module _ (X : RattleType) (L : Laws X) {M : Type 1} {𝓤 : Ura M} {𝓛 : Logic
   -- [the row; the right; the fields; their cell; the open borrow, in three entries]
   pub slots_opened : K → Soaks G → {κ : Lft} {q : Share} {γ : GName} (d : Slots X.Denot) (rb ro : ℕ)
       → ((s : (Inside X).Denot) (b o : ℕ) → H.the_view (R X) s ≡ d → length s.slots ≡ s.size → s.ptr ≡ block_ptr b o → AreSmall X s.slots
-        → Seq K 𝓛 (‵ (Row X 𝓛 b o s) ∷ ‵ (Right X 𝓛 b o s) ∷ ‵ ((Fields X).own_val (fields X s) (words b o s.size s.alloc ∷ [])) ∷ ‵ (cell_at full_share (Seen X).mir (words b o s.size s.alloc ∷ []) rb ro)
-          ∷ ‵ (fobor κ q (Body (mem (Seen X)) rb ro γ)) ∷ ‵ (fobs γ ((Seen X).coded.code d)) ∷ ‵ (fauth γ ((Seen X).coded.code d)) ∷ Γ) G)
+      → Seq K 𝓛 (‵ (Row X 𝓛 b o s) ∷ ‵ (Right X 𝓛 b o s) ∷ ‵ ((Fields X).own_val (fields X s) (words b o s.size s.alloc ∷ [])) ∷ ‵ (cell_at full_share (Seen X).mir (words b o s.size s.alloc ∷ []) rb ro)
+      ∷ ‵ (fobor κ q (Body (mem (Seen X)) rb ro γ)) ∷ ‵ (fobs γ ((Seen X).coded.code d)) ∷ ‵ (fauth γ ((Seen X).coded.code d)) ∷ Γ) G)
       → Seq K 𝓛 (‵ (fobs γ ((Seen X).coded.code d)) ∷ ‵ (fbor κ (Body (mem (Seen X)) rb ro γ)) ∷ ‵ (flft κ q) ∷ Γ) G
   slots_opened t z d rb ro next = opens t z (Seen X) {h = d} rb ro (λ us. move t (1 ∷ []) $ slots_had X L t d us (λ s b o seen counted lies fit told.
       rewrite t 2 (λ (vs : List Val). ‵ ((Fields X).own_val (fields X s) vs)) told refl $
@@ -107,8 +107,8 @@ module _ (X : RattleType) (L : Laws X) {M : Type 1} {𝓤 : Ura M} {𝓛 : Logic
   pub slots_closed : K → Soaks G → {κ : Lft} {q : Share} {u v : Gv} {γ : GName} (s : (Inside X).Denot) (cs : List (Option X.Denot)) (n : ℕ) (d : Slots X.Denot) (b o rb ro : ℕ)
       → s.ptr ≡ block_ptr b o → length s.slots ≡ s.size → AreSmall X s.slots → length cs ≡ length s.slots → record { slots = cs; changes = n } ≡ d
       → Step K 𝓛 (‵ (fobs γ ((Seen X).coded.code d)) ∷ ‵ (fbor κ (Body (mem (Seen X)) rb ro γ)) ∷ ‵ (flft κ q) ∷ Γ) G
-        (‵ (row (R X) b o cs) ∷ ‵ (Right X 𝓛 b o s) ∷ ‵ ((Fields X).own_val (fields X s) (words b o s.size s.alloc ∷ [])) ∷ ‵ (cell_at full_share (Seen X).mir (words b o s.size s.alloc ∷ []) rb ro)
-        ∷ ‵ (fobor κ q (Body (mem (Seen X)) rb ro γ)) ∷ ‵ (fobs γ u) ∷ ‵ (fauth γ v) ∷ Γ) G
+      (‵ (row (R X) b o cs) ∷ ‵ (Right X 𝓛 b o s) ∷ ‵ ((Fields X).own_val (fields X s) (words b o s.size s.alloc ∷ [])) ∷ ‵ (cell_at full_share (Seen X).mir (words b o s.size s.alloc ∷ []) rb ro)
+      ∷ ‵ (fobor κ q (Body (mem (Seen X)) rb ro γ)) ∷ ‵ (fobs γ u) ∷ ‵ (fauth γ v) ∷ Γ) G
   slots_closed t z s cs n d b o rb ro lies counted fit same seen = step (λ k.
       let us = words b o s.size s.alloc ∷ [] in
       use3 𝓛 (‵ ((Seen X).own_val d us)) (slots_made X 𝓛 b o s cs n d us lies counted fit same seen) $ move t (1 ∷ 0 ∷ []) $ closes t z (Seen X) d us rb ro $ k)

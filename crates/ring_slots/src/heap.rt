@@ -40,6 +40,61 @@ impl<T> Model for HeapSlots<T> {
     ghost also_shares = { λ s _ κ. lent T.row s.ptr s.slots κ };
 }
 
+impl<T: Drop> HeapSlots<T> {
+    ghost use Rattle.ring_slots.specs.heap.Lends.{lends_item};
+
+    /// Empty slots, as many as `size` says. An error says that the memory for them was refused.
+    pub fn new(alloc: Global, size: usize) -> Result<HeapSlots<T>, AllocError>
+        ensures { IfOk result (λ s. s ≡ record { slots = replicate size None; changes = 0 }) }
+    {
+        if item_size::<T>() == 0 {
+            return Ok(HeapSlots::without_memory(alloc, size));
+        }
+        if !may_hold::<T>(size) {
+            return Err(AllocError);
+        }
+        HeapSlots::in_block(alloc, size)
+    }
+
+    /// Puts an item into an empty slot.
+    #[inline]
+    pub fn put(&mut self, place: usize, item: T)
+        requires { IsEmptyAt self.old place }
+        ensures { self.new ≡ changed self.old place (Some item) }
+    {
+        unsafe { self.ptr.add(place).write(item) }
+    }
+
+    /// Takes the item out of a full slot.
+    #[inline]
+    pub fn take(&mut self, place: usize) -> T
+        requires { IsFullAt self.old place }
+        ensures value { slot_at self.old place ≡ Some result }
+        ensures after { self.new ≡ changed self.old place None }
+    {
+        unsafe { self.ptr.add(place).read() }
+    }
+
+    /// The item of a full slot.
+    #[inline]
+    pub fn get(&self, place: usize) -> &T
+        requires { IsFullAt self.now place }
+        ensures { slot_at self.now place ≡ Some result.now }
+    {
+        unsafe { &*self.ptr.add(place) }
+    }
+
+    /// The item of a full slot, for writing.
+    #[inline]
+    pub fn get_mut(&mut self, place: usize) -> &mut T
+        requires { IsFullAt self.old place }
+        ensures* writes_back { sem 𝓛 (lends_item T.row self.entry place result) }
+        ensures value { slot_at self.old place ≡ Some result.now }
+    {
+        unsafe { &mut *self.ptr.add(place) }
+    }
+}
+
 impl<T> HeapSlots<T> {
     // The slots at a pointer that needs no memory, since items have no size.
     fn without_memory(alloc: Global, size: usize) -> HeapSlots<T>
@@ -79,46 +134,6 @@ impl<T> HeapSlots<T> {
             alloc.deallocate(ptr as *mut u8, size * size_of::<T>(), align_of::<T>());
         }
     }
-
-    /// Puts an item into an empty slot.
-    #[inline]
-    pub fn put(&mut self, place: usize, item: T)
-        requires { IsEmptyAt self.old place }
-        ensures { self.new ≡ changed self.old place (Some item) }
-    {
-        unsafe { self.ptr.add(place).write(item) }
-    }
-
-    /// Takes the item out of a full slot.
-    #[inline]
-    pub fn take(&mut self, place: usize) -> T
-        requires { IsFullAt self.old place }
-        ensures value { slot_at self.old place ≡ Some result }
-        ensures after { self.new ≡ changed self.old place None }
-    {
-        unsafe { self.ptr.add(place).read() }
-    }
-
-    /// The item of a full slot.
-    #[inline]
-    pub fn get(&self, place: usize) -> &T
-        requires { IsFullAt self.now place }
-        ensures { slot_at self.now place ≡ Some result.now }
-    {
-        unsafe { &*self.ptr.add(place) }
-    }
-
-    ghost use Rattle.ring_slots.specs.heap.Lends.{lends_item};
-
-    /// The item of a full slot, for writing.
-    #[inline]
-    pub fn get_mut(&mut self, place: usize) -> &mut T
-        requires { IsFullAt self.old place }
-        ensures* writes_back { sem 𝓛 (lends_item T.row self.entry place result) }
-        ensures value { slot_at self.old place ≡ Some result.now }
-    {
-        unsafe { &mut *self.ptr.add(place) }
-    }
 }
 
 // The bytes of an item. Where they are more than a block can have, the answer is so too.
@@ -142,25 +157,14 @@ fn may_hold<T>(size: usize) -> bool
     }
 }
 
-impl<T: Drop> HeapSlots<T> {
-    /// Empty slots, as many as `size` says. An error says that the memory for them was refused.
-    pub fn new(alloc: Global, size: usize) -> Result<HeapSlots<T>, AllocError>
-        ensures { IfOk result (λ s. s ≡ record { slots = replicate size None; changes = 0 }) }
-    {
-        if item_size::<T>() == 0 {
-            return Ok(HeapSlots::without_memory(alloc, size));
-        }
-        if !may_hold::<T>(size) {
-            return Err(AllocError);
-        }
-        HeapSlots::in_block(alloc, size)
-    }
-}
-
 impl<T> Drop for HeapSlots<T> {
     fn drop(self) {
         if item_size::<T>() == 0 {
-            let HeapSlots { ptr: _, size: _, alloc: _ } = self;
+            let HeapSlots {
+                ptr: _,
+                size: _,
+                alloc: _,
+            } = self;
         } else {
             self.free_block();
         }

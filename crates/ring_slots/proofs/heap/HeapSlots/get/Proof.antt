@@ -3,7 +3,7 @@ use mathlib.Core.Path.{◌≡◌, refl, sym, subst}
 use mathlib.Core.List.{List, [], ◌∷◌, ◌++◌}
 use Prim.Native.Nat.{ℕ, ◌+◌, ◌*◌, ◌<◌, ◌^◌}
 use lib.ListN.{length, get_or}
-use mir.Syntax.{Fn, a_type, named}
+use mir.Syntax.{Fn, Dict, a_type, named, dcons, dnil}
 use mir.MapTy.{inst_fn}
 use mir.Val.{Val, vptr}
 use base.Logic.{SProp, never, id⊢}
@@ -19,7 +19,7 @@ use denote.Builtin.{RefOf, usize}
 use denote.Exit.{yes}
 use denote.Memory.{hidden_shr}
 use denote.Opens.{shr_dup, hide, unhide}
-use denote.Param.{layouts}
+use denote.Param.{bounded}
 use denote.Param.Laws.{Laws}
 use denote.RattleType.{RattleType}
 use denote.RawPtr.{Ptr, RawPtr, block_ptr, ptr_row_laws, in_a_block}
@@ -40,22 +40,22 @@ use Rattle.ring_slots.specs.contracts.heap.HeapSlots.get as contract
 use Rattle.ring_slots.proofs.heap.HeapSlots.get.Statement.{statement}
 use Rattle.ring_slots.proofs.heap.HeapSlots.get.Code as code
 
-abbrev stayed : (X : RattleType) → Stays (contract.ended X).signature.params (contract.ended X).kept
-stayed X = (stay_dropped (RefOf (0 ∷ []) tt (plain (λ _. Seen X)) (λ _. tt)) yes, (stay_dropped (plain (λ _. usize)) yes, tt))
+abbrev stayed : (X : RattleType) (drops : Dict) → Stays (contract.ended X drops).signature.params (contract.ended X drops).kept
+stayed X drops = (stay_dropped (RefOf (0 ∷ []) tt (plain (λ _. Seen X)) (λ _. tt)) yes, (stay_dropped (plain (λ _. usize)) yes, tt))
 
 pub get_spec : {M : Type 1} → statement M
-get_spec 𝓤 𝓛 𝓜 𝓡 wired X L =
-    let clauses = contract.clauses X 𝓛 𝓜.mem 𝓡.returns in
-    let fn : Fn = inst_fn (layouts (a_type ∷ []) (X, tt)) code.function in
+get_spec 𝓤 𝓛 𝓜 𝓡 wired X L drops _ =
+    let clauses = contract.clauses X drops 𝓛 𝓜.mem 𝓡.returns in
+    let given = bounded (a_type ∷ []) (X, tt) (dcons drops dnil) in let fn : Fn = inst_fn given code.function in
     let 𝓣 = tables 𝓤 𝓛.H 𝓜 𝓡 𝓡.env in
-    proved_at 𝓛 (contract.ended X) (stayed X) clauses 𝓜 𝓡
+    proved_at 𝓛 (contract.ended X drops) (stayed X drops) clauses 𝓜 𝓡
     (Goes-dropped 𝓛 2 (RefOf (0 ∷ []) tt (plain (λ _. Seen X)) (λ _. tt)) yes (λ κs x w. refl), (Goes-dropped 𝓛 2 (plain (λ _. usize)) yes (λ κs x w. refl), tt))
-    (contract.Key.name (layouts (a_type ∷ []) (X, tt))) fn (code.unfolded 𝓤 𝓛.H 𝓜 𝓡 wired (X, tt)) (λ y _.
+    (contract.Key.name given) fn (code.unfolded 𝓤 𝓛.H 𝓜 𝓡 wired (X, tt) drops) (λ y _.
     let κs = y.0.0 in let qs = y.0.1 in let a = y.0.3 in let vss = y.0.4 in let κ = κs.0 in
     let rb = a.0.ref_ptr.0 in let ro = a.0.ref_ptr.1 in let d = a.0.now in let place = a.1.0 in let bytes = type_size (R X) in
-    let Post : Val → SProp 𝓤 = (walk_of 𝓛 (contract.ended X) (stayed X) clauses).post y in
+    let Post : Val → SProp 𝓤 = (walk_of 𝓛 (contract.ended X drops) (stayed X drops) clauses).post y in
     qed 𝓛 (((‵ (flft κ qs.0) ⊛ ‵ (flft κs.1.0 qs.1.0) ⊛ ‵ ftrue)
-      ⊛ ‵ ((ShrRef (named 0) κ (Seen X)).own_val a.0 vss.0) ⊛ ‵ (usize.own_val place vss.1.0) ⊛ ‵ ftrue)
+    ⊛ ‵ ((ShrRef (named 0) κ (Seen X)).own_val a.0 vss.0) ⊛ ‵ (usize.own_val place vss.1.0) ⊛ ‵ ftrue)
     ∷ (raw (fact 𝓤 (κs.1.0 ⊑ X.lives)) ⊛ raw (fact 𝓤 (IsFullAt d place))) ∷ []) ∵
     move ! (1 ∷ []) $ split ! $ drop ! $ heard ! _ (λ full.
     split ! $ split ! $ move ! (2 ∷ []) $ split3 ! $ fsplit ! $ feq_l ! (λ refers.
@@ -83,5 +83,5 @@ get_spec 𝓤 𝓛 𝓜 𝓡 wired X L =
     exec ! 𝓣.C 𝓣.Λ (env fn.locals l) (after 1 fn.body) (at_ret _ Post) $ sets ! (of_opd ! (get ! refl)) refl (tt, tt) $
     -- [the token; the fields, in three entries; the item; nothing; the other tokens]
     returns ! (look_at ! 0 refl) $ free_all ! refl $ keep ! (0 ∷ 6 ∷ 4 ∷ []) $
-    suffices ! _ (ends_at 𝓛 (contract.ended X) (stayed X) clauses y (vptr b at) (record { ref_ptr = (b, at); now = x }) (tt, (tt, tt)) (tt, (tt, tt))) $ says ! held.1 $
+    suffices ! _ (ends_at 𝓛 (contract.ended X drops) (stayed X drops) clauses y (vptr b at) (record { ref_ptr = (b, at); now = x }) (tt, (tt, tt)) (tt, (tt, tt))) $ says ! held.1 $
     join ! $ frame ! $ nothing ! $ nothing ! $ fjoin ! $ nothing ! $ fjoin ! $ frame ! $ feq_i ! (List Val) (vptr b at ∷ []) (vptr b at ∷ []) refl $ fjoin ! $ done !))))))))))

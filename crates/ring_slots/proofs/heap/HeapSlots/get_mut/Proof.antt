@@ -3,7 +3,7 @@ use mathlib.Core.Path.{◌≡◌, refl, sym, ap, subst}
 use mathlib.Core.List.{List, [], ◌∷◌, ◌++◌}
 use Prim.Native.Nat.{ℕ, ◌+◌, ◌*◌, ◌<◌, ◌^◌}
 use lib.ListN.{length, get_or, set, length-set}
-use mir.Syntax.{Fn, a_type, named}
+use mir.Syntax.{Fn, Dict, a_type, named, dcons, dnil}
 use mir.MapTy.{inst_fn}
 use mir.Val.{Val, vptr, vint}
 use seplogic.Ra.Ura.{Ura}
@@ -23,7 +23,7 @@ use denote.Builtin.{RefMutOf, usize}
 use denote.Exit.{yes, no}
 use denote.Follow.{follows, lends_Part}
 use denote.Memory.{mem, cell_at, part_of}
-use denote.Param.{layouts}
+use denote.Param.{bounded}
 use denote.Param.Laws.{Laws}
 use denote.RattleType.{RattleType}
 use denote.RawPtr.{block_ptr}
@@ -44,8 +44,8 @@ use Rattle.ring_slots.specs.contracts.heap.HeapSlots.get_mut as contract
 use Rattle.ring_slots.proofs.heap.HeapSlots.get_mut.Statement.{statement}
 use Rattle.ring_slots.proofs.heap.HeapSlots.get_mut.Code as code
 
-abbrev stayed : (X : RattleType) → Stays (contract.ended X).signature.params (contract.ended X).kept
-stayed X = (stay_dropped (mut_ref_to (0 ∷ []) tt (plain (λ _. Seen X))) no, (stay_dropped (plain (λ _. usize)) yes, tt))
+abbrev stayed : (X : RattleType) (drops : Dict) → Stays (contract.ended X drops).signature.params (contract.ended X drops).kept
+stayed X drops = (stay_dropped (mut_ref_to (0 ∷ []) tt (plain (λ _. Seen X))) no, (stay_dropped (plain (λ _. usize)) yes, tt))
 
 module _ (X : RattleType) {M : Type 1} {𝓤 : Ura M} (𝓛 : Logic 𝓤) (s : (Inside X).Denot) (b o rb ro place : ℕ) where
   abbrev us : List Val
@@ -66,18 +66,18 @@ module _ (X : RattleType) {M : Type 1} {𝓤 : Ura M} (𝓛 : Logic 𝓤) (s : (
       move ! (1 ∷ 0 ∷ []) $ fjoin ! $ fpack ! (List Val) (λ vs. fsep (cell_at full_share (Seen X).mir vs rb ro) ((Seen X).own_val d' vs)) us $ done !
 
 pub get_mut_spec : {M : Type 1} → statement M
-get_mut_spec 𝓤 𝓛 𝓜 𝓡 wired X L =
-    let clauses = contract.clauses X 𝓛 𝓜.mem 𝓡.returns in
-    let fn : Fn = inst_fn (layouts (a_type ∷ []) (X, tt)) code.function in
+get_mut_spec 𝓤 𝓛 𝓜 𝓡 wired X L drops _ =
+    let clauses = contract.clauses X drops 𝓛 𝓜.mem 𝓡.returns in
+    let given = bounded (a_type ∷ []) (X, tt) (dcons drops dnil) in let fn : Fn = inst_fn given code.function in
     let 𝓣 = tables 𝓤 𝓛.H 𝓜 𝓡 𝓡.env in
-    proved_at 𝓛 (contract.ended X) (stayed X) clauses 𝓜 𝓡
+    proved_at 𝓛 (contract.ended X drops) (stayed X drops) clauses 𝓜 𝓡
     (Goes-spent_ref 𝓛 2 (0 ∷ []) tt (plain (λ _. Seen X)), (Goes-dropped 𝓛 2 (plain (λ _. usize)) yes (λ κs x w. refl), tt))
-    (contract.Key.name (layouts (a_type ∷ []) (X, tt))) fn (code.unfolded 𝓤 𝓛.H 𝓜 𝓡 wired (X, tt)) (λ y _.
+    (contract.Key.name given) fn (code.unfolded 𝓤 𝓛.H 𝓜 𝓡 wired (X, tt) drops) (λ y _.
     let κs = y.0.0 in let qs = y.0.1 in let a = y.0.3 in let vss = y.0.4 in let κ = κs.0 in let q = qs.0 in let γ = a.0.ghost_name in
     let rb = a.0.ref_ptr.0 in let ro = a.0.ref_ptr.1 in let d = a.0.now in let place = a.1.0 in let bytes = type_size (R X) in
-    let Post : Val → SProp 𝓤 = (walk_of 𝓛 (contract.ended X) (stayed X) clauses).post y in
+    let Post : Val → SProp 𝓤 = (walk_of 𝓛 (contract.ended X drops) (stayed X drops) clauses).post y in
     qed 𝓛 (((‵ (flft κ q) ⊛ ‵ (flft κs.1.0 qs.1.0) ⊛ ‵ ftrue)
-      ⊛ ‵ ((MutRef (named 0) κ (Seen X)).own_val a.0 vss.0) ⊛ ‵ (usize.own_val place vss.1.0) ⊛ ‵ ftrue)
+    ⊛ ‵ ((MutRef (named 0) κ (Seen X)).own_val a.0 vss.0) ⊛ ‵ (usize.own_val place vss.1.0) ⊛ ‵ ftrue)
     ∷ (raw (fact 𝓤 (κs.1.0 ⊑ X.lives)) ⊛ raw (fact 𝓤 (IsFullAt d place))) ∷ []) ∵
     move ! (1 ∷ []) $ split ! $ drop ! $ heard ! _ (λ full.
     split ! $ split ! $ move ! (2 ∷ []) $ split3 ! $ fsplit3 ! $ feq_l ! (λ refers.
@@ -106,6 +106,6 @@ get_mut_spec 𝓤 𝓛 𝓜 𝓡 wired X L =
     use1 𝓛 (later (some (λ (δ : GName). ‵ ((MutRef (named 0) κ (R X)).own_val (record { ref_ptr = (b, at); ghost_name = δ; now = x }) (vptr b at ∷ [])) ⊛ ‵ (flft κ q) ⊛ ‵ (follows (Seen X) (R X) γ δ new))))
     (lends_Part 𝓛 (Seen X) (R X) new (named 0) κ q rb ro b at γ (sem 𝓛 rest) way was was x) $ await ! tt $ pick ! (λ δ. split3 ! $
     returns ! (look_at ! 0 refl) $ free_all ! refl $
-    suffices ! _ (ends_at 𝓛 (contract.ended X) (stayed X) clauses y (vptr b at) (record { ref_ptr = (b, at); ghost_name = δ; now = x }) (tt, (tt, tt)) (tt, (tt, tt))) $
+    suffices ! _ (ends_at 𝓛 (contract.ended X drops) (stayed X drops) clauses y (vptr b at) (record { ref_ptr = (b, at); ghost_name = δ; now = x }) (tt, (tt, tt)) (tt, (tt, tt))) $
     -- [the reference; its token; what the slots end as; the other tokens]
     move ! (1 ∷ 3 ∷ []) $ join ! $ nothing ! $ nothing ! $ join ! $ nothing ! $ join ! $ move ! (1 ∷ 0 ∷ 2 ∷ []) $ group ! 3 $ frame ! $ says ! held.1 $ done !))))))))

@@ -3,7 +3,7 @@ use mathlib.Core.Path.{◌≡◌, refl, sym, ap, subst, ◌∙◌}
 use mathlib.Core.List.{List, [], ◌∷◌, ◌++◌}
 use Prim.Native.Nat.{ℕ, ◌+◌, ◌*◌, ◌<◌, ◌^◌}
 use lib.ListN.{length, get_or, set, length-set}
-use mir.Syntax.{Fn, a_type, named}
+use mir.Syntax.{Fn, Dict, a_type, named, dcons, dnil}
 use mir.MapTy.{inst_fn}
 use mir.Val.{Val, vptr, vint}
 use base.Fraction.{full_share}
@@ -21,7 +21,7 @@ use borrow.Table.OneValue.{part_out}
 use denote.Builtin.{usize}
 use denote.Exit.{yes}
 use denote.Laws.{Is, shows}
-use denote.Param.{layout, layouts}
+use denote.Param.{bounded, layout}
 use denote.Param.Laws.{Laws, param_laws}
 use denote.RattleType.{RattleType}
 use denote.Ref.{MutRef}
@@ -40,22 +40,22 @@ use Rattle.ring_slots.specs.contracts.heap.HeapSlots.take as contract
 use Rattle.ring_slots.proofs.heap.HeapSlots.take.Statement.{statement}
 use Rattle.ring_slots.proofs.heap.HeapSlots.take.Code as code
 
-abbrev stayed : (X : RattleType) → Stays (contract.ended X).signature.params (contract.ended X).kept
-stayed X = (stay_ref (0 ∷ []) tt (plain (λ _. Seen X)), (stay_dropped (plain (λ _. usize)) yes, tt))
+abbrev stayed : (X : RattleType) (drops : Dict) → Stays (contract.ended X drops).signature.params (contract.ended X drops).kept
+stayed X drops = (stay_ref (0 ∷ []) tt (plain (λ _. Seen X)), (stay_dropped (plain (λ _. usize)) yes, tt))
 
 pub take_spec : {M : Type 1} → statement M
-take_spec 𝓤 𝓛 𝓜 𝓡 wired X L =
-    let clauses = contract.clauses X 𝓛 𝓜.mem 𝓡.returns in
-    let fn : Fn = inst_fn (layouts (a_type ∷ []) (X, tt)) code.function in
+take_spec 𝓤 𝓛 𝓜 𝓡 wired X L drops _ =
+    let clauses = contract.clauses X drops 𝓛 𝓜.mem 𝓡.returns in
+    let given = bounded (a_type ∷ []) (X, tt) (dcons drops dnil) in let fn : Fn = inst_fn given code.function in
     let 𝓣 = tables 𝓤 𝓛.H 𝓜 𝓡 𝓡.env in
-    proved_at 𝓛 (contract.ended X) (stayed X) clauses 𝓜 𝓡
+    proved_at 𝓛 (contract.ended X drops) (stayed X drops) clauses 𝓜 𝓡
     (Goes-ref 𝓛 2 0 tt (plain (λ _. Seen X)), (Goes-dropped 𝓛 2 (plain (λ _. usize)) yes (λ κs x w. refl), tt))
-    (contract.Key.name (layouts (a_type ∷ []) (X, tt))) fn (code.unfolded 𝓤 𝓛.H 𝓜 𝓡 wired (X, tt)) (λ y _.
+    (contract.Key.name given) fn (code.unfolded 𝓤 𝓛.H 𝓜 𝓡 wired (X, tt) drops) (λ y _.
     let κs = y.0.0 in let qs = y.0.1 in let a = y.0.3 in let vss = y.0.4 in
     let rb = a.0.ref_ptr.0 in let ro = a.0.ref_ptr.1 in let d = a.0.now in let place = a.1.0 in let bytes = type_size (R X) in
-    let Post : Val → SProp 𝓤 = (walk_of 𝓛 (contract.ended X) (stayed X) clauses).post y in
+    let Post : Val → SProp 𝓤 = (walk_of 𝓛 (contract.ended X drops) (stayed X drops) clauses).post y in
     qed 𝓛 (((‵ (flft κs.0 qs.0) ⊛ ‵ (flft κs.1.0 qs.1.0) ⊛ ‵ ftrue)
-      ⊛ ‵ ((MutRef (named 0) κs.0 (Seen X)).own_val a.0 vss.0) ⊛ ‵ (usize.own_val place vss.1.0) ⊛ ‵ ftrue)
+    ⊛ ‵ ((MutRef (named 0) κs.0 (Seen X)).own_val a.0 vss.0) ⊛ ‵ (usize.own_val place vss.1.0) ⊛ ‵ ftrue)
     ∷ (raw (fact 𝓤 (κs.1.0 ⊑ X.lives)) ⊛ raw (fact 𝓤 (IsFullAt d place))) ∷ []) ∵
     move ! (1 ∷ []) $ split ! $ drop ! $ heard ! _ (λ full.
     split ! $ split ! $ move ! (2 ∷ []) $ split3 ! $ fsplit3 ! $ feq_l ! (λ refers.
@@ -88,6 +88,6 @@ take_spec 𝓤 𝓛 𝓜 𝓡 wired X L =
     (ap (λ (w : Slots X.Denot). changed w place None) seen) $
     -- [the reference, in two entries; its token; the item; the other tokens]
     returns ! (look_at ! 0 refl) $ free_all ! refl $ keep ! (2 ∷ 4 ∷ 0 ∷ 1 ∷ 3 ∷ []) $
-    suffices ! _ (ends_at 𝓛 (contract.ended X) (stayed X) clauses y v x (changed d place None, (tt, tt)) (tt, (tt, tt))) $ says_both ! held.1 refl $
+    suffices ! _ (ends_at 𝓛 (contract.ended X drops) (stayed X drops) clauses y v x (changed d place None, (tt, tt)) (tt, (tt, tt))) $ says_both ! held.1 refl $
     join ! $ frame ! $ feq_i ! (List Val) vss.0 (vptr rb ro ∷ []) refers $ fjoin3 ! $
     nothing ! $ nothing ! $ fjoin ! $ move ! (1 ∷ 0 ∷ []) $ fjoin ! $ frame ! $ done !)))))))))
