@@ -14,6 +14,9 @@ use std::mem::{align_of, size_of};
 
 /// Slots on the heap, whose number is chosen when they are made.
 ///
+/// They lie side by side in one block, with no mark that says which of them hold an item: the conditions of the calls
+/// do. Items without size take no block.
+///
 /// A contract sees what each slot holds, and how many changes the slots have had. That count takes no bytes, begins at
 /// 0, and rises by the calls below alone.
 pub struct HeapSlots<T> {
@@ -96,7 +99,7 @@ impl<T: Drop> HeapSlots<T> {
 }
 
 impl<T> HeapSlots<T> {
-    // The slots at a pointer that needs no memory, since items have no size.
+    // Empty slots that need no memory, since items have no size. Their pointer is aligned as items are.
     fn without_memory(alloc: Global, size: usize) -> HeapSlots<T>
         requires { type_size T.row ≡ 0 }
         ensures { result ≡ record { slots = replicate size None; changes = 0 } }
@@ -109,10 +112,10 @@ impl<T> HeapSlots<T> {
         }
     }
 
-    // The slots in a new block, which is asked for once.
+    // Empty slots in a new block.
     fn in_block(alloc: Global, size: usize) -> Result<HeapSlots<T>, AllocError>
         requires fits { FitsInBlock T.row size }
-        requires some { 0 < type_size T.row }
+        requires sized { 0 < type_size T.row }
         ensures { IfOk result (λ s. s ≡ record { slots = replicate size None; changes = 0 }) }
     {
         match alloc.allocate(size * size_of::<T>(), align_of::<T>()) {
@@ -125,7 +128,16 @@ impl<T> HeapSlots<T> {
         }
     }
 
-    // Gives the block back, and forgets what is in the slots.
+    // Lets the slots go where they have no block.
+    fn forget(self) {
+        let HeapSlots {
+            ptr: _,
+            size: _,
+            alloc: _,
+        } = self;
+    }
+
+    // Gives the block back.
     fn free_block(self)
         requires { 0 < type_size T.row }
     {
@@ -136,7 +148,7 @@ impl<T> HeapSlots<T> {
     }
 }
 
-// The bytes of an item. Where they are more than a block can have, the answer is so too.
+// The bytes of an item. An item of more bytes than a block can have gets an answer above that limit.
 fn item_size<T>() -> usize
     ensures { (result < 2 ^ 63 → result ≡ type_size T.row) × (0 < result → 0 < type_size T.row) }
 {
@@ -157,14 +169,11 @@ fn may_hold<T>(size: usize) -> bool
     }
 }
 
+// The block is given back once. What the slots hold is forgotten, so their owner takes it out first.
 impl<T> Drop for HeapSlots<T> {
     fn drop(self) {
         if item_size::<T>() == 0 {
-            let HeapSlots {
-                ptr: _,
-                size: _,
-                alloc: _,
-            } = self;
+            self.forget();
         } else {
             self.free_block();
         }
