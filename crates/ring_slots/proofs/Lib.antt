@@ -1,0 +1,4 @@
+mod Blocks
+mod Opened
+mod Rows
+mod Sharing

@@ -1,48 +1,62 @@
 //! Slots on the heap.
-ghost use Rattle.std.specs.Prelude.{◌≡◌, ◌<◌, length, replicate, None, Some, refl, IfOk, refl};
+ghost use Rattle.std.specs.Prelude.{◌≡◌, ◌^◌, ◌<◌, ℕ, List, Option, length, replicate, None, Some, refl, IfOk, IsTrue};
 ghost use Rattle.std.specs.Int.{IsPowerOfTwo};
 ghost use Rattle.std.specs.Borrow.{sem};
+ghost use Rattle.std.specs.Mem.{type_size};
+ghost use Rattle.std.specs.Vec.Ownership.{FitsInBlock};
 ghost use Rattle.ring_slots.specs.Slots.{IsEmptyAt, IsFullAt, changed, slot_at};
 
 use crate::place::masked;
 use crate::row::SlotRow;
-use crate::tally::Tally;
-use std::alloc::{AllocError, Global};
+use std::alloc::{AllocError, Allocator, Global};
 use std::marker::Model;
+use std::mem::{align_of, size_of};
 
 /// Slots on the heap, whose number is chosen when they are made.
 ///
+/// They lie side by side in one block, with no mark that says which of them hold an item: the conditions of the calls
+/// do. Items without size take no block.
+///
 /// A contract sees what each slot holds, and how many changes the slots have had. That count takes no bytes, begins at
 /// 0, and rises by the calls below alone.
-#[derive(Drop)]
 pub struct HeapSlots<T> {
-    slots: Vec<Option<T>>,
-    tally: Tally,
+    ptr: *mut T,
+    size: usize,
+    alloc: Global,
+    ghost slots: { List (Option T) },
+    ghost changes: { ℕ },
 }
 
 impl<T> Model for HeapSlots<T> {
+    ghost use Rattle.std.specs.Prelude.{◌≡◌, length};
     ghost use Rattle.ring_slots.specs.Slots.{Slots};
+    ghost use Rattle.ring_slots.specs.heap.Memory.{owned, lent};
 
     ghost Value = { Slots T };
 
-    ghost view = { λ s. record { slots = s.slots.items; changes = s.tally.count } };
+    ghost view = { λ s. record { slots = s.slots; changes = s.changes } };
+
+    ghost invariant = { λ s. length s.slots ≡ s.size };
+
+    ghost also_owns = { λ s. owned T.row s.alloc s.ptr s.slots };
+
+    ghost also_shares = { λ s _ κ. lent T.row s.ptr s.slots κ };
 }
 
 impl<T: Drop> HeapSlots<T> {
-    ghost use Rattle.ring_slots.specs.heap.Lends.{lends_item, lends_slot};
+    ghost use Rattle.ring_slots.specs.heap.Lends.{lends_item};
 
     /// Empty slots, as many as `size` says. An error says that the memory for them was refused.
     pub fn new(alloc: Global, size: usize) -> Result<HeapSlots<T>, AllocError>
         ensures { IfOk result (λ s. s ≡ record { slots = replicate size None; changes = 0 }) }
     {
-        let mut slots = Vec::with_capacity(alloc, size)?;
-        for _ in 0..size {
-            slots.push(None)?;
+        if item_size::<T>() == 0 {
+            return Ok(HeapSlots::without_memory(alloc, size));
         }
-        Ok(HeapSlots {
-            slots,
-            tally: Tally::new(),
-        })
+        if !may_hold::<T>(size) {
+            return Err(AllocError);
+        }
+        HeapSlots::in_block(alloc, size)
     }
 
     /// Puts an item into an empty slot.
@@ -51,7 +65,7 @@ impl<T: Drop> HeapSlots<T> {
         requires { IsEmptyAt self.old place }
         ensures { self.new ≡ changed self.old place (Some item) }
     {
-        *self.slot_mut(place) = Some(item);
+        unsafe { self.ptr.add(place).write(item) }
     }
 
     /// Takes the item out of a full slot.
@@ -61,7 +75,7 @@ impl<T: Drop> HeapSlots<T> {
         ensures value { slot_at self.old place ≡ Some result }
         ensures after { self.new ≡ changed self.old place None }
     {
-        self.slot_mut(place).take().unwrap()
+        unsafe { self.ptr.add(place).read() }
     }
 
     /// The item of a full slot.
@@ -70,7 +84,7 @@ impl<T: Drop> HeapSlots<T> {
         requires { IsFullAt self.now place }
         ensures { slot_at self.now place ≡ Some result.now }
     {
-        self.slots[place].as_ref().unwrap()
+        unsafe { &*self.ptr.add(place) }
     }
 
     /// The item of a full slot, for writing.
@@ -80,18 +94,89 @@ impl<T: Drop> HeapSlots<T> {
         ensures* writes_back { sem 𝓛 (lends_item T.row self.entry place result) }
         ensures value { slot_at self.old place ≡ Some result.now }
     {
-        self.slot_mut(place).as_mut().unwrap()
+        unsafe { &mut *self.ptr.add(place) }
+    }
+}
+
+impl<T> HeapSlots<T> {
+    // Empty slots that need no memory, since items have no size. Their pointer is aligned as items are.
+    fn without_memory(alloc: Global, size: usize) -> HeapSlots<T>
+        requires { type_size T.row ≡ 0 }
+        ensures { result ≡ record { slots = replicate size None; changes = 0 } }
+    {
+        let none: &[T; 0] = &[];
+        HeapSlots {
+            ptr: none as *const [T; 0] as *mut T,
+            size,
+            alloc,
+        }
     }
 
-    // The slot at a place, for one change, which is counted here.
-    #[inline]
-    fn slot_mut(&mut self, place: usize) -> &mut Option<T>
-        requires { place < length self.old.slots }
-        ensures* writes_back { sem 𝓛 (lends_slot T.row self.entry place result) }
-        ensures value { result.now ≡ slot_at self.old place }
+    // Empty slots in a new block.
+    fn in_block(alloc: Global, size: usize) -> Result<HeapSlots<T>, AllocError>
+        requires fits { FitsInBlock T.row size }
+        requires sized { 0 < type_size T.row }
+        ensures { IfOk result (λ s. s ≡ record { slots = replicate size None; changes = 0 }) }
     {
-        self.tally = self.tally.next();
-        &mut self.slots[place]
+        match alloc.allocate(size * size_of::<T>(), align_of::<T>()) {
+            Ok(block) => Ok(HeapSlots {
+                ptr: block as *mut T,
+                size,
+                alloc,
+            }),
+            Err(error) => Err(error),
+        }
+    }
+
+    // Lets the slots go where they have no block.
+    fn forget(self) {
+        let HeapSlots {
+            ptr: _,
+            size: _,
+            alloc: _,
+        } = self;
+    }
+
+    // Gives the block back.
+    fn free_block(self)
+        requires { 0 < type_size T.row }
+    {
+        let HeapSlots { ptr, size, alloc } = self;
+        unsafe {
+            alloc.deallocate(ptr as *mut u8, size * size_of::<T>(), align_of::<T>());
+        }
+    }
+}
+
+// The bytes of an item. An item of more bytes than a block can have gets an answer above that limit.
+fn item_size<T>() -> usize
+    ensures { (result < 2 ^ 63 → result ≡ type_size T.row) × (0 < result → 0 < type_size T.row) }
+{
+    size_of::<T>()
+}
+
+// Whether a block for as many items as `size` says can be asked for.
+fn may_hold<T>(size: usize) -> bool
+    ensures { IsTrue result → FitsInBlock T.row size }
+{
+    let bytes = item_size::<T>();
+    if bytes > isize::MAX as usize || size > isize::MAX as usize {
+        return false;
+    }
+    match size.checked_mul(bytes) {
+        Some(all) => all <= isize::MAX as usize,
+        None => false,
+    }
+}
+
+// The block is given back once. What the slots hold is forgotten, so their owner takes it out first.
+impl<T> Drop for HeapSlots<T> {
+    fn drop(self) {
+        if item_size::<T>() == 0 {
+            self.forget();
+        } else {
+            self.free_block();
+        }
     }
 }
 
@@ -106,7 +191,7 @@ impl<T: Drop> SlotRow<T> for HeapSlots<T> {
 
     #[inline]
     fn size(&self) -> usize {
-        self.slots.len()
+        self.size
     }
 
     #[inline]

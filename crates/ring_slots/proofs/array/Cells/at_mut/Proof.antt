@@ -46,16 +46,11 @@ use denote.Triple.Clauses.{Ended}
 use denote.Triple.Walked.{says, Stays, stay_dropped, Goes-dropped, Goes-spent_ref, ends_at}
 use borrow.Table.Elements.{at, at_mul, focus_any}
 use Rattle.std.proofs.raw_atomic.Walks.{proved}
+use Rattle.ring_slots.proofs.Rows.{product_is}
 use Rattle.ring_slots.specs.contracts.array.Cells.{the_row, the_type}
 use Rattle.ring_slots.specs.contracts.array.Cells.at_mut as contract
 use Rattle.ring_slots.proofs.array.Cells.at_mut.Statement.{statement}
 use Rattle.ring_slots.proofs.array.Cells.at_mut.Code as code
-
--- a size that is capped at what a word holds makes the same product, where that product fits a word
-product_is : (k bytes : ℕ) → k * bytes < 2 ^ 64 → k * capped bytes ≡ k * bytes
-product_is zero bytes fits = zero-mul (capped bytes) ∙ sym (zero-mul bytes)
-product_is (suc k) bytes fits =
-    let once = suc-mul k bytes in ap (λ (j : ℕ). suc k * j) (capped_is bytes (omega arith))
 
 -- what shows that a list has an element at an index has one to give
 some_element : {A : Type 0} (xs : List A) (k : ℕ) → k < length xs → A

@@ -1,0 +1,48 @@
+-- A borrow of heap slots is shared item by item.
+use mathlib.Core.List.{List, [], ◌∷◌}
+use Prim.Native.Nat.{ℕ, ◌+◌}
+use lib.ListN.{length}
+use seplogic.Ra.Ura.{Ura}
+use base.Fml.{Lft, Incl, ftrue, fsep}
+use types.Logic.{Logic}
+use denote.RattleType.{RattleType, RowLaws}
+use denote.Param.Laws.{Laws}
+use denote.RawPtr.{Ptr, block_ptr, null_ptr}
+use denote.Sharing.{ShrLaws, said}
+use denote.SharingLaws.{beside_shr_laws, nothing_shr_laws, said_shr_laws}
+use denote.Shares.{Shares-less}
+use denote.Struct.Lending.{Lends, Lends-both, Lends-first, Lends-nothing, Lends-said, Lends-false}
+use Rattle.std.specs.Prelude.{Option, Some, None}
+use Rattle.std.specs.Mem.{type_size}
+use Rattle.std.specs.declared.alloc.Global.{Global}
+use Rattle.ring_slots.specs.heap.Memory.{slot, row, slot_shown, row_shown, small, right, owned, lent}
+
+module _ (R : RattleType) (twice : RowLaws R) where
+  slot_laws : (b o : ℕ) (c : Option R.Denot) → ShrLaws (slot_shown R b o c)
+  slot_laws b o None = nothing_shr_laws
+  slot_laws b o (Some x) = twice x b o
+
+  row_laws : (b o : ℕ) (cs : List (Option R.Denot)) → ShrLaws (row_shown R b o cs)
+  row_laws b o [] = nothing_shr_laws
+  row_laws b o (c ∷ cs) = beside_shr_laws (slot_shown R b o c) (row_shown R b (o + type_size R) cs) (slot_laws b o c) (row_laws b (o + type_size R) cs)
+
+  pub lent_laws : (p : Ptr) (cs : List (Option R.Denot)) → ShrLaws (lent R p cs)
+  lent_laws null_ptr cs = said_shr_laws _ tt
+  lent_laws (block_ptr b o) cs = beside_shr_laws (said (small R cs)) (row_shown R b o cs) (said_shr_laws (small R cs) tt) (row_laws b o cs)
+
+module _ {M : Type 1} {𝓤 : Ura M} (𝓛 : Logic 𝓤) (R : RattleType) (L : Laws R) (l : Lft) (within : Incl l R.lives) where
+  slot_lends : (b o : ℕ) (c : Option R.Denot) → Lends 𝓛 (slot R b o c) (slot_shown R b o c) l
+  slot_lends b o None = Lends-nothing 𝓛 (slot R b o None) l
+  slot_lends b o (Some x) = λ κ ts. Shares-less 𝓛 R R.lives l within (L.shares 𝓛) x κ ts b o
+
+  row_lends : (b o : ℕ) (cs : List (Option R.Denot)) → Lends 𝓛 (row R b o cs) (row_shown R b o cs) l
+  row_lends b o [] = Lends-nothing 𝓛 ftrue l
+  row_lends b o (c ∷ cs) = Lends-both 𝓛 (slot R b o c) (row R b (o + type_size R) cs) (slot_shown R b o c) (row_shown R b (o + type_size R) cs) l
+      (slot_lends b o c) (row_lends b (o + type_size R) cs)
+
+  pub lends : (alloc : Global) (p : Ptr) (cs : List (Option R.Denot)) → Lends 𝓛 (owned R alloc p cs) (lent R p cs) l
+  lends alloc null_ptr cs = Lends-false 𝓛 (lent R null_ptr cs) l
+  lends alloc (block_ptr b o) cs =
+      let free = right R alloc (block_ptr b o) (length cs) in
+      Lends-both 𝓛 (small R cs) (fsep (row R b o cs) free) (said (small R cs)) (row_shown R b o cs) l
+      (Lends-said 𝓛 (small R cs) tt l) (Lends-first 𝓛 (row R b o cs) free (row_shown R b o cs) l (row_lends b o cs))

@@ -1,0 +1,93 @@
+-- The item is read out of its slot, whose memory is room from then on.
+use mathlib.Core.Path.{◌≡◌, refl, sym, ap, subst, ◌∙◌}
+use mathlib.Core.List.{List, [], ◌∷◌, ◌++◌}
+use Prim.Native.Nat.{ℕ, ◌+◌, ◌*◌, ◌<◌, ◌^◌}
+use lib.ListN.{length, get_or, set, length-set}
+use mir.Syntax.{Fn, Dict, a_type, named, dcons, dnil}
+use mir.MapTy.{inst_fn}
+use mir.Val.{Val, vptr, vint}
+use base.Fraction.{full_share}
+use base.Logic.{SProp}
+use base.Fml.{ftrue, fat, froom, flft}
+use prog.Wp.{WpFn}
+use types.Kit.{‵, raw, ◌⊛◌, some, prop, at_ret, ◌$◌, ◌∵◌, !, qed, move, keep, drop, use1, use2, pick, split, split3, join, fsplit, fsplit3, fjoin, fjoin3, feq_i, feq_l, flt_l, rewrite, regoal, suffices, frame, done}
+use types.Part.{whole, sub, look_in}
+use types.Run.{stop, fld, load, look, of_opd, bin, size_lit, first, blocks, exec, returns, enter}
+use types.ByLocal.{alloc_all, pass_all, free_all, look_at, get, through, sets, sets_last, env}
+use package.contract.BorrowLft.{◌⊑◌}
+use package.contract.Monad.{fact}
+use package.contract.Running.{tables}
+use borrow.Table.OneValue.{part_out}
+use denote.Builtin.{usize}
+use denote.Exit.{yes}
+use denote.Laws.{Is, shows}
+use denote.Param.{bounded, layout}
+use denote.Param.Laws.{Laws, param_laws}
+use denote.RattleType.{RattleType}
+use denote.Ref.{MutRef}
+use denote.Signature.{plain}
+use denote.Steps.{nothing, heard, peeks}
+use denote.Triple.Walked.{Stays, stay_dropped, stay_ref, Goes-dropped, Goes-ref, walk_of, ends_at}
+use Rattle.std.specs.Prelude.{Option, Some, None}
+use Rattle.std.specs.Mem.{type_size}
+use Rattle.std.proofs.VecSteps.Shapes.{after}
+use Rattle.std.proofs.raw_atomic.Walks.{proved_at}
+use Rattle.ring_slots.specs.Slots.{Slots, IsFullAt, changed}
+use Rattle.ring_slots.specs.heap.Memory.{slot, row}
+use Rattle.ring_slots.proofs.Rows.{item_of, full_within, place_fits, says_both, others, slot_out, slot_in}
+use Rattle.ring_slots.proofs.Opened.{R, Seen, slots_opened, slots_closed}
+use Rattle.ring_slots.specs.contracts.heap.HeapSlots.take as contract
+use Rattle.ring_slots.proofs.heap.HeapSlots.take.Statement.{statement}
+use Rattle.ring_slots.proofs.heap.HeapSlots.take.Code as code
+
+abbrev stayed : (X : RattleType) (drops : Dict) → Stays (contract.ended X drops).signature.params (contract.ended X drops).kept
+stayed X drops = (stay_ref (0 ∷ []) tt (plain (λ _. Seen X)), (stay_dropped (plain (λ _. usize)) yes, tt))
+
+pub take_spec : {M : Type 1} → statement M
+take_spec 𝓤 𝓛 𝓜 𝓡 wired X L drops _ =
+    let clauses = contract.clauses X drops 𝓛 𝓜.mem 𝓡.returns in
+    let given = bounded (a_type ∷ []) (X, tt) (dcons drops dnil) in let fn : Fn = inst_fn given code.function in
+    let 𝓣 = tables 𝓤 𝓛.H 𝓜 𝓡 𝓡.env in
+    proved_at 𝓛 (contract.ended X drops) (stayed X drops) clauses 𝓜 𝓡
+    (Goes-ref 𝓛 2 0 tt (plain (λ _. Seen X)), (Goes-dropped 𝓛 2 (plain (λ _. usize)) yes (λ κs x w. refl), tt))
+    (contract.Key.name given) fn (code.unfolded 𝓤 𝓛.H 𝓜 𝓡 wired (X, tt) drops) (λ y _.
+    let κs = y.0.0 in let qs = y.0.1 in let a = y.0.3 in let vss = y.0.4 in
+    let rb = a.0.ref_ptr.0 in let ro = a.0.ref_ptr.1 in let d = a.0.now in let place = a.1.0 in let bytes = type_size (R X) in
+    let Post : Val → SProp 𝓤 = (walk_of 𝓛 (contract.ended X drops) (stayed X drops) clauses).post y in
+    qed 𝓛 (((‵ (flft κs.0 qs.0) ⊛ ‵ (flft κs.1.0 qs.1.0) ⊛ ‵ ftrue)
+    ⊛ ‵ ((MutRef (named 0) κs.0 (Seen X)).own_val a.0 vss.0) ⊛ ‵ (usize.own_val place vss.1.0) ⊛ ‵ ftrue)
+    ∷ (raw (fact 𝓤 (κs.1.0 ⊑ X.lives)) ⊛ raw (fact 𝓤 (IsFullAt d place))) ∷ []) ∵
+    move ! (1 ∷ []) $ split ! $ drop ! $ heard ! _ (λ full.
+    split ! $ split ! $ move ! (2 ∷ []) $ split3 ! $ fsplit3 ! $ feq_l ! (λ refers.
+    move ! (2 ∷ []) $ fsplit ! $ feq_l ! (λ placed. flt_l ! (λ fits.
+    regoal ! (λ (ws : List Val × List Val). prop (WpFn 𝓤 𝓛.H 𝓣.C 𝓣.Λ fn (ws.0 ++ (ws.1 ++ [])) Post)) (λ i. (refers i, placed i)) refl $
+    keep ! (0 ∷ 1 ∷ 3 ∷ 4 ∷ []) $
+    enter ! _ _ _ _ _ $ alloc_all ! (λ l. pass_all ! refl ((tt, tt), ((tt, record { fits = fits }), tt)) $
+    slots_opened X L ! tt d rb ro (λ s b o seen counted lies fit.
+    let held = item_of (get_or d.slots place None) full in let x : X.Denot = held.0 in
+    let holds : get_or s.slots place None ≡ Some x = subst (λ (w : Slots X.Denot). get_or w.slots place None ≡ Some x) (sym seen) held.1 in
+    let within = full_within s.slots place x holds in
+    let near = place_fits place (length s.slots) bytes within fit in
+    let at : ℕ = place * bytes + o in
+    let new : List (Option X.Denot) = set s.slots place None in
+    first ! $ blocks ! $
+    sets ! (of_opd ! (load ! (through ! refl (fld ! refl (stop !))) (look_in ! 3 (sub ! 0 refl (whole !))))) refl (tt, tt) $
+    sets ! (bin ! (get ! refl) (size_lit ! (record { fits = near.0 })) (record { fits = near.1 })) refl (tt, record { fits = near.1 }) $
+    sets ! (bin ! (get ! refl) (get ! refl) tt) refl (tt, tt) $
+    use1 𝓛 (‵ (slot (R X) b at (get_or s.slots place None)) ⊛ ‵ (others X b o s.slots place)) (slot_out X b 𝓛 s.slots place o within) $ split ! $
+    rewrite ! 0 (λ (c : Option X.Denot). ‵ (slot (R X) b at c)) holds refl $
+    use1 𝓛 (some (λ (v : Val). ‵ (fat full_share (layout X) b at v) ⊛ ‵ (X.own_val x (v ∷ [])))) (part_out 𝓛 (R X) refl full_share x b at) $ pick ! (λ v. split ! $
+    move ! (1 ∷ []) $ peeks ! (R X) (Is (R X)) (shows 𝓛 (R X)) x (v ∷ []) (λ is.
+    let good = (((param_laws 0 X L).lawful 𝓛).typed x (v ∷ []) is).0 in
+    move ! (1 ∷ []) $ sets_last ! (of_opd ! (load ! (through ! refl (stop !)) (look ! 0 refl))) refl good $
+    exec ! 𝓣.C 𝓣.Λ (env fn.locals l) (after 1 fn.body) (at_ret _ Post) $ sets ! (of_opd ! (get ! refl)) refl good $
+    -- [the memory of the slot; the item; the other slots; the right; the fields; their cell; the open borrow, in three entries; the other tokens]
+    use1 𝓛 (‵ (froom (layout X) b at)) (𝓛.laws.at_room (layout X) b at v) $ use1 𝓛 (‵ (slot (R X) b at None)) (𝓛.laws.room-raw (layout X) b at) $
+    move ! (0 ∷ 2 ∷ []) $ use2 𝓛 (‵ (row (R X) b o new)) (slot_in X b 𝓛 s.slots place o None within) $ move ! (0 ∷ 2 ∷ 3 ∷ 4 ∷ 5 ∷ 6 ∷ 7 ∷ []) $
+    slots_closed X L ! tt s new (s.changes + 1) (changed d place None) b o rb ro lies counted fit (length-set s.slots place None)
+    (ap (λ (w : Slots X.Denot). changed w place None) seen) $
+    -- [the reference, in two entries; its token; the item; the other tokens]
+    returns ! (look_at ! 0 refl) $ free_all ! refl $ keep ! (2 ∷ 4 ∷ 0 ∷ 1 ∷ 3 ∷ []) $
+    suffices ! _ (ends_at 𝓛 (contract.ended X drops) (stayed X drops) clauses y v x (changed d place None, (tt, tt)) (tt, (tt, tt))) $ says_both ! held.1 refl $
+    join ! $ frame ! $ feq_i ! (List Val) vss.0 (vptr rb ro ∷ []) refers $ fjoin3 ! $
+    nothing ! $ nothing ! $ fjoin ! $ move ! (1 ∷ 0 ∷ []) $ fjoin ! $ frame ! $ done !)))))))))

@@ -1,0 +1,82 @@
+-- Room for no item is had for nothing, and is room for any number of items without size.
+use mathlib.Core.Path.{◌≡◌, refl, sym, ap, subst, ◌∙◌}
+use mathlib.Core.Bool.{Bool, true}
+use mathlib.Core.List.{List, [], ◌∷◌}
+use Prim.Native.Nat.{ℕ, ◌*◌, ◌<◌, ◌^◌}
+use native.Mathlib.Omega.{arith}
+use native.Mathlib.Nat.{zero-mul, mul-zero}
+use lib.Dec.{eqb}
+use lib.ListN.{length, replicate, length-replicate}
+use mir.Syntax.{Fn, a_type, w64, ty_array}
+use mir.MapTy.{inst_fn}
+use mir.Val.{Val}
+use base.Logic.{wand}
+use base.Fml.{ftrue, froom}
+use prog.Align.{dv_self}
+use prog.Memory.{size, align}
+use types.Kit.{‵, raw, ◌⊛◌, ◌$◌, ◌∵◌, !, qed, move, keep, drop, use0, use1, use3, split, join, fjoin, frame, rewrite, suffices, done}
+use types.Part.{agg}
+use types.Run.{stop, from, addr, of_opd, no_more, and_then, returns, enter}
+use types.ByLocal.{alloc_all, pass_all, free_all, look_at, get, through, sets}
+use package.contract.BorrowLft.{◌⊑◌}
+use package.contract.Monad.{fact}
+use denote.Builtin.{usize}
+use denote.Exit.{yes}
+use denote.Param.{layout, layouts}
+use denote.Plain.{uint_vals, uint_Tells}
+use denote.RattleType.{owns}
+use denote.RawPtr.{block_ptr}
+use denote.Signature.{plain, types_at}
+use denote.Steps.{nothing, heard}
+use denote.Triple.Entry.{Vals, alive}
+use denote.Triple.Walked.{says, Stays, stay_dropped, Goes-dropped, ends_at}
+use Rattle.std.specs.Prelude.{None}
+use Rattle.std.specs.Mem.{type_size}
+use Rattle.std.specs.contracts.alloc.Global as heap
+use Rattle.std.proofs.alloc.Global.TheLaws as heap_laws
+use Rattle.std.proofs.raw_atomic.Walks.{proved}
+use Rattle.ring_slots.specs.heap.Memory.{row, right, right_if}
+use Rattle.ring_slots.proofs.Rows.{of_room}
+use Rattle.ring_slots.proofs.Opened.{R, Seen, AreSmall, fields, Fields, words, begun, fields_made, slots_made}
+use Rattle.ring_slots.specs.contracts.heap.HeapSlots.without_memory as contract
+use Rattle.ring_slots.proofs.heap.HeapSlots.without_memory.Statement.{statement}
+use Rattle.ring_slots.proofs.heap.HeapSlots.without_memory.Code as code
+
+-- a row of items without size takes no bytes
+small_rows : (n bytes : ℕ) → bytes ≡ 0 → n * bytes < 2 ^ 63
+small_rows n bytes no_size = subst (λ (k : ℕ). n * k < 2 ^ 63) (sym no_size) (omega (arith, mul-zero n))
+
+pub without_memory_spec : {M : Type 1} → statement M
+without_memory_spec 𝓤 𝓛 𝓜 𝓡 wired X L =
+    let clauses = contract.clauses X 𝓛 𝓜.mem 𝓡.returns in
+    let ended = contract.ended X in
+    let stayed : Stays ended.signature.params ended.kept = (stay_dropped (plain (λ _. heap.the_row)) yes, (stay_dropped (plain (λ _. usize)) yes, tt)) in
+    let fn : Fn = inst_fn (layouts (a_type ∷ []) (X, tt)) code.function in
+    proved 𝓛 ended stayed clauses 𝓜 𝓡
+    (Goes-dropped 𝓛 1 (plain (λ _. heap.the_row)) yes (λ κs x w. refl), (Goes-dropped 𝓛 1 (plain (λ _. usize)) yes (λ κs x w. refl), tt))
+    (contract.Key.name (layouts (a_type ∷ []) (X, tt))) fn (code.unfolded 𝓤 𝓛.H 𝓜 𝓡 wired (X, tt))
+    (λ κs. ((λ h. heap_laws.lowered h ∷ []), (uint_vals w64, tt))) (λ κs. (heap_laws.lowers.val_is, (uint_Tells w64, tt))) (λ κs qs bounds a _ are.
+    let alloc = a.0 in let n = a.1.0 in let fits = are.1.0.1 in let τ = layout X in let vss : Vals ended.signature κs = (heap_laws.lowered alloc ∷ [], (uint_vals w64 n, tt)) in
+    qed 𝓛 ((raw (alive 𝓛 ended.signature κs qs) ⊛ ‵ (owns (types_at ended.signature.params κs) a vss))
+    ∷ (raw (fact 𝓤 (κs.0 ⊑ X.lives)) ⊛ raw (fact 𝓤 (type_size (R X) ≡ 0))) ∷ []) ∵
+    move ! (1 ∷ []) $ split ! $ drop ! $ heard ! _ (λ no_size. split ! $ keep ! (0 ∷ []) $
+    enter ! _ _ _ _ _ $ alloc_all ! (λ l. pass_all ! refl ((tt, ((tt, tt), tt)), ((tt, record { fits = fits }), tt)) $
+    let b = l 4 in let s = begun X b 0 n alloc (replicate n None) in let us = words b 0 n alloc ∷ [] in
+    sets ! (agg ! (no_more !)) refl (tt, tt) $
+    sets ! (addr ! (from ! (stop !))) refl (tt, tt) $
+    sets ! (addr ! (through ! refl (stop !))) refl (tt, tt) $
+    sets ! (of_opd ! (get ! refl)) refl (tt, tt) $
+    sets ! (agg ! (and_then ! (get ! refl) (and_then ! (get ! refl) (and_then ! (get ! refl) (no_more !))))) refl (tt, (tt, (record { fits = fits }, (((tt, tt), tt), tt)))) $
+    returns ! (look_at ! 0 refl) $ free_all ! refl $
+    let same : size (ty_array τ n) ≡ size (ty_array τ 0) = ap (λ (k : ℕ). n * k) no_size ∙ mul-zero n ∙ sym (zero-mul (size τ)) in
+    fields_made X b 0 n alloc ! s.slots fits $
+    nothing ! $ rewrite ! 0 (λ (y : Bool). ‵ (right_if (R X) y alloc (block_ptr b 0) n)) (sym (ap (λ (k : ℕ). eqb k 0) no_size)) refl $
+    use0 𝓛 (‵ (froom (ty_array τ 0) b 0)) (𝓛.laws.room_nil τ b 0) $
+    use1 𝓛 (‵ (froom (ty_array τ n) b 0) ⊛ raw (wand 𝓤 (𝓛.H.room (ty_array τ n) b 0) (𝓛.H.room (ty_array τ 0) b 0))) (𝓛.laws.room_as (ty_array τ 0) (ty_array τ n) b 0 same (dv_self (align τ))) $
+    split ! $ use1 𝓛 (‵ (row (R X) b 0 s.slots)) (of_room X b 𝓛 n 0) $ keep ! (0 ∷ 2 ∷ 3 ∷ 4 ∷ []) $
+    let long : length s.slots ≡ n = length-replicate n None in
+    let seen : (Seen X).Denot = record { slots = s.slots; changes = 0 } in
+    rewrite ! 1 (λ (k : ℕ). ‵ (right (R X) alloc (block_ptr b 0) k)) (sym long) refl $
+    use3 𝓛 (‵ ((Seen X).own_val seen us)) (slots_made X 𝓛 b 0 s s.slots 0 seen us refl long (small_rows (length s.slots) (type_size (R X)) no_size) refl refl) $
+    suffices ! _ (ends_at 𝓛 ended stayed clauses ((κs, qs, bounds, a, vss), tt) (words b 0 n alloc) seen (tt, (tt, tt)) (tt, (tt, tt))) $ says ! refl $
+    nothing ! $ nothing ! $ fjoin ! $ nothing ! $ fjoin ! $ move ! (2 ∷ 0 ∷ 1 ∷ []) $ frame ! $ frame ! $ done !)))
