@@ -22,6 +22,8 @@ use std::alloc::{AllocError, Global};
 use std::marker::Model;
 use std::ops::{Index, IndexMut};
 
+const GREATEST_POWER_OF_TWO: usize = 1 << (usize::BITS - 1);
+
 /// A ring of at most `capacity` items, which lie in one block of memory: as many slots as the least power of two that
 /// is at least the capacity. The block is asked for when the ring is made, and no call asks for more.
 ///
@@ -56,9 +58,10 @@ impl<T: Drop> AllocRingBuffer<T> {
         ensures made { IfOk result (λ ring. ring ≡ record { held = record { items = []; changes = 0 }; capacity = capacity }) }
         ensures too_large { 2 ^ 63 < capacity → IsErr result }
     {
-        let Some(size) = capacity.checked_next_power_of_two() else {
+        if capacity > GREATEST_POWER_OF_TWO {
             return Err(AllocError);
-        };
+        }
+        let size = capacity.next_power_of_two();
         let slots = HeapSlots::new(alloc, size)?;
         Ok(AllocRingBuffer {
             ring: Fixed::over(slots),
