@@ -22,10 +22,14 @@ impl Drops {
 
     /// The item of this number. Each number is given to one item.
     pub fn item(&self, rt: &impl Abort, number: usize) -> Counted<'_> {
-        Counted {
-            number,
-            drops: self.counts.get(number).expect(rt, "a count for the item"),
-        }
+        self.item_if_counted(number)
+            .expect(rt, "a count for the item")
+    }
+
+    /// The item of this number, if there is a count for it.
+    fn item_if_counted(&self, number: usize) -> Option<Counted<'_>> {
+        let drops = self.counts.get(number)?;
+        Some(Counted { number, drops })
     }
 
     /// How often the item of this number was dropped.
@@ -57,5 +61,68 @@ impl Drop for Counted<'_> {
             number: _,
             drops: _,
         } = self;
+    }
+}
+
+/// Items that can be cloned, so many in all. After that a clone is refused.
+#[derive(Drop)]
+pub struct Supply {
+    drops: Drops,
+    given: Cell<usize>,
+}
+
+impl Supply {
+    /// A supply of so many items.
+    pub fn new(alloc: Global, items: usize) -> Result<Supply, AllocError> {
+        Ok(Supply {
+            drops: Drops::new(alloc, items)?,
+            given: Cell::new(0),
+        })
+    }
+
+    /// The next item, in the order of the numbers.
+    pub fn item(&self, rt: &impl Abort) -> Clonable<'_> {
+        self.next().expect(rt, "one item more")
+    }
+
+    /// The next item, if there is one.
+    fn next(&self) -> Option<Clonable<'_>> {
+        let number = self.given.get();
+        let item = self.drops.item_if_counted(number)?;
+        self.given.set(number.saturating_add(1));
+        Some(Clonable { item, supply: self })
+    }
+
+    /// How many items were given out, clones among them.
+    pub fn given(&self) -> usize {
+        self.given.get()
+    }
+
+    /// The first items were not dropped yet. All others that were given out were dropped exactly once.
+    pub fn assert_all_dropped_but(&self, rt: &impl Abort, first: usize) {
+        for number in 0..self.given() {
+            let wanted = if number < first { 0 } else { 1 };
+            assert_eq!(rt; self.drops.of(rt, number), wanted, "item {number}");
+        }
+    }
+}
+
+/// An item that counts its drop. Its clone is the next item of its supply.
+#[derive(Drop)]
+pub struct Clonable<'a> {
+    item: Counted<'a>,
+    supply: &'a Supply,
+}
+
+impl Clonable<'_> {
+    /// The item's number.
+    pub fn number(&self) -> usize {
+        self.item.number
+    }
+}
+
+impl<'a> Clone for Clonable<'a> {
+    fn clone(&self) -> Result<Clonable<'a>, AllocError> {
+        self.supply.next().ok_or(AllocError)
     }
 }
