@@ -11,6 +11,7 @@ mod fills;
 mod memory;
 mod positions;
 mod pushing;
+mod refused;
 mod runs;
 mod scarce;
 mod walks;

@@ -31,7 +31,9 @@ impl Twin for GrowableAllocRingBuffer<i64> {
 
 #[test]
 fn a_default_ring_equals_a_new_one(rt: HostRuntime) {
-    assert!(rt; ConstGenericRingBuffer::<i64, 8>::default() == ConstGenericRingBuffer::<i64, 8>::new());
+    assert!(rt;
+        ConstGenericRingBuffer::<i64, 8>::default() == ConstGenericRingBuffer::<i64, 8>::new()
+    );
     assert!(rt;
         GrowableAllocRingBuffer::<i64>::default(rt.alloc())
             == GrowableAllocRingBuffer::<i64>::new(rt.alloc())
@@ -124,7 +126,11 @@ fn a_clone_stays_equal_under_the_same_pushes(rt: HostRuntime) -> Result<(), Allo
         assert_holds(rt, &twin, items);
         Ok(())
     }
-    on(&rt, ConstGenericRingBuffer::<i64, 4>::new(), &[32, 22, 11, 12])?;
+    on(
+        &rt,
+        ConstGenericRingBuffer::<i64, 4>::new(),
+        &[32, 22, 11, 12],
+    )?;
     on(&rt, AllocRingBuffer::new(rt.alloc(), 4)?, &[32, 22, 11, 12])?;
     on(
         &rt,

@@ -45,17 +45,17 @@ fn an_array_ring_is_made_of_each_source(rt: HostRuntime) -> Result<(), AllocErro
     on(&rt, ConstGenericRingBuffer::from_text("12"))?;
     on(&rt, ConstGenericRingBuffer::from_slice(&['1', '2'])?)?;
     on(&rt, ConstGenericRingBuffer::from_array_ref(&['1', '2'])?)?;
-    on(&rt, ConstGenericRingBuffer::from_array([Some('1'), Some('2')]))?;
+    on(
+        &rt,
+        ConstGenericRingBuffer::from_array([Some('1'), Some('2')]),
+    )?;
     on(&rt, ConstGenericRingBuffer::from_growable(growable))?;
     on(&rt, ConstGenericRingBuffer::from_alloc(heap))
 }
 
 #[test]
 fn a_heap_ring_is_made_of_each_source(rt: HostRuntime) -> Result<(), AllocError> {
-    fn on(
-        rt: &(impl Abort + AllocGlobal),
-        ring: AllocRingBuffer<char>,
-    ) -> Result<(), AllocError> {
+    fn on(rt: &(impl Abort + AllocGlobal), ring: AllocRingBuffer<char>) -> Result<(), AllocError> {
         assert_made(rt, ring, &['2', '3'])
     }
     let alloc = rt.alloc();
@@ -72,7 +72,10 @@ fn a_heap_ring_is_made_of_each_source(rt: HostRuntime) -> Result<(), AllocError>
     on(&rt, AllocRingBuffer::from_text(alloc, "12")?)?;
     on(&rt, AllocRingBuffer::from_slice(alloc, &['1', '2'])?)?;
     on(&rt, AllocRingBuffer::from_array_ref(alloc, &['1', '2'])?)?;
-    on(&rt, AllocRingBuffer::from_array(alloc, [Some('1'), Some('2')])?)?;
+    on(
+        &rt,
+        AllocRingBuffer::from_array(alloc, [Some('1'), Some('2')])?,
+    )?;
     on(&rt, AllocRingBuffer::from_const(alloc, array)?)?;
     on(&rt, AllocRingBuffer::from_growable(alloc, growable)?)
 }
@@ -97,9 +100,18 @@ fn a_growable_ring_is_made_of_each_source(rt: HostRuntime) -> Result<(), AllocEr
     on(&rt, GrowableAllocRingBuffer::from(deque))?;
     on(&rt, GrowableAllocRingBuffer::from_string(alloc, string)?)?;
     on(&rt, GrowableAllocRingBuffer::from_text(alloc, "12")?)?;
-    on(&rt, GrowableAllocRingBuffer::from_slice(alloc, &['1', '2'])?)?;
-    on(&rt, GrowableAllocRingBuffer::from_array_ref(alloc, &['1', '2'])?)?;
-    on(&rt, GrowableAllocRingBuffer::from_array(alloc, [Some('1'), Some('2')])?)?;
+    on(
+        &rt,
+        GrowableAllocRingBuffer::from_slice(alloc, &['1', '2'])?,
+    )?;
+    on(
+        &rt,
+        GrowableAllocRingBuffer::from_array_ref(alloc, &['1', '2'])?,
+    )?;
+    on(
+        &rt,
+        GrowableAllocRingBuffer::from_array(alloc, [Some('1'), Some('2')])?,
+    )?;
     on(&rt, GrowableAllocRingBuffer::from_const(alloc, array)?)?;
     on(&rt, GrowableAllocRingBuffer::from_alloc(alloc, heap)?)
 }
@@ -117,7 +129,10 @@ fn an_array_ring_holds_numbers_of_each_source(rt: HostRuntime) -> Result<(), All
     let deque = VecDeque::from_array(alloc, [1, 2, 3])?;
     let growable = GrowableAllocRingBuffer::from_slice(alloc, &[1, 2, 3])?;
     let heap = AllocRingBuffer::from_slice(alloc, &[1, 2, 3])?;
-    on(&rt, ConstGenericRingBuffer::from_array([Some(1), Some(2), Some(3)]));
+    on(
+        &rt,
+        ConstGenericRingBuffer::from_array([Some(1), Some(2), Some(3)]),
+    );
     on(&rt, ConstGenericRingBuffer::from_array_ref(&items)?);
     on(&rt, ConstGenericRingBuffer::from_slice(&items)?);
     on(&rt, ConstGenericRingBuffer::from_mut_array(&mut items)?);
@@ -165,12 +180,24 @@ fn a_source_that_could_be_written_is_as_it_was(rt: HostRuntime) -> Result<(), Al
     }
     let alloc = rt.alloc();
     let mut items = [1, 2];
-    on(&rt, ConstGenericRingBuffer::<i64, 2>::from_mut_array(&mut items)?);
-    on(&rt, ConstGenericRingBuffer::<i64, 2>::from_mut_slice(&mut items)?);
+    on(
+        &rt,
+        ConstGenericRingBuffer::<i64, 2>::from_mut_array(&mut items)?,
+    );
+    on(
+        &rt,
+        ConstGenericRingBuffer::<i64, 2>::from_mut_slice(&mut items)?,
+    );
     on(&rt, AllocRingBuffer::from_mut_array(alloc, &mut items)?);
     on(&rt, AllocRingBuffer::from_mut_slice(alloc, &mut items)?);
-    on(&rt, GrowableAllocRingBuffer::from_mut_array(alloc, &mut items)?);
-    on(&rt, GrowableAllocRingBuffer::from_mut_slice(alloc, &mut items)?);
+    on(
+        &rt,
+        GrowableAllocRingBuffer::from_mut_array(alloc, &mut items)?,
+    );
+    on(
+        &rt,
+        GrowableAllocRingBuffer::from_mut_slice(alloc, &mut items)?,
+    );
     assert!(rt; items == [1, 2]);
     Ok(())
 }
@@ -197,9 +224,18 @@ fn a_ring_takes_all_of_an_iterator(rt: HostRuntime) -> Result<(), AllocError> {
         }
         assert_eq!(rt; ring.dequeue(), None);
     }
-    on(&rt, GrowableAllocRingBuffer::from_iter(rt.alloc(), repeat_n(1, 1024))?);
-    on(&rt, ConstGenericRingBuffer::<i64, 1024>::from_iter(repeat_n(1, 1024)));
-    on(&rt, ConstGenericRingBuffer::<i64, 1024>::from_iter(repeat_n(1, 8000)));
+    on(
+        &rt,
+        GrowableAllocRingBuffer::from_iter(rt.alloc(), repeat_n(1, 1024))?,
+    );
+    on(
+        &rt,
+        ConstGenericRingBuffer::<i64, 1024>::from_iter(repeat_n(1, 1024)),
+    );
+    on(
+        &rt,
+        ConstGenericRingBuffer::<i64, 1024>::from_iter(repeat_n(1, 8000)),
+    );
     Ok(())
 }
 
@@ -294,10 +330,22 @@ fn items_that_were_moved_in_are_dropped_once(rt: HostRuntime) -> Result<(), Allo
         ]
     }
     let drops = Drops::new(rt.alloc(), 3)?;
-    on(&rt, ConstGenericRingBuffer::<Counted, 3>::from_array(places(&rt, &drops)), &drops);
+    on(
+        &rt,
+        ConstGenericRingBuffer::<Counted, 3>::from_array(places(&rt, &drops)),
+        &drops,
+    );
     let drops = Drops::new(rt.alloc(), 3)?;
-    on(&rt, AllocRingBuffer::from_array(rt.alloc(), places(&rt, &drops))?, &drops);
+    on(
+        &rt,
+        AllocRingBuffer::from_array(rt.alloc(), places(&rt, &drops))?,
+        &drops,
+    );
     let drops = Drops::new(rt.alloc(), 3)?;
-    on(&rt, GrowableAllocRingBuffer::from_array(rt.alloc(), places(&rt, &drops))?, &drops);
+    on(
+        &rt,
+        GrowableAllocRingBuffer::from_array(rt.alloc(), places(&rt, &drops))?,
+        &drops,
+    );
     Ok(())
 }

@@ -1,7 +1,9 @@
 //! Items that count their drops.
 
+use ringbuffer::{RingBuffer, RingBufferIterator};
 use std::alloc::{AllocError, Global};
 use std::cell::Cell;
+use std::ops::Range;
 use std::process::Abort;
 
 /// How often each item of a test was dropped, by its number.
@@ -30,6 +32,19 @@ impl Drops {
     fn item_if_counted(&self, number: usize) -> Option<Counted<'_>> {
         let drops = self.counts.get(number)?;
         Some(Counted { number, drops })
+    }
+
+    /// The items whose numbers are in the range.
+    pub fn items(
+        &self,
+        rt: &(impl Abort + AllocGlobal),
+        numbers: Range<usize>,
+    ) -> Result<Vec<Counted<'_>>, AllocError> {
+        let mut items = Vec::new(rt.alloc());
+        for number in numbers {
+            items.push(self.item(rt, number))?;
+        }
+        Ok(items)
     }
 
     /// How often the item of this number was dropped.
@@ -61,6 +76,13 @@ impl Drop for Counted<'_> {
             number: _,
             drops: _,
         } = self;
+    }
+}
+
+/// The ring holds items that are numbered in order, from this number on.
+pub fn assert_numbered<'a, R: RingBuffer<Counted<'a>>>(rt: &impl Abort, ring: &R, first: usize) {
+    for (i, item) in RingBufferIterator::new(ring).enumerate() {
+        assert_eq!(rt; item.number, i.saturating_add(first));
     }
 }
 
