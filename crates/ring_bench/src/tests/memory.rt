@@ -6,7 +6,7 @@ use super::{assert_gives, assert_holds, push_all};
 use ringbuffer::{
     AllocRingBuffer, Command, ConstGenericRingBuffer, GrowableAllocRingBuffer, Refused, Reply,
     RingBuffer, RingBufferDrainingIterator, RingBufferIterator, RingBufferMutIterator, RunFault,
-    Stopped, apply, run, run_into,
+    apply, run, run_into,
 };
 use std::alloc::AllocError;
 use std::process::Abort;
