@@ -3,6 +3,7 @@
 
 pub mod callers;
 pub mod conditions;
+pub mod counts;
 pub mod headline;
 #[cfg(test)]
 mod tests;

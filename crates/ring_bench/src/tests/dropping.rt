@@ -20,19 +20,6 @@ fn push_first<'a, R: RingBuffer<Counted<'a>>>(
     }
 }
 
-/// The items of some numbers.
-fn items<'a>(
-    rt: &(impl Abort + AllocGlobal),
-    drops: &'a Drops,
-    numbers: &[usize],
-) -> Result<Vec<Counted<'a>>, AllocError> {
-    let mut items = Vec::with_capacity(rt.alloc(), numbers.len())?;
-    for number in numbers {
-        items.push(drops.item(rt, *number))?;
-    }
-    Ok(items)
-}
-
 #[test]
 fn a_push_drops_what_it_overwrites(rt: HostRuntime) -> Result<(), AllocError> {
     fn on<'a, R: RingBuffer<Counted<'a>> + Drop>(
@@ -121,7 +108,7 @@ fn an_extension_drops_what_it_overwrites(rt: HostRuntime) -> Result<(), AllocErr
         overwritten: u8,
     ) -> Result<(), AllocError> {
         push_first(rt, &mut ring, drops, 1);
-        ring.extend(items(rt, drops, &[1, 2, 3, 4])?)?;
+        ring.extend(drops.items(rt, 1..5)?)?;
         assert_eq!(rt; drops.of(rt, 2), overwritten);
         assert_eq!(rt; drops.of(rt, 3), 0);
         drop(ring);
@@ -224,7 +211,7 @@ fn commands_hand_their_items_to_the_ring(rt: HostRuntime) -> Result<(), AllocErr
         drops: &'a Drops,
     ) -> Result<(), AllocError> {
         assert!(rt; apply(&mut ring, Command::Push(drops.item(rt, 0))).is_ok());
-        let extension = items(rt, drops, &[1, 2, 3])?;
+        let extension = drops.items(rt, 1..4)?;
         assert!(rt; apply(&mut ring, Command::Extend(extension)).is_ok());
         assert_eq!(rt; drops.of(rt, 3), 0);
         let dequeued = apply(&mut ring, Command::Dequeue);

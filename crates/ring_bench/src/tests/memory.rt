@@ -1,15 +1,14 @@
 //! Memory that is refused, and calls that take none.
 
-use super::counted::{Counted, Drops};
+use super::counted::{Counted, Drops, assert_numbered};
 use super::drought::Drought;
 use super::{assert_gives, assert_holds, push_all};
 use ringbuffer::{
     AllocRingBuffer, Command, ConstGenericRingBuffer, GrowableAllocRingBuffer, Refused, Reply,
     RingBuffer, RingBufferDrainingIterator, RingBufferIterator, RingBufferMutIterator, RunFault,
-    Stopped, apply, run, run_into,
+    apply, run, run_into,
 };
 use std::alloc::AllocError;
-use std::ops::Range;
 use std::process::Abort;
 
 #[test]
@@ -170,26 +169,6 @@ fn a_run_without_room_hands_its_commands_back(rt: HostRuntime) -> Result<(), All
     on(&rt, GrowableAllocRingBuffer::with_capacity(rt.alloc(), 2)?)
 }
 
-/// The items whose numbers are in the range.
-fn items_in<'a>(
-    rt: &(impl Abort + AllocGlobal),
-    drops: &'a Drops,
-    numbers: Range<usize>,
-) -> Result<Vec<Counted<'a>>, AllocError> {
-    let mut items = Vec::new(rt.alloc());
-    for number in numbers {
-        items.push(drops.item(rt, number))?;
-    }
-    Ok(items)
-}
-
-/// The ring holds items that are numbered in order from 0 on.
-fn assert_numbered<'a, R: RingBuffer<Counted<'a>>>(rt: &impl Abort, ring: &R) {
-    for (number, item) in RingBufferIterator::new(ring).enumerate() {
-        assert_eq!(rt; item.number, number);
-    }
-}
-
 #[test]
 fn a_refused_push_hands_its_item_back(rt: HostRuntime) -> Result<(), AllocError> {
     fn on<'a, R: RingBuffer<Counted<'a>> + Drop>(
@@ -198,7 +177,7 @@ fn a_refused_push_hands_its_item_back(rt: HostRuntime) -> Result<(), AllocError>
         drops: &'a Drops,
         room: usize,
     ) -> Result<(), AllocError> {
-        ring.extend(items_in(rt, drops, 0..room)?)?;
+        ring.extend(drops.items(rt, 0..room)?)?;
         assert!(rt; ring.is_full());
         let drought = Drought::total(rt.alloc())?;
         let pushed = ring.push(drops.item(rt, room));
@@ -211,7 +190,7 @@ fn a_refused_push_hands_its_item_back(rt: HostRuntime) -> Result<(), AllocError>
         };
         assert_eq!(rt; item.number, room);
         assert_eq!(rt; ring.len(), room);
-        assert_numbered(rt, &ring);
+        assert_numbered(rt, &ring, 0);
         drop((ring, item));
         drops.assert_each_once(rt);
         Ok(())
@@ -239,13 +218,13 @@ fn a_refused_extension_leaves_a_beginning(rt: HostRuntime) -> Result<(), AllocEr
         drops: &'a Drops,
         spare: usize,
     ) -> Result<bool, AllocError> {
-        ring.extend(items_in(rt, drops, 0..2)?)?;
-        let extension = items_in(rt, drops, 2..102)?;
+        ring.extend(drops.items(rt, 0..2)?)?;
+        let extension = drops.items(rt, 2..102)?;
         let drought = Drought::but_for(rt.alloc(), spare)?;
         let extended = ring.extend(extension).is_ok();
         drop(drought);
         let len = ring.len();
-        assert_numbered(rt, &ring);
+        assert_numbered(rt, &ring, 0);
         drop(ring);
         drops.assert_each_once(rt);
         if extended {

@@ -365,6 +365,23 @@ fn a_dropped_drain_leaves_the_rest(rt: HostRuntime) -> Result<(), AllocError> {
 }
 
 #[test]
+fn a_drain_of_three_leaves_the_fourth(rt: HostRuntime) -> Result<(), AllocError> {
+    fn on<R: RingBuffer<i64> + Drop>(rt: &impl Abort, mut ring: R) {
+        push_all(rt, &mut ring, &[1, 2, 3, 4]);
+        let mut walk = RingBufferDrainingIterator::new(&mut ring);
+        for item in 1..4 {
+            assert_eq!(rt; walk.next(), Some(item));
+        }
+        drop(walk);
+        assert_holds(rt, &ring, &[4]);
+    }
+    on(&rt, ConstGenericRingBuffer::<i64, 4>::new());
+    on(&rt, AllocRingBuffer::new(rt.alloc(), 4)?);
+    on(&rt, GrowableAllocRingBuffer::with_capacity(rt.alloc(), 4)?);
+    Ok(())
+}
+
+#[test]
 fn to_vec_clones_the_items_in_order(rt: HostRuntime) -> Result<(), AllocError> {
     fn on<R: RingBuffer<i64> + Drop>(
         rt: &(impl Abort + AllocGlobal),

@@ -1,0 +1,189 @@
+//! Equality and clones.
+
+use super::{assert_holds, push_all};
+use ringbuffer::{AllocRingBuffer, ConstGenericRingBuffer, GrowableAllocRingBuffer, RingBuffer};
+use std::alloc::AllocError;
+use std::process::Abort;
+
+/// A ring that can be cloned. Each type has a `clone` of its own, and no trait that the rings share has it.
+trait Twin: Sized {
+    /// The ring's clone.
+    fn twin(&self) -> Result<Self, AllocError>;
+}
+
+impl<const CAP: usize> Twin for ConstGenericRingBuffer<i64, CAP> {
+    fn twin(&self) -> Result<Self, AllocError> {
+        self.clone()
+    }
+}
+
+impl Twin for AllocRingBuffer<i64> {
+    fn twin(&self) -> Result<Self, AllocError> {
+        self.clone()
+    }
+}
+
+impl Twin for GrowableAllocRingBuffer<i64> {
+    fn twin(&self) -> Result<Self, AllocError> {
+        self.clone()
+    }
+}
+
+#[test]
+fn a_default_ring_equals_a_new_one(rt: HostRuntime) {
+    assert!(rt;
+        ConstGenericRingBuffer::<i64, 8>::default() == ConstGenericRingBuffer::<i64, 8>::new()
+    );
+    assert!(rt;
+        GrowableAllocRingBuffer::<i64>::default(rt.alloc())
+            == GrowableAllocRingBuffer::<i64>::new(rt.alloc())
+    );
+}
+
+#[test]
+fn rings_are_equal_where_their_items_are(rt: HostRuntime) -> Result<(), AllocError> {
+    fn on<R: RingBuffer<i64> + PartialEq + Drop>(rt: &impl Abort, mut one: R, mut other: R) {
+        assert!(rt; one == other);
+        push_all(rt, &mut one, &[1]);
+        assert!(rt; one != other);
+        push_all(rt, &mut other, &[1]);
+        assert!(rt; one == other);
+        push_all(rt, &mut one, &[4]);
+        push_all(rt, &mut other, &[2]);
+        assert!(rt; one != other);
+    }
+    on(
+        &rt,
+        ConstGenericRingBuffer::<i64, 4>::new(),
+        ConstGenericRingBuffer::<i64, 4>::new(),
+    );
+    on(
+        &rt,
+        AllocRingBuffer::new(rt.alloc(), 4)?,
+        AllocRingBuffer::new(rt.alloc(), 4)?,
+    );
+    on(
+        &rt,
+        GrowableAllocRingBuffer::with_capacity(rt.alloc(), 4)?,
+        GrowableAllocRingBuffer::with_capacity(rt.alloc(), 4)?,
+    );
+    Ok(())
+}
+
+#[test]
+fn heap_rings_of_two_capacities_differ(rt: HostRuntime) -> Result<(), AllocError> {
+    let mut of_four = AllocRingBuffer::new(rt.alloc(), 4)?;
+    let mut of_five = AllocRingBuffer::new(rt.alloc(), 5)?;
+    push_all(&rt, &mut of_four, &[1, 2]);
+    push_all(&rt, &mut of_five, &[1, 2]);
+    assert!(rt; of_four != of_five);
+    Ok(())
+}
+
+#[test]
+fn rings_may_be_equal_in_other_slots(rt: HostRuntime) -> Result<(), AllocError> {
+    fn on<R: RingBuffer<i64> + PartialEq + Drop>(rt: &impl Abort, mut one: R, mut other: R) {
+        push_all(rt, &mut one, &[1, 2]);
+        push_all(rt, &mut other, &[0, 0, 0]);
+        for _ in 0..3 {
+            other.skip();
+        }
+        push_all(rt, &mut other, &[1, 2]);
+        assert!(rt; one == other);
+    }
+    on(
+        &rt,
+        ConstGenericRingBuffer::<i64, 4>::new(),
+        ConstGenericRingBuffer::<i64, 4>::new(),
+    );
+    on(
+        &rt,
+        AllocRingBuffer::new(rt.alloc(), 4)?,
+        AllocRingBuffer::new(rt.alloc(), 4)?,
+    );
+    on(
+        &rt,
+        GrowableAllocRingBuffer::with_capacity(rt.alloc(), 4)?,
+        GrowableAllocRingBuffer::with_capacity(rt.alloc(), 4)?,
+    );
+    Ok(())
+}
+
+#[test]
+fn a_clone_stays_equal_under_the_same_pushes(rt: HostRuntime) -> Result<(), AllocError> {
+    fn on<R: RingBuffer<i64> + PartialEq + Twin + Drop>(
+        rt: &impl Abort,
+        mut ring: R,
+        items: &[i64],
+    ) -> Result<(), AllocError> {
+        push_all(rt, &mut ring, &[42, 32, 22]);
+        let mut twin = ring.twin()?;
+        assert!(rt; twin == ring);
+        push_all(rt, &mut ring, &[11, 12]);
+        push_all(rt, &mut twin, &[11, 12]);
+        assert!(rt; twin == ring);
+        assert_holds(rt, &ring, items);
+        assert_holds(rt, &twin, items);
+        Ok(())
+    }
+    on(
+        &rt,
+        ConstGenericRingBuffer::<i64, 4>::new(),
+        &[32, 22, 11, 12],
+    )?;
+    on(&rt, AllocRingBuffer::new(rt.alloc(), 4)?, &[32, 22, 11, 12])?;
+    on(
+        &rt,
+        GrowableAllocRingBuffer::with_capacity(rt.alloc(), 4)?,
+        &[42, 32, 22, 11, 12],
+    )
+}
+
+#[test]
+fn pushes_on_a_clone_leave_the_source(rt: HostRuntime) -> Result<(), AllocError> {
+    fn on<R: RingBuffer<i64> + PartialEq + Twin + Drop>(
+        rt: &impl Abort,
+        mut ring: R,
+    ) -> Result<(), AllocError> {
+        push_all(rt, &mut ring, &[1, 2]);
+        let mut twin = ring.twin()?;
+        push_all(rt, &mut twin, &[11, 12]);
+        assert_holds(rt, &ring, &[1, 2]);
+        assert_holds(rt, &twin, &[1, 2, 11, 12]);
+        assert!(rt; twin != ring);
+        Ok(())
+    }
+    on(&rt, ConstGenericRingBuffer::<i64, 4>::new())?;
+    on(&rt, AllocRingBuffer::new(rt.alloc(), 4)?)?;
+    on(&rt, GrowableAllocRingBuffer::new(rt.alloc()))
+}
+
+#[test]
+fn an_empty_heap_ring_is_cloned_with_its_capacity(rt: HostRuntime) -> Result<(), AllocError> {
+    fn twin_of(ring: &AllocRingBuffer<i64>) -> Result<AllocRingBuffer<i64>, AllocError> {
+        ring.clone()
+    }
+    for capacity in [2, 5] {
+        let ring = AllocRingBuffer::new(rt.alloc(), capacity)?;
+        let twin = twin_of(&ring)?;
+        assert!(rt; twin == ring);
+        assert_eq!(rt; twin.capacity(), capacity);
+    }
+    Ok(())
+}
+
+#[test]
+fn a_clone_of_a_full_heap_ring_keeps_its_capacity(rt: HostRuntime) -> Result<(), AllocError> {
+    let mut ring = AllocRingBuffer::new(rt.alloc(), 5)?;
+    push_all(&rt, &mut ring, &[0, 1, 2, 3, 4, 5, 6]);
+    ring.fill(4)?;
+    let mut twin = ring.clone()?;
+    assert!(rt; twin == ring);
+    assert_eq!(rt; twin.capacity(), 5);
+    assert_eq!(rt; twin.buffer_size(), 8);
+    push_all(&rt, &mut twin, &[1]);
+    assert_holds(&rt, &ring, &[4, 4, 4, 4, 4]);
+    assert_holds(&rt, &twin, &[4, 4, 4, 4, 1]);
+    assert!(rt; twin != ring);
+    Ok(())
+}

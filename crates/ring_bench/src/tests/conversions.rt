@@ -1,0 +1,351 @@
+//! Rings made of other collections.
+
+ghost use Rattle.std.specs.Prelude.{All, IsSome};
+
+use super::counted::{Counted, Drops};
+use super::{assert_gives, assert_holds, push_all};
+use ringbuffer::{AllocRingBuffer, ConstGenericRingBuffer, GrowableAllocRingBuffer, RingBuffer};
+use std::alloc::AllocError;
+use std::collections::{LinkedList, VecDeque};
+use std::iter::repeat_n;
+use std::process::Abort;
+
+/// A ring that was made of '1' and '2'. A push of '3' leaves the characters that follow.
+fn assert_made<R: RingBuffer<char> + PartialEq + Drop>(
+    rt: &(impl Abort + AllocGlobal),
+    mut ring: R,
+    pushed: &[char],
+) -> Result<(), AllocError> {
+    assert_eq!(rt; ring.to_vec(rt.alloc())?.as_slice(), ['1', '2'].as_slice());
+    assert!(rt; ring.push('3').is_ok());
+    assert_eq!(rt; ring.to_vec(rt.alloc())?.as_slice(), pushed);
+    assert!(rt; ring == ring);
+    Ok(())
+}
+
+#[test]
+fn an_array_ring_is_made_of_each_source(rt: HostRuntime) -> Result<(), AllocError> {
+    fn on(
+        rt: &(impl Abort + AllocGlobal),
+        ring: ConstGenericRingBuffer<char, 2>,
+    ) -> Result<(), AllocError> {
+        assert_made(rt, ring, &['2', '3'])
+    }
+    let alloc = rt.alloc();
+    let vector = vec![in alloc; '1', '2']?;
+    let list = LinkedList::from_array(alloc, ['1', '2'])?;
+    let deque = VecDeque::from_array(alloc, ['1', '2'])?;
+    let string = String::from_str(alloc, "12")?;
+    let growable = GrowableAllocRingBuffer::from_array(alloc, [Some('1'), Some('2')])?;
+    let heap = AllocRingBuffer::from_array(alloc, [Some('1'), Some('2')])?;
+    on(&rt, ConstGenericRingBuffer::from_vec(vector))?;
+    on(&rt, ConstGenericRingBuffer::from_linked_list(list))?;
+    on(&rt, ConstGenericRingBuffer::from_deque(deque))?;
+    on(&rt, ConstGenericRingBuffer::from_string(string))?;
+    on(&rt, ConstGenericRingBuffer::from_text("12"))?;
+    on(&rt, ConstGenericRingBuffer::from_slice(&['1', '2'])?)?;
+    on(&rt, ConstGenericRingBuffer::from_array_ref(&['1', '2'])?)?;
+    on(
+        &rt,
+        ConstGenericRingBuffer::from_array([Some('1'), Some('2')]),
+    )?;
+    on(&rt, ConstGenericRingBuffer::from_growable(growable))?;
+    on(&rt, ConstGenericRingBuffer::from_alloc(heap))
+}
+
+#[test]
+fn a_heap_ring_is_made_of_each_source(rt: HostRuntime) -> Result<(), AllocError> {
+    fn on(rt: &(impl Abort + AllocGlobal), ring: AllocRingBuffer<char>) -> Result<(), AllocError> {
+        assert_made(rt, ring, &['2', '3'])
+    }
+    let alloc = rt.alloc();
+    let vector = vec![in alloc; '1', '2']?;
+    let list = LinkedList::from_array(alloc, ['1', '2'])?;
+    let deque = VecDeque::from_array(alloc, ['1', '2'])?;
+    let string = String::from_str(alloc, "12")?;
+    let array = ConstGenericRingBuffer::<char, 2>::from_array([Some('1'), Some('2')]);
+    let growable = GrowableAllocRingBuffer::from_array(alloc, [Some('1'), Some('2')])?;
+    on(&rt, AllocRingBuffer::from_vec(alloc, vector)?)?;
+    on(&rt, AllocRingBuffer::from_linked_list(alloc, list)?)?;
+    on(&rt, AllocRingBuffer::from_deque(alloc, deque)?)?;
+    on(&rt, AllocRingBuffer::from_string(alloc, string)?)?;
+    on(&rt, AllocRingBuffer::from_text(alloc, "12")?)?;
+    on(&rt, AllocRingBuffer::from_slice(alloc, &['1', '2'])?)?;
+    on(&rt, AllocRingBuffer::from_array_ref(alloc, &['1', '2'])?)?;
+    on(
+        &rt,
+        AllocRingBuffer::from_array(alloc, [Some('1'), Some('2')])?,
+    )?;
+    on(&rt, AllocRingBuffer::from_const(alloc, array)?)?;
+    on(&rt, AllocRingBuffer::from_growable(alloc, growable)?)
+}
+
+#[test]
+fn a_growable_ring_is_made_of_each_source(rt: HostRuntime) -> Result<(), AllocError> {
+    fn on(
+        rt: &(impl Abort + AllocGlobal),
+        ring: GrowableAllocRingBuffer<char>,
+    ) -> Result<(), AllocError> {
+        assert_made(rt, ring, &['1', '2', '3'])
+    }
+    let alloc = rt.alloc();
+    let vector = vec![in alloc; '1', '2']?;
+    let list = LinkedList::from_array(alloc, ['1', '2'])?;
+    let deque = VecDeque::from_array(alloc, ['1', '2'])?;
+    let string = String::from_str(alloc, "12")?;
+    let array = ConstGenericRingBuffer::<char, 2>::from_array([Some('1'), Some('2')]);
+    let heap = AllocRingBuffer::from_array(alloc, [Some('1'), Some('2')])?;
+    on(&rt, GrowableAllocRingBuffer::from_vec(alloc, vector)?)?;
+    on(&rt, GrowableAllocRingBuffer::from_linked_list(alloc, list)?)?;
+    on(&rt, GrowableAllocRingBuffer::from(deque))?;
+    on(&rt, GrowableAllocRingBuffer::from_string(alloc, string)?)?;
+    on(&rt, GrowableAllocRingBuffer::from_text(alloc, "12")?)?;
+    on(
+        &rt,
+        GrowableAllocRingBuffer::from_slice(alloc, &['1', '2'])?,
+    )?;
+    on(
+        &rt,
+        GrowableAllocRingBuffer::from_array_ref(alloc, &['1', '2'])?,
+    )?;
+    on(
+        &rt,
+        GrowableAllocRingBuffer::from_array(alloc, [Some('1'), Some('2')])?,
+    )?;
+    on(&rt, GrowableAllocRingBuffer::from_const(alloc, array)?)?;
+    on(&rt, GrowableAllocRingBuffer::from_alloc(alloc, heap)?)
+}
+
+#[test]
+fn an_array_ring_holds_numbers_of_each_source(rt: HostRuntime) -> Result<(), AllocError> {
+    fn on(rt: &impl Abort, ring: ConstGenericRingBuffer<i64, 3>) {
+        assert_holds(rt, &ring, &[1, 2, 3]);
+        assert!(rt; ring.is_full());
+    }
+    let alloc = rt.alloc();
+    let mut items = [1, 2, 3];
+    let vector = vec![in alloc; 1, 2, 3]?;
+    let list = LinkedList::from_array(alloc, [1, 2, 3])?;
+    let deque = VecDeque::from_array(alloc, [1, 2, 3])?;
+    let growable = GrowableAllocRingBuffer::from_slice(alloc, &[1, 2, 3])?;
+    let heap = AllocRingBuffer::from_slice(alloc, &[1, 2, 3])?;
+    on(
+        &rt,
+        ConstGenericRingBuffer::from_array([Some(1), Some(2), Some(3)]),
+    );
+    on(&rt, ConstGenericRingBuffer::from_array_ref(&items)?);
+    on(&rt, ConstGenericRingBuffer::from_slice(&items)?);
+    on(&rt, ConstGenericRingBuffer::from_mut_array(&mut items)?);
+    on(&rt, ConstGenericRingBuffer::from_mut_slice(&mut items)?);
+    on(&rt, ConstGenericRingBuffer::from_vec(vector));
+    on(&rt, ConstGenericRingBuffer::from_deque(deque));
+    on(&rt, ConstGenericRingBuffer::from_linked_list(list));
+    on(&rt, ConstGenericRingBuffer::from_growable(growable));
+    on(&rt, ConstGenericRingBuffer::from_alloc(heap));
+    Ok(())
+}
+
+#[test]
+fn an_array_ring_holds_the_characters_of_a_text(rt: HostRuntime) -> Result<(), AllocError> {
+    fn on(rt: &impl Abort, mut ring: ConstGenericRingBuffer<char, 3>) {
+        for letter in ['a', 'b', 'c'] {
+            assert_eq!(rt; ring.dequeue(), Some(letter));
+        }
+        assert_eq!(rt; ring.dequeue(), None);
+    }
+    let string = String::from_str(rt.alloc(), "abc")?;
+    on(&rt, ConstGenericRingBuffer::from_string(string));
+    on(&rt, ConstGenericRingBuffer::from_text("abc"));
+    Ok(())
+}
+
+#[test]
+fn a_heap_ring_has_room_for_its_source(rt: HostRuntime) -> Result<(), AllocError> {
+    fn on(rt: &impl Abort, ring: AllocRingBuffer<i64>) {
+        assert_eq!(rt; ring.capacity(), 4);
+        assert_holds(rt, &ring, &[1, 2, 3, 4]);
+    }
+    let items = [1, 2, 3, 4];
+    on(&rt, AllocRingBuffer::from_slice(rt.alloc(), &items)?);
+    on(&rt, AllocRingBuffer::from_array_ref(rt.alloc(), &items)?);
+    let places = [Some(1), Some(2), Some(3), Some(4)];
+    on(&rt, AllocRingBuffer::from_array(rt.alloc(), places)?);
+    Ok(())
+}
+
+#[test]
+fn a_source_that_could_be_written_is_as_it_was(rt: HostRuntime) -> Result<(), AllocError> {
+    fn on<R: RingBuffer<i64> + Drop>(rt: &impl Abort, ring: R) {
+        assert_holds(rt, &ring, &[1, 2]);
+    }
+    let alloc = rt.alloc();
+    let mut items = [1, 2];
+    on(
+        &rt,
+        ConstGenericRingBuffer::<i64, 2>::from_mut_array(&mut items)?,
+    );
+    on(
+        &rt,
+        ConstGenericRingBuffer::<i64, 2>::from_mut_slice(&mut items)?,
+    );
+    on(&rt, AllocRingBuffer::from_mut_array(alloc, &mut items)?);
+    on(&rt, AllocRingBuffer::from_mut_slice(alloc, &mut items)?);
+    on(
+        &rt,
+        GrowableAllocRingBuffer::from_mut_array(alloc, &mut items)?,
+    );
+    on(
+        &rt,
+        GrowableAllocRingBuffer::from_mut_slice(alloc, &mut items)?,
+    );
+    assert!(rt; items == [1, 2]);
+    Ok(())
+}
+
+#[test]
+fn the_deque_of_a_growable_ring_has_its_items(rt: HostRuntime) -> Result<(), AllocError> {
+    let deque = VecDeque::from_array(rt.alloc(), [1, 2])?;
+    let mut items = [1, 2];
+    let ring = GrowableAllocRingBuffer::from_mut_array(rt.alloc(), &mut items)?;
+    assert!(rt; *ring.as_ref() == deque);
+    let mut ring = GrowableAllocRingBuffer::from_mut_slice(rt.alloc(), &mut items)?;
+    assert!(rt; *ring.as_ref() == deque);
+    ring.as_mut().push_back(3)?;
+    assert_holds(&rt, &ring, &[1, 2, 3]);
+    Ok(())
+}
+
+#[test]
+fn a_ring_takes_all_of_an_iterator(rt: HostRuntime) -> Result<(), AllocError> {
+    fn on<R: RingBuffer<i64> + Drop>(rt: &impl Abort, mut ring: R) {
+        assert_eq!(rt; ring.len(), 1024);
+        for _ in 0..1024 {
+            assert_eq!(rt; ring.dequeue(), Some(1));
+        }
+        assert_eq!(rt; ring.dequeue(), None);
+    }
+    on(
+        &rt,
+        GrowableAllocRingBuffer::from_iter(rt.alloc(), repeat_n(1, 1024))?,
+    );
+    on(
+        &rt,
+        ConstGenericRingBuffer::<i64, 1024>::from_iter(repeat_n(1, 1024)),
+    );
+    on(
+        &rt,
+        ConstGenericRingBuffer::<i64, 1024>::from_iter(repeat_n(1, 8000)),
+    );
+    Ok(())
+}
+
+#[test]
+fn an_array_ring_keeps_the_last_of_a_source(rt: HostRuntime) -> Result<(), AllocError> {
+    for (items, held, full) in [
+        ([1, 2, 3, 4, 5].as_slice(), [3, 4, 5].as_slice(), true),
+        ([1].as_slice(), [1].as_slice(), false),
+        ([].as_slice(), [].as_slice(), false),
+    ] {
+        let ring = ConstGenericRingBuffer::<i64, 3>::from_slice(items)?;
+        assert_holds(&rt, &ring, held);
+        assert_eq!(rt; ring.is_full(), full);
+    }
+    Ok(())
+}
+
+#[test]
+fn a_ring_of_a_text_beyond_ascii_has_spare_room(rt: HostRuntime) -> Result<(), AllocError> {
+    let mut ring = AllocRingBuffer::from_text(rt.alloc(), "\u{e9}1")?;
+    assert_eq!(rt; ring.capacity(), 3);
+    assert_eq!(rt; ring.len(), 2);
+    assert_eq!(rt; ring.buffer_size(), 4);
+    assert!(rt; !ring.is_full());
+    assert_eq!(rt; ring.dequeue(), Some('\u{e9}'));
+    assert_eq!(rt; ring.dequeue(), Some('1'));
+    Ok(())
+}
+
+#[test]
+fn an_array_ring_keeps_the_last_characters(rt: HostRuntime) -> Result<(), AllocError> {
+    let mut ring = ConstGenericRingBuffer::<char, 2>::from_text("\u{e9}1z");
+    assert_eq!(rt; ring.dequeue(), Some('1'));
+    assert_eq!(rt; ring.dequeue(), Some('z'));
+    assert_eq!(rt; ring.dequeue(), None);
+    let nothing = String::from_str(rt.alloc(), "")?;
+    assert!(rt; ConstGenericRingBuffer::<char, 4>::from_string(nothing).is_empty());
+    Ok(())
+}
+
+#[test]
+fn a_heap_ring_of_an_array_ring_has_room_for_its_items(rt: HostRuntime) -> Result<(), AllocError> {
+    let mut array = ConstGenericRingBuffer::<i64, 4>::new();
+    push_all(&rt, &mut array, &[1, 2]);
+    assert_eq!(rt; array.len(), 2);
+    let ring = AllocRingBuffer::from_const(rt.alloc(), array)?;
+    assert_eq!(rt; ring.capacity(), 2);
+    assert_holds(&rt, &ring, &[1, 2]);
+    Ok(())
+}
+
+#[test]
+fn a_heap_ring_of_a_growable_ring_is_full(rt: HostRuntime) -> Result<(), AllocError> {
+    let mut growable = GrowableAllocRingBuffer::new(rt.alloc());
+    push_all(&rt, &mut growable, &[1, 2, 3]);
+    assert_eq!(rt; growable.len(), 3);
+    let ring = AllocRingBuffer::from_growable(rt.alloc(), growable)?;
+    assert_eq!(rt; ring.capacity(), 3);
+    assert_eq!(rt; ring.buffer_size(), 4);
+    assert!(rt; ring.is_full());
+    assert_holds(&rt, &ring, &[1, 2, 3]);
+    Ok(())
+}
+
+#[test]
+fn a_ring_may_be_made_of_one_after_the_other(rt: HostRuntime) -> Result<(), AllocError> {
+    let mut heap = AllocRingBuffer::new(rt.alloc(), 5)?;
+    push_all(&rt, &mut heap, &[1, 2, 3, 4, 5]);
+    let array = ConstGenericRingBuffer::<i64, 3>::from_alloc(heap);
+    let mut growable = GrowableAllocRingBuffer::from_const(rt.alloc(), array)?;
+    assert_gives(&rt, &mut growable, &[3, 4, 5]);
+    Ok(())
+}
+
+#[test]
+fn items_that_were_moved_in_are_dropped_once(rt: HostRuntime) -> Result<(), AllocError> {
+    fn on<'a, R: RingBuffer<Counted<'a>> + Drop>(rt: &impl Abort, ring: R, drops: &'a Drops) {
+        assert_eq!(rt; ring.len(), 3);
+        for number in 0..3 {
+            assert_eq!(rt; drops.of(rt, number), 0);
+        }
+        drop(ring);
+        drops.assert_each_once(rt);
+    }
+    fn places<'a>(rt: &impl Abort, drops: &'a Drops) -> [Option<Counted<'a>>; 3]
+        ensures { All IsSome result }
+    {
+        [
+            Some(drops.item(rt, 0)),
+            Some(drops.item(rt, 1)),
+            Some(drops.item(rt, 2)),
+        ]
+    }
+    let drops = Drops::new(rt.alloc(), 3)?;
+    on(
+        &rt,
+        ConstGenericRingBuffer::<Counted, 3>::from_array(places(&rt, &drops)),
+        &drops,
+    );
+    let drops = Drops::new(rt.alloc(), 3)?;
+    on(
+        &rt,
+        AllocRingBuffer::from_array(rt.alloc(), places(&rt, &drops))?,
+        &drops,
+    );
+    let drops = Drops::new(rt.alloc(), 3)?;
+    on(
+        &rt,
+        GrowableAllocRingBuffer::from_array(rt.alloc(), places(&rt, &drops))?,
+        &drops,
+    );
+    Ok(())
+}
