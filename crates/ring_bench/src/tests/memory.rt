@@ -41,6 +41,25 @@ fn makers_answer_that_memory_was_refused(rt: HostRuntime) -> Result<(), AllocErr
 }
 
 #[test]
+fn ring_of_items_without_size_asks_for_no_memory(rt: HostRuntime) -> Result<(), AllocError> {
+    let drought = Drought::total(rt.alloc())?;
+    let made = AllocRingBuffer::<()>::new(rt.alloc(), 5);
+    drop(drought);
+    let mut ring = made?;
+    for _ in 0..7 {
+        assert!(rt; ring.push(()).is_ok());
+    }
+    assert_eq!(rt; ring.len(), 5);
+    assert_eq!(rt; ring.capacity(), 5);
+    assert_eq!(rt; ring.buffer_size(), 8);
+    for _ in 0..5 {
+        assert_eq!(rt; ring.dequeue(), Some(()));
+    }
+    assert_eq!(rt; ring.dequeue(), None);
+    Ok(())
+}
+
+#[test]
 fn a_refused_push_can_be_tried_again(rt: HostRuntime) -> Result<(), AllocError> {
     let drought = Drought::total(rt.alloc())?;
     let mut ring = GrowableAllocRingBuffer::new(rt.alloc());
