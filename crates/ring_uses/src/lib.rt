@@ -4,5 +4,7 @@
 pub mod pipe;
 pub mod samples;
 pub mod tail;
+#[cfg(test)]
+mod tests;
 pub mod undo;
 pub mod window;

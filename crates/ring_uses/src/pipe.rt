@@ -58,3 +58,18 @@ impl<const CAP: usize> Pipe<CAP> {
         count
     }
 }
+
+/// Copies `input` to `output` through a pipe of `CAP` bytes, a part at a time.
+pub fn relay<const CAP: usize>(input: &[u8], output: &mut [u8])
+    requires capacity { 0 < CAP }
+    requires length { length output.old ≡ length input.now }
+    ensures { output.new ≡ input.now }
+{
+    let mut pipe = Pipe::<CAP>::new();
+    let mut received = 0;
+    let mut sent = 0;
+    while sent < output.len() {
+        received += pipe.receive(&input[received..]);
+        sent += pipe.send(&mut output[sent..]);
+    }
+}

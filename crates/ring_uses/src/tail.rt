@@ -3,8 +3,9 @@
 ghost use Rattle.std.specs.Prelude.{◌≡◌, ◌<◌, [], ◌∷◌, ◌++◌, IfOk, Some, map, string_bytes};
 ghost use Rattle.std.specs.Str.Lines.{lines};
 ghost use Rattle.ringbuffer.specs.Contents.{keep_last};
+ghost use Rattle.ringbuffer.specs.Walk.{ReadsInOrder, unread};
 
-use ringbuffer::{AllocRingBuffer, RingBuffer};
+use ringbuffer::{AllocRingBuffer, RingBuffer, RingBufferIterator};
 use std::alloc::{AllocError, Global};
 use std::marker::Model;
 
@@ -43,6 +44,14 @@ impl LogTail {
         ensures { self.new ≡ record self.old { lines = keep_last (Some self.old.limit) (self.old.lines ++ string_bytes line ∷ []) } }
     {
         let _ = self.lines.push(line);
+    }
+
+    /// A walk over the lines, oldest first.
+    pub fn iter(&self) -> RingBufferIterator<'_, String, AllocRingBuffer<String>>
+        ensures left { map string_bytes (unread ⟦<AllocRingBuffer<String> as RingBuffer<String>>⟧.contents result) ≡ self.now.lines }
+        ensures runs { ReadsInOrder ⟦<AllocRingBuffer<String> as RingBuffer<String>>⟧.contents }
+    {
+        self.lines.iter()
     }
 }
 
