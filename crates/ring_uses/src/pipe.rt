@@ -59,13 +59,14 @@ impl<const CAP: usize> Pipe<CAP> {
     }
 }
 
-/// Copies `input` to `output` through a pipe of `CAP` bytes, a part at a time.
-pub fn relay<const CAP: usize>(input: &[u8], output: &mut [u8])
+/// Copies `input` to `output` through an empty pipe, a part at a time.
+pub fn relay<const CAP: usize>(pipe: &mut Pipe<CAP>, input: &[u8], output: &mut [u8])
     requires capacity { 0 < CAP }
-    requires length { length output.old ≡ length input.now }
-    ensures { output.new ≡ input.now }
+    requires empty { pipe.old ≡ [] }
+    requires places { length output.old ≡ length input.now }
+    ensures copied { output.new ≡ input.now }
+    ensures empty { pipe.new ≡ [] }
 {
-    let mut pipe = Pipe::<CAP>::new();
     let mut received = 0;
     let mut sent = 0;
     while sent < output.len() {

@@ -122,10 +122,10 @@ fn pipe_that_is_too_small(rt: HostRuntime) {
 #[test]
 fn request_through_pipes(rt: HostRuntime) {
     let mut output = [0; REQUEST.len()];
-    relay::<1>(REQUEST, &mut output);
+    relay(&mut Pipe::<1>::new(), REQUEST, &mut output);
     assert_eq!(rt; output.as_slice(), REQUEST);
     let mut output = [0; REQUEST.len()];
-    relay::<16>(REQUEST, &mut output);
+    relay(&mut Pipe::<16>::new(), REQUEST, &mut output);
     assert_eq!(rt; output.as_slice(), REQUEST);
 }
 
