@@ -137,11 +137,14 @@ fn two_seconds_of_a_signal(rt: HostRuntime) -> Result<(), Fail> {
     for sample in [0, 71, 100, 71, 0, -71, -100, -71, 0, 71] {
         buffer.record(sample);
     }
-    assert_eq!(rt; buffer.last(rt.alloc(), 3)?.as_slice(), &[-71, 0, 71]);
+    assert_eq!(rt;
+        buffer.last(rt.alloc(), 3)?.as_slice(),
+        [-71, 0, 71].as_slice()
+    );
     assert_eq!(rt; buffer.last(rt.alloc(), 0)?.len(), 0);
     assert_eq!(rt;
         buffer.last(rt.alloc(), 100)?.as_slice(),
-        &[100, 71, 0, -71, -100, -71, 0, 71]
+        [100, 71, 0, -71, -100, -71, 0, 71].as_slice()
     );
     assert_eq!(rt; buffer.at(-1), Some(71));
     assert_eq!(rt; buffer.at(-3), Some(-71));
