@@ -1,5 +1,5 @@
 -- What a source gave to a ring with a limit, which takes all that it gives.
-use Rattle.std.proofs.Common.{◌≡◌, List, ◌++◌, map, Option, Some, Result, Ok, Err, IsOk, MatchResult, is_ok, true}
+use Rattle.std.proofs.Common.{◌≡◌, List, map, Option, Some, Result, Ok, Err, IsOk, MatchResult, is_ok, true}
 use Rattle.std.specs.Iterator.{Drains, YieldsThen}
 use Rattle.std.proofs.lemmas.Iterator.{YieldsList, items_from_drains}
 

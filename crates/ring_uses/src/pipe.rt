@@ -5,7 +5,7 @@ ghost use Rattle.std.specs.Prelude.{◌≡◌, ◌-◌, ◌<◌, ◌≤◌, [], 
 use ringbuffer::{ConstGenericRingBuffer, RingBuffer};
 use std::marker::Model;
 
-/// Bytes on their way, at most `CAP`, oldest first.
+/// Bytes on their way, at most `CAP`, oldest first. What has come in goes out, in order and once.
 #[derive(Drop)]
 pub struct Pipe<const CAP: usize> {
     bytes: ConstGenericRingBuffer<u8, CAP>,

@@ -44,7 +44,8 @@ impl<T: Drop> History<T> {
         self.depth
     }
 
-    /// Records a state as the newest. At the full depth the oldest one is dropped.
+    /// Records a state as the newest. At the full depth the oldest one is then dropped, so that for a moment there is one
+    /// state more.
     ///
     /// # Errors
     ///

@@ -1,4 +1,4 @@
-use Rattle.std.proofs.Common.{◌≡◌, ◌∙◌, arith, drop, rules, slice_get, Some}
+use Rattle.std.proofs.Common.{◌≡◌, ◌∙◌, arith, drop, slice_get, Some}
 use Rattle.ring_uses.proofs.Sent.{one_more, rest-drop, set-copied}
 use Rattle.ring_uses.proofs.pipe.Pipe.send.Goals as goal
 

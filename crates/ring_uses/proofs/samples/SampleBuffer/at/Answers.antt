@@ -1,4 +1,4 @@
-use Rattle.std.proofs.Common.{◌≡◌, arith, rules, unsigned_abs}
+use Rattle.std.proofs.Common.{arith, rules}
 use Rattle.std.proofs.lemmas.Int.{to_z-of_z}
 use Rattle.ring_uses.proofs.Times.{slice_get-signed_place}
 use Rattle.ring_uses.proofs.samples.SampleBuffer.at.Goals as goal

@@ -1,4 +1,3 @@
-use Rattle.std.proofs.Common.{string_bytes, refl}
 use Rattle.std.proofs.lemmas.List.{map-append}
 use Rattle.ring_uses.proofs.Kept.{map-keep_last}
 use Rattle.ring_uses.proofs.tail.LogTail.feed.Goals as goal
