@@ -1,0 +1,4 @@
+pub mod Extended
+pub mod Kept
+pub mod Sent
+pub mod Times

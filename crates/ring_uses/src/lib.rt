@@ -1,0 +1,10 @@
+//! Five uses of ring buffers, each as a user would write it, and proved from the library's public contracts alone.
+#![tactic(auto)]
+
+pub mod pipe;
+pub mod samples;
+pub mod tail;
+#[cfg(test)]
+mod tests;
+pub mod undo;
+pub mod window;

@@ -1,0 +1,76 @@
+//! A pipe of bytes.
+
+ghost use Rattle.std.specs.Prelude.{◌≡◌, ◌-◌, ◌<◌, ◌≤◌, [], ◌++◌, drop, length, min, take};
+
+use ringbuffer::{ConstGenericRingBuffer, RingBuffer};
+use std::marker::Model;
+
+/// Bytes on their way, at most `CAP`, oldest first. What has come in goes out, in order and once.
+#[derive(Drop)]
+pub struct Pipe<const CAP: usize> {
+    bytes: ConstGenericRingBuffer<u8, CAP>,
+}
+
+impl<const CAP: usize> Model for Pipe<CAP> {
+    ghost use Rattle.std.specs.Prelude.{List, ℕ};
+
+    ghost Value = { List ℕ };
+
+    ghost view = { λ p. p.bytes.items };
+}
+
+impl<const CAP: usize> Pipe<CAP> {
+    /// A pipe with no byte on its way.
+    pub fn new() -> Self
+        requires { 0 < CAP }
+        ensures { result ≡ [] }
+    {
+        Pipe {
+            bytes: ConstGenericRingBuffer::new(),
+        }
+    }
+
+    /// Takes in the first of these bytes, as many as there is room for, and answers how many. It overwrites none.
+    pub fn receive(&mut self, input: &[u8]) -> usize
+        ensures count { result ≡ min (length input.now) (CAP - length self.old) }
+        ensures bytes { self.new ≡ self.old ++ take result input.now }
+        ensures within { length self.new ≤ CAP }
+    {
+        let count = input.len().min(CAP - self.bytes.len());
+        let _ = self.bytes.extend(input[..count].iter().copied());
+        count
+    }
+
+    /// Hands out the oldest bytes, as many as there are places for, and answers how many. The other places stay.
+    pub fn send(&mut self, output: &mut [u8]) -> usize
+        ensures count { result ≡ min (length output.old) (length self.old) }
+        ensures sent { output.new ≡ take result self.old ++ drop result output.old }
+        ensures rest { self.new ≡ drop result self.old }
+    {
+        let mut count = 0;
+        for place in output.iter_mut() {
+            let Some(byte) = self.bytes.dequeue() else {
+                break;
+            };
+            *place = byte;
+            count += 1;
+        }
+        count
+    }
+}
+
+/// Copies `input` to `output` through an empty pipe, a part at a time.
+pub fn relay<const CAP: usize>(pipe: &mut Pipe<CAP>, input: &[u8], output: &mut [u8])
+    requires capacity { 0 < CAP }
+    requires empty { pipe.old ≡ [] }
+    requires places { length output.old ≡ length input.now }
+    ensures copied { output.new ≡ input.now }
+    ensures empty { pipe.new ≡ [] }
+{
+    let mut received = 0;
+    let mut sent = 0;
+    while sent < output.len() {
+        received += pipe.receive(&input[received..]);
+        sent += pipe.send(&mut output[sent..]);
+    }
+}

@@ -1,0 +1,76 @@
+//! A buffer of the latest samples of a signal.
+
+ghost use Rattle.std.specs.Prelude.{◌≡◌, ◌*◌, ◌<◌, [], ◌∷◌, ◌++◌, IfOk, Some};
+ghost use Rattle.ringbuffer.specs.Contents.{keep_last};
+ghost use Rattle.ring_uses.specs.Signal.{sample_at};
+
+use ringbuffer::{AllocRingBuffer, RingBuffer};
+use std::alloc::{AllocError, Global};
+use std::marker::Model;
+
+/// The latest samples of a signal, of which so many come in a second.
+#[derive(Drop)]
+pub struct SampleBuffer {
+    samples: AllocRingBuffer<i32>,
+    rate: u32,
+}
+
+impl Model for SampleBuffer {
+    ghost use Rattle.ring_uses.specs.Signal.{Signal};
+
+    ghost Value = { Signal };
+
+    ghost view = { λ b. record { samples = b.samples.held.items; rate = b.rate; limit = b.samples.capacity } };
+}
+
+impl SampleBuffer {
+    /// A buffer for so many seconds of a signal, with no sample in it.
+    ///
+    /// # Errors
+    ///
+    /// Where memory was refused.
+    pub fn new(alloc: Global, rate: u32, seconds: u32) -> Result<Self, AllocError>
+        requires rate { 0 < rate }
+        requires seconds { 0 < seconds }
+        ensures { IfOk result (λ buffer. buffer ≡ record { samples = []; rate = rate; limit = rate * seconds }) }
+    {
+        let samples = AllocRingBuffer::new(alloc, rate as usize * seconds as usize)?;
+        Ok(SampleBuffer { samples, rate })
+    }
+
+    /// How many samples come in a second.
+    pub fn rate(&self) -> u32
+        ensures { result ≡ self.now.rate }
+    {
+        self.rate
+    }
+
+    /// Takes in a sample. A full buffer forgets its oldest one.
+    pub fn record(&mut self, sample: i32)
+        ensures { self.new ≡ record self.old { samples = keep_last (Some self.old.limit) (self.old.samples ++ sample ∷ []) } }
+    {
+        let _ = self.samples.push(sample);
+    }
+
+    /// The last `k` samples, oldest first, or all where there are fewer.
+    ///
+    /// # Errors
+    ///
+    /// Where memory was refused.
+    pub fn last(&self, alloc: Global, k: usize) -> Result<Vec<i32>, AllocError>
+        ensures { IfOk result (λ last. last.items ≡ keep_last (Some k) self.now.samples) }
+    {
+        let older = self.samples.len().saturating_sub(k);
+        self.samples.iter().skip(older).copied().collect(alloc)
+    }
+
+    /// The sample at a time, counted in samples from now: -1 is the newest. `None` before the oldest, and from 0 on.
+    pub fn at(&self, time: isize) -> Option<i32>
+        ensures { result ≡ sample_at self.now.samples time }
+    {
+        if time >= 0 || time.unsigned_abs() > self.samples.len() {
+            return None;
+        }
+        self.samples.get_signed(time).copied()
+    }
+}

@@ -1,0 +1,156 @@
+//! Each use once, on input as it comes in practice.
+
+use crate::pipe::{Pipe, relay};
+use crate::samples::SampleBuffer;
+use crate::tail::{LogTail, tail};
+use crate::undo::History;
+use crate::window::Window;
+use std::test::Fail;
+
+/// Tenths of a degree, one a minute, with a reading of a sensor that came loose.
+const TEMPERATURES: [i64; 8] = [213, 215, 214, 219, -400, 221, 218, 218];
+
+const LOG: &str =
+    "06:00:01 INFO  listening on 8080\r\n06:00:07 WARN  slow query: 1.2 s\n\n06:01:13 ERROR größe < 0\n06:01:13 INFO  stopped";
+
+const REQUEST: &[u8] = b"GET /status HTTP/1.1\r\nHost: example.org\r\n\r\n";
+
+#[test]
+fn window_of_three_temperatures(rt: HostRuntime) {
+    let mut window = Window::<3>::new();
+    assert_eq!(rt; window.count(), 0);
+    assert_eq!(rt; window.least(), None);
+    assert_eq!(rt; window.greatest(), None);
+    let expected = [
+        (1, 213, 213),
+        (2, 213, 215),
+        (3, 213, 215),
+        (3, 214, 219),
+        (3, -400, 219),
+        (3, -400, 221),
+        (3, -400, 221),
+        (3, 218, 221),
+    ];
+    for (sample, (count, least, greatest)) in TEMPERATURES.into_iter().zip(expected) {
+        window.push(sample);
+        assert_eq!(rt; window.count(), count, "after {sample}");
+        assert_eq!(rt; window.least(), Some(least), "after {sample}");
+        assert_eq!(rt; window.greatest(), Some(greatest), "after {sample}");
+    }
+    let mut at_once = Window::<3>::new();
+    at_once.extend(&TEMPERATURES);
+    assert_eq!(rt; at_once.count(), 3);
+    assert_eq!(rt; at_once.least(), Some(218));
+    assert_eq!(rt; at_once.greatest(), Some(221));
+}
+
+#[test]
+fn tails_of_a_log(rt: HostRuntime) -> Result<(), Fail> {
+    let all = [
+        "06:00:01 INFO  listening on 8080",
+        "06:00:07 WARN  slow query: 1.2 s",
+        "",
+        "06:01:13 ERROR größe < 0",
+        "06:01:13 INFO  stopped",
+    ];
+    for n in 0..8usize {
+        let last = tail(rt.alloc(), LOG, n)?;
+        let expected = &all[all.len().saturating_sub(n)..];
+        assert_eq!(rt; last.as_slice(), expected, "the last {n}");
+    }
+    assert_eq!(rt; tail(rt.alloc(), "", 3)?.len(), 0);
+    Ok(())
+}
+
+#[test]
+fn log_that_is_fed_a_line_at_a_time(rt: HostRuntime) -> Result<(), Fail> {
+    let mut log = LogTail::new(rt.alloc(), 2)?;
+    assert_eq!(rt; log.iter().count(), 0);
+    for line in LOG.lines() {
+        log.feed(String::from_str(rt.alloc(), line)?);
+    }
+    let mut lines = log.iter();
+    assert_eq!(rt;
+        lines.next().map(|line| line.as_str()),
+        Some("06:01:13 ERROR größe < 0")
+    );
+    assert_eq!(rt;
+        lines.next().map(|line| line.as_str()),
+        Some("06:01:13 INFO  stopped")
+    );
+    assert_eq!(rt; lines.next().map(|line| line.as_str()), None);
+    Ok(())
+}
+
+#[test]
+fn undo_of_typing(rt: HostRuntime) -> Result<(), Fail> {
+    let mut history = History::new(rt.alloc(), 3);
+    assert_eq!(rt; history.depth(), 3);
+    assert_eq!(rt; history.undo(), None);
+    for text in ["", "r", "ri", "rin"] {
+        assert_eq!(rt; history.record(text), Ok(()));
+    }
+    assert_eq!(rt; history.undo(), Some("rin"));
+    assert_eq!(rt; history.undo(), Some("ri"));
+    assert_eq!(rt; history.record("ro"), Ok(()));
+    assert_eq!(rt; history.undo(), Some("ro"));
+    assert_eq!(rt; history.undo(), Some("r"));
+    assert_eq!(rt; history.undo(), None);
+
+    let mut none = History::new(rt.alloc(), 0);
+    assert_eq!(rt; none.record("r"), Ok(()));
+    assert_eq!(rt; none.undo(), None);
+    Ok(())
+}
+
+#[test]
+fn pipe_that_is_too_small(rt: HostRuntime) {
+    let mut pipe = Pipe::<8>::new();
+    assert_eq!(rt; pipe.receive(b"GET /"), 5);
+    assert_eq!(rt; pipe.receive(b"status"), 3);
+    assert_eq!(rt; pipe.receive(b"tus"), 0);
+    let mut output = *b"..........";
+    assert_eq!(rt; pipe.send(&mut output[..5]), 5);
+    assert_eq!(rt; output, *b"GET /.....");
+    assert_eq!(rt; pipe.receive(b"tus"), 3);
+    assert_eq!(rt; pipe.send(&mut output), 6);
+    assert_eq!(rt; output, *b"status....");
+    assert_eq!(rt; pipe.send(&mut output), 0);
+    assert_eq!(rt; output, *b"status....");
+}
+
+#[test]
+fn request_through_pipes(rt: HostRuntime) {
+    let mut output = [0; REQUEST.len()];
+    relay(&mut Pipe::<1>::new(), REQUEST, &mut output);
+    assert_eq!(rt; output.as_slice(), REQUEST);
+    let mut output = [0; REQUEST.len()];
+    relay(&mut Pipe::<16>::new(), REQUEST, &mut output);
+    assert_eq!(rt; output.as_slice(), REQUEST);
+}
+
+#[test]
+fn two_seconds_of_a_signal(rt: HostRuntime) -> Result<(), Fail> {
+    let mut buffer = SampleBuffer::new(rt.alloc(), 4, 2)?;
+    assert_eq!(rt; buffer.rate(), 4);
+    assert_eq!(rt; buffer.at(-1), None);
+    for sample in [0, 71, 100, 71, 0, -71, -100, -71, 0, 71] {
+        buffer.record(sample);
+    }
+    assert_eq!(rt;
+        buffer.last(rt.alloc(), 3)?.as_slice(),
+        [-71, 0, 71].as_slice()
+    );
+    assert_eq!(rt; buffer.last(rt.alloc(), 0)?.len(), 0);
+    assert_eq!(rt;
+        buffer.last(rt.alloc(), 100)?.as_slice(),
+        [100, 71, 0, -71, -100, -71, 0, 71].as_slice()
+    );
+    assert_eq!(rt; buffer.at(-1), Some(71));
+    assert_eq!(rt; buffer.at(-3), Some(-71));
+    assert_eq!(rt; buffer.at(-8), Some(100));
+    for time in [isize::MIN, -9, 0, 1, isize::MAX] {
+        assert_eq!(rt; buffer.at(time), None, "at {time}");
+    }
+    Ok(())
+}
