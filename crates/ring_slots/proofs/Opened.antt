@@ -30,7 +30,7 @@ use Rattle.std.specs.declared.alloc.Global.{Global}
 use Rattle.std.specs.contracts.alloc.Global as heap
 use Rattle.std.proofs.alloc.Global.TheLaws as heap_laws
 use Rattle.ring_slots.specs.Slots.{Slots}
-use Rattle.ring_slots.specs.heap.Memory.{row, right, small, owned}
+use Rattle.ring_slots.specs.heap.Memory.{row, right, owned}
 use Rattle.ring_slots.specs.contracts.heap.HeapSlots as H
 use Rattle.ring_slots.specs.contracts.heap.HeapSlots.TheInside as I
 use Rattle.ring_slots.proofs.heap.HeapSlots.TheInside.TheLaws.{lowers}

@@ -13,7 +13,6 @@ use base.Logic.{SProp, ent, sep, assoc∗}
 use base.Fml.{Fml, Lft, ftrue, fsep, fat, froom}
 use mir.Syntax.{Ty, ty_array}
 use mir.Val.{Val, has_ty, WT}
-use mir.Raw.{raw as bare}
 use types.Logic.{Logic, sem}
 use package.contract.Monad.{fact}
 use types.Kit.{Item, Step, step, prop, suffices, ‵, ◌⊛◌, some, ◌$◌, ◌∵◌, !, qed, by, move, keep, drop, use1, use2, pick, split, rewrite, fsplit, fjoin, frame, done}

@@ -1,7 +1,7 @@
 -- The size is a word of its own here. It is capped at what a word holds.
-use mathlib.Core.Path.{◌≡◌, refl}
+use mathlib.Core.Path.{refl}
 use mathlib.Core.List.{List, [], ◌∷◌}
-use Prim.Native.Nat.{ℕ, zero, suc, ◌<◌, ◌≤◌, ◌^◌}
+use Prim.Native.Nat.{ℕ, zero, suc, ◌<◌, ◌^◌}
 use native.Mathlib.Omega.{arith}
 use mir.Syntax.{a_type, w64}
 use mir.MapTy.{inst_fn}
@@ -9,7 +9,7 @@ use mir.Val.{Val, vint}
 use base.Fml.{ftrue}
 use prog.Memory.{size, capped}
 use prog.Capped.{capped_fits, capped_is, capped_small}
-use types.Kit.{‵, raw, ◌⊛◌, ◌$◌, ◌∵◌, !, qed, move, keep, join, fjoin, feq_i, flt_i, split, drop, suffices, done}
+use types.Kit.{‵, raw, ◌⊛◌, ◌$◌, ◌∵◌, !, qed, move, keep, join, fjoin, feq_i, flt_i, split, suffices, done}
 use types.Run.{size_word, of_opd, returns, enter}
 use types.ByLocal.{alloc_all, pass_all, free_all, look_at, sets}
 use package.contract.BorrowLft.{◌⊑◌}

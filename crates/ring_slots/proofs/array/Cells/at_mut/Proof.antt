@@ -2,8 +2,8 @@
 -- lies where its one field does, so the element is taken out of memory with a way back at any value, and then lent.
 use mathlib.Core.Path.{◌≡◌, refl, sym, ap, ◌∙◌}
 use mathlib.Core.List.{List, [], ◌∷◌}
-use Prim.Native.Nat.{ℕ, zero, suc, ◌+◌, ◌*◌, ◌^◌, ◌<◌, ◌≤◌}
-use native.Mathlib.Nat.{mul-le-mul_right, zero-mul, suc-mul}
+use Prim.Native.Nat.{ℕ, zero, ◌+◌, ◌*◌, ◌^◌, ◌<◌, ◌≤◌}
+use native.Mathlib.Nat.{mul-le-mul_right}
 use native.Mathlib.Omega.{arith}
 use Rattle.std.proofs.lemmas.List.{get_or_default}
 use lib.ListN.{length, get_or, set, length-set}
@@ -14,8 +14,7 @@ use mir.Val.{Val, vptr, vint}
 use base.Logic.{SProp, ent, sep, ex, guard, all, wand, all_e, apply∗}
 use base.Fraction.{full_share}
 use base.Fml.{Fml, Lft, GName, Share, ftrue, fsep, feq, flft}
-use prog.Memory.{size, align, up, capped}
-use prog.Capped.{capped_is}
+use prog.Memory.{size, align, up}
 use types.Logic.{Logic, sem}
 use types.SemTy.{cells}
 use types.Mut.{open_ref}

@@ -1,7 +1,7 @@
 -- What a `&` to the slots shows of the one at the place is a `&` to its item.
 use mathlib.Core.Path.{◌≡◌, refl, sym, subst}
 use mathlib.Core.List.{List, [], ◌∷◌, ◌++◌}
-use Prim.Native.Nat.{ℕ, ◌+◌, ◌*◌, ◌<◌, ◌^◌}
+use Prim.Native.Nat.{ℕ, ◌+◌, ◌*◌}
 use lib.ListN.{length, get_or}
 use mir.Syntax.{Fn, Dict, a_type, named, dcons, dnil}
 use mir.MapTy.{inst_fn}
@@ -20,7 +20,6 @@ use denote.Exit.{yes}
 use denote.Memory.{hidden_shr}
 use denote.Opens.{shr_dup, hide, unhide}
 use denote.Param.{bounded}
-use denote.Param.Laws.{Laws}
 use denote.RattleType.{RattleType}
 use denote.RawPtr.{Ptr, RawPtr, block_ptr, ptr_row_laws, in_a_block}
 use denote.Ref.{ShrRef}

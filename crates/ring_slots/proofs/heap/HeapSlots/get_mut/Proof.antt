@@ -1,11 +1,11 @@
 -- The item is lent apart from the rest, which closes round any item that is written.
 use mathlib.Core.Path.{◌≡◌, refl, sym, ap, subst}
 use mathlib.Core.List.{List, [], ◌∷◌, ◌++◌}
-use Prim.Native.Nat.{ℕ, ◌+◌, ◌*◌, ◌<◌, ◌^◌}
+use Prim.Native.Nat.{ℕ, ◌+◌, ◌*◌, ◌<◌}
 use lib.ListN.{length, get_or, set, length-set}
 use mir.Syntax.{Fn, Dict, a_type, named, dcons, dnil}
 use mir.MapTy.{inst_fn}
-use mir.Val.{Val, vptr, vint}
+use mir.Val.{Val, vptr}
 use seplogic.Ra.Ura.{Ura}
 use base.Fraction.{full_share}
 use base.Logic.{SProp, ent, sep}
@@ -19,12 +19,11 @@ use types.ByLocal.{alloc_all, pass_all, free_all, look_at, get, through, sets, s
 use package.contract.BorrowLft.{◌⊑◌}
 use package.contract.Monad.{fact}
 use package.contract.Running.{tables}
-use denote.Builtin.{RefMutOf, usize}
+use denote.Builtin.{usize}
 use denote.Exit.{yes, no}
 use denote.Follow.{follows, lends_Part}
 use denote.Memory.{mem, cell_at, part_of}
 use denote.Param.{bounded}
-use denote.Param.Laws.{Laws}
 use denote.RattleType.{RattleType}
 use denote.RawPtr.{block_ptr}
 use denote.Ref.{MutRef}

@@ -1,7 +1,7 @@
 -- The new block is room for the items, which is a row of empty slots. The right to free it stays beside the row.
 use mathlib.Core.Path.{◌≡◌, refl, sym, ap, subst}
 use mathlib.Core.Bool.{Bool, true, false}
-use mathlib.Core.List.{List, [], ◌∷◌}
+use mathlib.Core.List.{[], ◌∷◌}
 use Prim.Native.Nat.{ℕ, ◌*◌, ◌<◌, ◌^◌}
 use native.Mathlib.Omega.{arith}
 use lib.Dec.{lit<}
@@ -9,8 +9,8 @@ use lib.ListN.{length, replicate, length-replicate}
 use mir.Syntax.{Fn, Body, a_type, w64, ty_array}
 use mir.MapTy.{inst_fn}
 use mir.Val.{Val, WT, vint, vstruct, vcons, vnil}
-use base.Logic.{SProp, ent}
-use base.Fml.{ftrue, froom, flft}
+use base.Logic.{SProp}
+use base.Fml.{ftrue, flft}
 use prog.Capped.{capped_fits}
 use prog.Memory.{align, capped}
 use prog.Wp.{Env, Wp, after_seq, at_return}
@@ -34,10 +34,10 @@ use denote.Steps.{nothing, heard, owned}
 use denote.Struct.Declared as Declared
 use denote.Struct.Struct.{Struct, Struct-Makes}
 use denote.Triple.Call.{calls_at}
-use denote.Triple.Entry.{Vals, alive}
+use denote.Triple.Entry.{Vals}
 use denote.Triple.Table.{framed}
 use denote.Triple.Walked.{says, Stays, stay_dropped, Goes-dropped, walk_of, ends_at}
-use Rattle.std.specs.Prelude.{None, Ok, Err, IfOk}
+use Rattle.std.specs.Prelude.{None, Ok, Err}
 use Rattle.std.specs.Mem.{type_size}
 use Rattle.std.specs.Vec.Ownership.{FitsInBlock}
 use Rattle.std.specs.contracts.alloc.AllocError as refusal

@@ -1,17 +1,16 @@
 -- The item is written into the room of its slot, and the slots are closed round it.
 use mathlib.Core.Path.{◌≡◌, refl, sym, ap, subst}
 use mathlib.Core.List.{List, [], ◌∷◌, ◌++◌}
-use Prim.Native.Nat.{ℕ, ◌+◌, ◌*◌, ◌<◌, ◌^◌}
-use native.Mathlib.Omega.{arith}
+use Prim.Native.Nat.{ℕ, ◌+◌, ◌*◌, ◌<◌}
 use lib.ListN.{length, get_or, set, length-set}
 use mir.Syntax.{Fn, Dict, a_type, named, dcons, dnil}
 use mir.MapTy.{inst_fn}
-use mir.Val.{Val, vptr, vint, vunit}
+use mir.Val.{Val, vptr, vunit}
 use base.Fraction.{full_share}
 use base.Logic.{SProp}
 use base.Fml.{ftrue, flft}
 use prog.Wp.{WpFn}
-use types.Kit.{‵, raw, ◌⊛◌, prop, at_ret, ◌$◌, ◌∵◌, !, qed, move, keep, drop, use1, use2, split, split3, join, fsplit, fsplit3, fjoin, fjoin3, feq_i, feq_l, flt_l, rewrite, regoal, suffices, frame, group, done}
+use types.Kit.{‵, raw, ◌⊛◌, prop, at_ret, ◌$◌, ◌∵◌, !, qed, move, keep, drop, use1, use2, split, split3, join, fsplit, fsplit3, fjoin, fjoin3, feq_i, feq_l, flt_l, rewrite, regoal, suffices, frame, done}
 use types.Part.{whole, sub, look_in}
 use types.Run.{init, stop, fld, load, unit_lit, of_opd, bin, size_lit, assigns_last, first, blocks, exec, returns, enter}
 use types.ByLocal.{alloc_all, pass_all, free_all, look_at, get, through, sets, env}
@@ -19,11 +18,11 @@ use package.contract.BorrowLft.{◌⊑◌}
 use package.contract.Monad.{fact}
 use package.contract.Running.{tables}
 use borrow.Table.OneValue.{part_in}
-use denote.Builtin.{RefMutOf, usize, unit}
+use denote.Builtin.{usize}
 use denote.Exit.{yes, no}
 use denote.Laws.{Is, shows}
 use denote.Param.{bounded, layout}
-use denote.Param.Laws.{Laws, param_laws}
+use denote.Param.Laws.{param_laws}
 use denote.RattleType.{RattleType}
 use denote.Ref.{MutRef}
 use denote.Signature.{plain}

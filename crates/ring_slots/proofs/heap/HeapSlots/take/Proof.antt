@@ -1,11 +1,11 @@
 -- The item is read out of its slot, whose memory is room from then on.
-use mathlib.Core.Path.{◌≡◌, refl, sym, ap, subst, ◌∙◌}
+use mathlib.Core.Path.{◌≡◌, refl, sym, ap, subst}
 use mathlib.Core.List.{List, [], ◌∷◌, ◌++◌}
-use Prim.Native.Nat.{ℕ, ◌+◌, ◌*◌, ◌<◌, ◌^◌}
+use Prim.Native.Nat.{ℕ, ◌+◌, ◌*◌}
 use lib.ListN.{length, get_or, set, length-set}
 use mir.Syntax.{Fn, Dict, a_type, named, dcons, dnil}
 use mir.MapTy.{inst_fn}
-use mir.Val.{Val, vptr, vint}
+use mir.Val.{Val, vptr}
 use base.Fraction.{full_share}
 use base.Logic.{SProp}
 use base.Fml.{ftrue, fat, froom, flft}
@@ -22,7 +22,7 @@ use denote.Builtin.{usize}
 use denote.Exit.{yes}
 use denote.Laws.{Is, shows}
 use denote.Param.{bounded, layout}
-use denote.Param.Laws.{Laws, param_laws}
+use denote.Param.Laws.{param_laws}
 use denote.RattleType.{RattleType}
 use denote.Ref.{MutRef}
 use denote.Signature.{plain}

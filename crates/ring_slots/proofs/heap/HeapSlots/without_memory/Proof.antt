@@ -1,7 +1,7 @@
 -- Room for no item is had for nothing, and is room for any number of items without size.
 use mathlib.Core.Path.{◌≡◌, refl, sym, ap, subst, ◌∙◌}
-use mathlib.Core.Bool.{Bool, true}
-use mathlib.Core.List.{List, [], ◌∷◌}
+use mathlib.Core.Bool.{Bool}
+use mathlib.Core.List.{[], ◌∷◌}
 use Prim.Native.Nat.{ℕ, ◌*◌, ◌<◌, ◌^◌}
 use native.Mathlib.Omega.{arith}
 use native.Mathlib.Nat.{zero-mul, mul-zero}
@@ -9,12 +9,11 @@ use lib.Dec.{eqb}
 use lib.ListN.{length, replicate, length-replicate}
 use mir.Syntax.{Fn, a_type, w64, ty_array}
 use mir.MapTy.{inst_fn}
-use mir.Val.{Val}
 use base.Logic.{wand}
-use base.Fml.{ftrue, froom}
+use base.Fml.{froom}
 use prog.Align.{dv_self}
 use prog.Memory.{size, align}
-use types.Kit.{‵, raw, ◌⊛◌, ◌$◌, ◌∵◌, !, qed, move, keep, drop, use0, use1, use3, split, join, fjoin, frame, rewrite, suffices, done}
+use types.Kit.{‵, raw, ◌⊛◌, ◌$◌, ◌∵◌, !, qed, move, keep, drop, use0, use1, use3, split, fjoin, frame, rewrite, suffices, done}
 use types.Part.{agg}
 use types.Run.{stop, from, addr, of_opd, no_more, and_then, returns, enter}
 use types.ByLocal.{alloc_all, pass_all, free_all, look_at, get, through, sets}
@@ -37,7 +36,7 @@ use Rattle.std.proofs.alloc.Global.TheLaws as heap_laws
 use Rattle.std.proofs.raw_atomic.Walks.{proved}
 use Rattle.ring_slots.specs.heap.Memory.{row, right, right_if}
 use Rattle.ring_slots.proofs.Rows.{of_room}
-use Rattle.ring_slots.proofs.Opened.{R, Seen, AreSmall, fields, Fields, words, begun, fields_made, slots_made}
+use Rattle.ring_slots.proofs.Opened.{R, Seen, words, begun, fields_made, slots_made}
 use Rattle.ring_slots.specs.contracts.heap.HeapSlots.without_memory as contract
 use Rattle.ring_slots.proofs.heap.HeapSlots.without_memory.Statement.{statement}
 use Rattle.ring_slots.proofs.heap.HeapSlots.without_memory.Code as code
