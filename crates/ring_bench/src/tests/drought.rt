@@ -8,6 +8,10 @@ const MOST_BLOCKS: usize = 1 << 17;
 // A request that no address space has room for.
 const TOO_LARGE: usize = 1 << 47;
 
+// The C library keeps freed blocks of each small size apart, in steps of so many bytes.
+const SMALL: usize = 1 << 11;
+const STEP: usize = 16;
+
 /// While it lasts, no memory is had but one block. It takes all address space, and writes nothing there.
 ///
 /// Under `rt try`, whose allocator has limits of its own, nothing is known of it.
@@ -25,8 +29,10 @@ impl Drought {
         for _ in 0..MOST_BLOCKS {
             if let Ok(block) = Vec::with_capacity(alloc, size) {
                 taken.push(block)?;
-            } else if size > 1 {
+            } else if size > SMALL {
                 size /= 2;
+            } else if size > STEP {
+                size -= STEP;
             } else {
                 break;
             }
