@@ -1,10 +1,12 @@
 -- What follows of the words of `Contents`, for the proofs of callers.
-use Rattle.std.specs.Prelude.{◌≡◌, ℕ, zero, suc, ◌+◌, ◌-◌, ◌<◌, List, [], ◌∷◌, ◌++◌, length, map, take, drop, get_or, Option, None, Some, IfSome, refl, slice_get, slice_set, negsuc}
+use Rattle.std.specs.Prelude.{◌≡◌, ℕ, zero, suc, ◌+◌, ◌-◌, ◌<◌, List, [], ◌∷◌, ◌++◌, length, map, take, drop, get_or, Option, None, Some, IfSome, IsOk, MatchResult, Ok, Err, Result, is_ok, refl, slice_get, slice_set, negsuc, true}
+use Rattle.std.specs.Iterator.{Drains, YieldsThen}
 use Rattle.std.specs.List.{AllZip}
 use Rattle.std.proofs.Common.{◌∙◌, ap, sym, add-one, append_assoc, arith, length-append, length-drop}
 use Rattle.std.proofs.Math.Nat.{zero-mod}
 use Rattle.std.proofs.Math.Seq.{drop-cons, set-append_seam, take-length, take-suc-set}
-use Rattle.std.proofs.lemmas.List.{drop-append-le, drop-drop, drop-set-lt, drop_all}
+use Rattle.std.proofs.lemmas.Iterator.{YieldsList, items_from_drains}
+use Rattle.std.proofs.lemmas.List.{drop-append-le, drop-drop, drop-map, drop-set-lt, drop_all, length-map}
 use Rattle.std.proofs.lemmas.Option.{slice_get_within}
 use Rattle.ring_core.specs.Walk.{to_come}
 use Rattle.ring_core.specs.Contents.{IsWithin, keep_last, signed_place}
@@ -22,6 +24,10 @@ keep_last-keep_last (Some n) xs ys =
     let joined : drop cut xs ++ ys ≡ drop cut (xs ++ ys) = sym (drop-append-le cut xs ys (omega arith)) in
     let all_cut : cut + (length (drop cut (xs ++ ys)) - n) ≡ length (xs ++ ys) - n = omega (arith, length-drop cut (xs ++ ys), length-append xs ys) in
     rw (joined, drop-drop, all_cut) refl
+
+-- a limit leaves of the answers of a function what the function answers to what it leaves of the list
+pub map-keep_last : {A B : Type 0} (f : A → B) (n : ℕ) (xs : List A) → map f (keep_last (Some n) xs) ≡ keep_last (Some n) (map f xs)
+map-keep_last f n xs = rw length-map (sym (drop-map f (length xs - n) xs))
 
 -- what stays before a pushed item does not depend on the item
 pub keep_last_before : {A : Type 0} (limit : Option ℕ) (xs : List A) → IfSome limit (λ n. 0 < n)
@@ -47,6 +53,18 @@ newest_replaced limit xs now x y pushed some =
     let above : IfSome limit (λ n. 0 < n) = above_zero limit (xs ++ x ∷ []) (λ none. some (pushed ∙ none)) in
     let (before, ends) = keep_last_before limit xs above in
     rw (pushed, ends x, signed_place-newest before x, ends y) (set-append_seam before x [] y)
+
+module _ {S A B : Type 0} {steps : S → Option A → S → Type 0} {s : S} where
+  -- what v takes the items to of a source that was taken to its end is the list that the source shows
+  pub shown_drained : (v : A → B) (xs : List A) (all : List B) → Drains steps s xs → YieldsList steps v s all → map v xs ≡ all
+  shown_drained v xs all (u, (t, took, ended)) yields = items_from_drains xs (t, took, λ _. (u, ended)) yields
+
+  -- so it is with the items of an extension that was not refused
+  pub shown_extended : {E : Type 0} {v : A → B} {all : List B} (xs : List A) (r : Result (Unit {0}) E)
+      → MatchResult r (λ _. Drains steps s xs) (λ _. (x : A) × (after : S) × YieldsThen steps s xs (Some x) after)
+      → IsOk r → YieldsList steps v s all → map v xs ≡ all
+  shown_extended {v = v} {all = all} xs (Ok _) drained ok yields = shown_drained v xs all drained yields
+  shown_extended {E = E} xs (Err e) ran ok yields = absurd (let no : is_ok {T = Unit {0}} {E = E} (Err e) ≡ true = ok in cc)
 
 -- one more pair of items
 pub AllZip-append : {A B : Type 0} (R : A → B → Type 0) (xs : List A) (ys : List B) (x : A) (y : B) → AllZip R xs ys → R x y

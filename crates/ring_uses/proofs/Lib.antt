@@ -1,4 +1,2 @@
-pub mod Extended
-pub mod Kept
 pub mod Sent
 pub mod Times

@@ -1,20 +1,15 @@
 -- What a source gave that was taken to its end.
-use Rattle.std.proofs.Common.{◌≡◌, ℕ, suc, ◌+◌, ◌-◌, ◌<◌, ◌≤◌, All, IsOk, IsSome, IsUtf8, OnOk, Result, Ok, Err, is_ok, true, chars, List, [], ◌∷◌, ◌++◌, drop, get_or, length, map, take, Option, None, Some, MatchOption, refl, sym, ap, ◌∙◌, add-one, add-zero, append-nil, append_assoc, arith, length-drop}
+use Rattle.std.proofs.Common.{◌≡◌, ℕ, suc, ◌+◌, ◌-◌, ◌<◌, ◌≤◌, All, IsOk, IsSome, IsUtf8, OnOk, Result, Ok, Err, is_ok, true, chars, List, [], ◌∷◌, ◌++◌, drop, get_or, length, take, Option, None, Some, MatchOption, refl, sym, ap, ◌∙◌, add-one, add-zero, append-nil, append_assoc, arith, length-drop}
 use Rattle.std.specs.Iterator.{Drains}
-use Rattle.std.proofs.lemmas.Iterator.{YieldsList, items_from_drains}
+use Rattle.std.proofs.lemmas.Iterator.{YieldsList}
 use Rattle.std.proofs.lemmas.List.{get_or-drop, map-id}
 use Rattle.std.proofs.lemmas.List.Elements.{All-head, All-tail, filter_map-append}
 use Rattle.std.proofs.lemmas.Str.{encodes-chars, length-le-encodes}
 use Rattle.std.proofs.Math.Seq.{take-suc}
 use Rattle.ring_core.specs.Contents.{keep_last}
-use Rattle.ring_core.specs.Facts.{keep_last-keep_last}
+use Rattle.ring_core.specs.Facts.{keep_last-keep_last, shown_drained}
 use Rattle.ringbuffer.specs.Conversion.{HoldsAll, somes}
 use Rattle.ringbuffer.specs.HeldWithin.{HeldWithin}
-
-module _ {S A B : Type 0} {steps : S → Option A → S → Type 0} {s : S} where
-  -- what v takes its items to is the list that the source shows
-  pub shown_drained : (v : A → B) (xs : List A) (all : List B) → Drains steps s xs → YieldsList steps v s all → map v xs ≡ all
-  shown_drained v xs all (u, (t, took, ended)) yields = items_from_drains xs (t, took, λ _. (u, ended)) yields
 
 -- its items are the list
 pub items_drained : {S A : Type 0} {steps : S → Option A → S → Type 0} {s : S} (xs all : List A) → Drains steps s xs → YieldsList steps (λ x. x) s all → xs ≡ all

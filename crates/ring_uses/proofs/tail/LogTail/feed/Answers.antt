@@ -1,5 +1,5 @@
 use Rattle.std.proofs.lemmas.List.{map-append}
-use Rattle.ring_uses.proofs.Kept.{map-keep_last}
+use Rattle.ringbuffer.specs.Facts.{map-keep_last}
 use Rattle.ring_uses.proofs.tail.LogTail.feed.Goals as goal
 
 pub returns : goal.returns
