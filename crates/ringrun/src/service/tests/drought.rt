@@ -4,6 +4,11 @@ use std::alloc::{AllocError, Global};
 
 const MOST_BLOCKS: usize = 1 << 17;
 
+// The C library keeps freed blocks of each small size apart, in steps of so many bytes.
+const SMALL: usize = 1 << 11;
+
+const STEP: usize = 16;
+
 /// Holds all memory that can be had, so that requests are refused until it ends. `rt try`, whose allocator has limits of its
 /// own, knows no drought.
 #[derive(Drop)]
@@ -20,8 +25,9 @@ impl Drought {
         for _ in 1..MOST_BLOCKS {
             match Vec::with_capacity(alloc, size) {
                 Ok(block) => blocks.push(block)?,
-                Err(_) if size == 1 => break,
-                Err(_) => size /= 2,
+                Err(_) if size > SMALL => size /= 2,
+                Err(_) if size > STEP => size -= STEP,
+                Err(_) => break,
             }
         }
         if !blocks.is_empty() {
