@@ -51,13 +51,9 @@ impl<T: Drop, S: SlotRow<T>> Fixed<T, S> {
         requires room { capacity ≤ size_of S.seen self.old }
         ensures { Turns S.seen S.is_size self.old self.new (pushed capacity (held S.seen self.old) item) }
     {
-        let before = self.len;
-        let (start, len) = Self::push_from(&mut self.slots, self.start, before, item, capacity);
+        let (start, len) = Self::push_from(&mut self.slots, self.start, self.len, item, capacity);
         self.start = start;
-        // A full ring keeps its length, and so saves a write.
-        if len != before {
-            self.len = len;
-        }
+        self.len = len;
     }
 
     /// Takes out the first item, if there is one.
