@@ -10,6 +10,7 @@ const TOO_LARGE: usize = 1 << 47;
 
 // The C library keeps freed blocks of each small size apart, in steps of so many bytes.
 const SMALL: usize = 1 << 11;
+
 const STEP: usize = 16;
 
 /// While it lasts, no memory is had but one block. It takes all address space, and writes nothing there.
