@@ -3,17 +3,9 @@
 //! The body of a test is generic over the ring, so that each type that it runs on is a line.
 
 mod comparison;
-mod conversions;
-mod counted;
-mod dropping;
-mod drought;
 mod fills;
-mod memory;
 mod positions;
 mod pushing;
-mod refused;
-mod runs;
-mod scarce;
 mod walks;
 
 use ringbuffer::RingBuffer;

@@ -1,0 +1,38 @@
+//! Tests of the rings by their public calls.
+//!
+//! The body of a test is generic over the ring, so that each type that it runs on is a line.
+
+mod conversions;
+mod counted;
+mod dropping;
+mod drought;
+mod memory;
+mod refused;
+mod runs;
+mod scarce;
+
+use ringbuffer::RingBuffer;
+use std::process::Abort;
+
+/// Pushes the items in order. None is refused.
+fn push_all<R: RingBuffer<i64>>(rt: &impl Abort, ring: &mut R, items: &[i64]) {
+    for item in items {
+        assert!(rt; ring.push(*item).is_ok());
+    }
+}
+
+/// The ring holds these items and no other, in order.
+fn assert_holds<R: RingBuffer<i64>>(rt: &impl Abort, ring: &R, items: &[i64]) {
+    assert_eq!(rt; ring.len(), items.len());
+    for (i, item) in items.iter().enumerate() {
+        assert_eq!(rt; ring.get(i).copied(), Some(*item), "at {i}");
+    }
+}
+
+/// The ring gives up these items and then no other, in order.
+fn assert_gives<R: RingBuffer<i64>>(rt: &impl Abort, ring: &mut R, items: &[i64]) {
+    for item in items {
+        assert_eq!(rt; ring.dequeue(), Some(*item));
+    }
+    assert_eq!(rt; ring.dequeue(), None);
+}
