@@ -1,7 +1,7 @@
 -- Heap slots are taken apart into their row, the right to free its block and their fields, and are made of these again.
 use mathlib.Core.Path.{◌≡◌, refl, sym, ap, subst, ◌∙◌}
 use mathlib.Core.List.{List, [], ◌∷◌}
-use Prim.Native.Nat.{ℕ, ◌*◌, ◌^◌, ◌<◌}
+use Prim.Native.Nat.{ℕ, ◌+◌, ◌*◌, ◌%◌, ◌^◌, ◌<◌}
 use lib.ListN.{length}
 use seplogic.Ra.Ura.{Ura}
 use base.Fraction.{full_share}
@@ -59,6 +59,9 @@ module _ (X : RattleType) where
   abbrev pub AreSmall : List (Option X.Denot) → Type 0
   AreSmall cs = length cs * type_size R < 2 ^ 63
 
+  abbrev pub Counted : Inside.Denot → Type 0
+  Counted s = length s.slots ≡ (s.mask + 1) % 2 ^ 64
+
   module _ {M : Type 1} {𝓤 : Ura M} (𝓛 : Logic 𝓤) (b o : ℕ) (s : Inside.Denot) where
     abbrev pub Row : Fml
     Row = row R b o s.slots
@@ -68,7 +71,7 @@ module _ (X : RattleType) where
 
     -- the same memory with other items and another count
     module _ (cs : List (Option X.Denot)) (n : ℕ) (d : Slots X.Denot) where
-      pub slots_made : (us : List Val) → s.ptr ≡ block_ptr b o → length s.slots ≡ s.size → AreSmall s.slots → length cs ≡ length s.slots → record { slots = cs; changes = n } ≡ d
+      pub slots_made : (us : List Val) → s.ptr ≡ block_ptr b o → Counted s → AreSmall s.slots → length cs ≡ length s.slots → record { slots = cs; changes = n } ≡ d
           → ent 𝓤 (sep 𝓤 (sem 𝓛 (row R b o cs)) (sep 𝓤 (sem 𝓛 Right) (sem 𝓛 (Fields.own_val (fields s) us)))) (sem 𝓛 (Seen.own_val d us))
       slots_made us lies counted fit same seen =
           let t : Inside.Denot = record s { slots = cs; changes = n } in
@@ -82,21 +85,21 @@ module _ (X : RattleType) where
 module _ (X : RattleType) (L : Laws X) {M : Type 1} {𝓤 : Ura M} {𝓛 : Logic 𝓤} {K : Type 0} {Γ : List (Item 𝓤)} {G : Goal 𝓤 𝓛.H} where
   -- [the row; the right to free its block; the fields]
   pub slots_had : K → (d : Slots X.Denot) (us : List Val)
-      → ((s : (Inside X).Denot) (b o : ℕ) → H.the_view (R X) s ≡ d → length s.slots ≡ s.size → s.ptr ≡ block_ptr b o → AreSmall X s.slots → us ≡ words b o s.size s.alloc ∷ []
+      → ((s : (Inside X).Denot) (b o : ℕ) → H.the_view (R X) s ≡ d → Counted X s → s.ptr ≡ block_ptr b o → AreSmall X s.slots → us ≡ words b o s.mask s.alloc ∷ []
       → Seq K 𝓛 (‵ (Row X 𝓛 b o s) ∷ ‵ (Right X 𝓛 b o s) ∷ ‵ ((Fields X).own_val (fields X s) us) ∷ Γ) G)
       → Seq K 𝓛 (‵ ((Seen X).own_val d us) ∷ Γ) G
   slots_had t d us next =
       fpick t (λ h. let s = h.0 in fsplit t $ move t (1 ∷ []) $ drop t $
       peeks t (Inside X) (Is (Inside X)) (shows 𝓛 (Inside X)) s us (λ is. fsplit t $ move t (1 ∷ []) $
       in_a_block t s.ptr (λ p. owned (R X) s.alloc p s.slots) (id⊢ 𝓤 (never 𝓤)) (λ b o lies.
-      let told : us ≡ words b o s.size s.alloc ∷ [] = (lowers (R X) (param_laws 0 X L)).val_is s us is ∙ ap (λ (p : Ptr). (lowers (R X) (param_laws 0 X L)).lowered (record s { ptr = p }) ∷ []) lies in
+      let told : us ≡ words b o s.mask s.alloc ∷ [] = (lowers (R X) (param_laws 0 X L)).val_is s us is ∙ ap (λ (p : Ptr). (lowers (R X) (param_laws 0 X L)).lowered (record s { ptr = p }) ∷ []) lies in
       fsplit t $ flt_l t (λ fit. fsplit t $ next s b o h.1.0 h.1.1 lies fit told))))
 
 module _ (X : RattleType) (L : Laws X) {M : Type 1} {𝓤 : Ura M} {𝓛 : Logic 𝓤} {K : Type 0} {Γ : List (Item 𝓤)} {G : Goal 𝓤 𝓛.H} where
   -- [the row; the right; the fields; their cell; the open borrow, in three entries]
   pub slots_opened : K → Soaks G → {κ : Lft} {q : Share} {γ : GName} (d : Slots X.Denot) (rb ro : ℕ)
-      → ((s : (Inside X).Denot) (b o : ℕ) → H.the_view (R X) s ≡ d → length s.slots ≡ s.size → s.ptr ≡ block_ptr b o → AreSmall X s.slots
-      → Seq K 𝓛 (‵ (Row X 𝓛 b o s) ∷ ‵ (Right X 𝓛 b o s) ∷ ‵ ((Fields X).own_val (fields X s) (words b o s.size s.alloc ∷ [])) ∷ ‵ (cell_at full_share (Seen X).mir (words b o s.size s.alloc ∷ []) rb ro)
+      → ((s : (Inside X).Denot) (b o : ℕ) → H.the_view (R X) s ≡ d → Counted X s → s.ptr ≡ block_ptr b o → AreSmall X s.slots
+      → Seq K 𝓛 (‵ (Row X 𝓛 b o s) ∷ ‵ (Right X 𝓛 b o s) ∷ ‵ ((Fields X).own_val (fields X s) (words b o s.mask s.alloc ∷ [])) ∷ ‵ (cell_at full_share (Seen X).mir (words b o s.mask s.alloc ∷ []) rb ro)
       ∷ ‵ (fobor κ q (Body (mem (Seen X)) rb ro γ)) ∷ ‵ (fobs γ ((Seen X).coded.code d)) ∷ ‵ (fauth γ ((Seen X).coded.code d)) ∷ Γ) G)
       → Seq K 𝓛 (‵ (fobs γ ((Seen X).coded.code d)) ∷ ‵ (fbor κ (Body (mem (Seen X)) rb ro γ)) ∷ ‵ (flft κ q) ∷ Γ) G
   slots_opened t z d rb ro next = opens t z (Seen X) {h = d} rb ro (λ us. move t (1 ∷ []) $ slots_had X L t d us (λ s b o seen counted lies fit told.
@@ -105,12 +108,12 @@ module _ (X : RattleType) (L : Laws X) {M : Type 1} {𝓤 : Ura M} {𝓛 : Logic
 
   -- and back, at other items and another count
   pub slots_closed : K → Soaks G → {κ : Lft} {q : Share} {u v : Gv} {γ : GName} (s : (Inside X).Denot) (cs : List (Option X.Denot)) (n : ℕ) (d : Slots X.Denot) (b o rb ro : ℕ)
-      → s.ptr ≡ block_ptr b o → length s.slots ≡ s.size → AreSmall X s.slots → length cs ≡ length s.slots → record { slots = cs; changes = n } ≡ d
+      → s.ptr ≡ block_ptr b o → Counted X s → AreSmall X s.slots → length cs ≡ length s.slots → record { slots = cs; changes = n } ≡ d
       → Step K 𝓛 (‵ (fobs γ ((Seen X).coded.code d)) ∷ ‵ (fbor κ (Body (mem (Seen X)) rb ro γ)) ∷ ‵ (flft κ q) ∷ Γ) G
-      (‵ (row (R X) b o cs) ∷ ‵ (Right X 𝓛 b o s) ∷ ‵ ((Fields X).own_val (fields X s) (words b o s.size s.alloc ∷ [])) ∷ ‵ (cell_at full_share (Seen X).mir (words b o s.size s.alloc ∷ []) rb ro)
+      (‵ (row (R X) b o cs) ∷ ‵ (Right X 𝓛 b o s) ∷ ‵ ((Fields X).own_val (fields X s) (words b o s.mask s.alloc ∷ [])) ∷ ‵ (cell_at full_share (Seen X).mir (words b o s.mask s.alloc ∷ []) rb ro)
       ∷ ‵ (fobor κ q (Body (mem (Seen X)) rb ro γ)) ∷ ‵ (fobs γ u) ∷ ‵ (fauth γ v) ∷ Γ) G
   slots_closed t z s cs n d b o rb ro lies counted fit same seen = step (λ k.
-      let us = words b o s.size s.alloc ∷ [] in
+      let us = words b o s.mask s.alloc ∷ [] in
       use3 𝓛 (‵ ((Seen X).own_val d us)) (slots_made X 𝓛 b o s cs n d us lies counted fit same seen) $ move t (1 ∷ 0 ∷ []) $ closes t z (Seen X) d us rb ro $ k)
 
 -- a handle of the heap, and fields with one, are made of nothing
@@ -122,7 +125,7 @@ module _ {M : Type 1} {𝓤 : Ura M} {𝓛 : Logic 𝓤} {K : Type 0} {Γ : List
 module _ (X : RattleType) (b o n : ℕ) (a : Global) where
   -- slots at a place, of which none is counted yet
   abbrev pub begun : List (Option X.Denot) → (Inside X).Denot
-  begun cs = record { ptr = block_ptr b o; size = n; alloc = a; slots = cs; changes = 0 }
+  begun cs = record { ptr = block_ptr b o; mask = n; alloc = a; slots = cs; changes = 0 }
 
   module _ {M : Type 1} {𝓤 : Ura M} {𝓛 : Logic 𝓤} {K : Type 0} {Γ : List (Item 𝓤)} {G : Goal 𝓤 𝓛.H} where
     pub fields_made : K → (cs : List (Option X.Denot)) → n < 2 ^ 64 → Step K 𝓛 (‵ ((Fields X).own_val (fields X (begun cs)) (words b o n a ∷ [])) ∷ Γ) G Γ G

@@ -3,7 +3,7 @@ use mathlib.Core.Path.{◌≡◌, refl, sym, ap, ◌∙◌}
 use mathlib.Core.Bool.{Bool, true, false}
 use mathlib.Core.List.{List, [], ◌∷◌}
 use Prim.Native.Nat.{ℕ, zero, suc, ◌+◌, ◌*◌, ◌^◌, ◌<◌, ◌≤◌}
-use native.Mathlib.Nat.{zero-mul, one-mul, mul-one, suc-mul, mul-le-mul_left, mul-le-mul_right}
+use native.Mathlib.Nat.{zero-mul, one-mul, suc-mul, mul-le-mul_right}
 use native.Mathlib.Omega.{arith}
 use lib.Dec.{T, eqb, eqb→eq}
 use lib.ListN.{length, get_or, set, replicate}
@@ -46,11 +46,6 @@ place_fits i n bytes within fit =
     let once : 1 * bytes ≤ n * bytes = mul-le-mul_right bytes (omega arith) in
     let before : i * bytes ≤ n * bytes = mul-le-mul_right bytes (omega arith) in
     (omega (arith, one-mul bytes), omega arith)
-
--- items with a size that fit a block are few
-pub count_fits : (n bytes : ℕ) → 0 < bytes → n * bytes < 2 ^ 63 → n < 2 ^ 64
-count_fits n bytes sized fit =
-    let least : n * 1 ≤ n * bytes = mul-le-mul_left n (omega arith) in omega (arith, mul-one n)
 
 -- a size that is capped at what a word holds makes the same product, where that product fits a word
 pub product_is : (k bytes : ℕ) → k * bytes < 2 ^ 64 → k * capped bytes ≡ k * bytes

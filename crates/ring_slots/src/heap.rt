@@ -1,5 +1,5 @@
 //! Slots on the heap.
-ghost use Rattle.std.specs.Prelude.{◌≡◌, ◌^◌, ◌<◌, ℕ, List, Option, length, replicate, None, Some, refl, IfOk, IsTrue};
+ghost use Rattle.std.specs.Prelude.{◌≡◌, ◌+◌, ◌%◌, ◌^◌, ◌<◌, ℕ, List, Option, length, replicate, None, Some, refl, IfOk, IsTrue};
 ghost use Rattle.std.specs.Int.{IsPowerOfTwo};
 ghost use Rattle.std.specs.Borrow.{sem};
 ghost use Rattle.std.specs.Mem.{type_size};
@@ -21,14 +21,16 @@ use std::mem::{align_of, size_of};
 /// 0, and rises by the calls below alone.
 pub struct HeapSlots<T> {
     ptr: *mut T,
-    size: usize,
+    // The number of slots less one, which is the mask of their places where that number is a power of two. It wraps
+    // where there are no slots.
+    mask: usize,
     alloc: Global,
     ghost slots: { List (Option T) },
     ghost changes: { ℕ },
 }
 
 impl<T> Model for HeapSlots<T> {
-    ghost use Rattle.std.specs.Prelude.{◌≡◌, length};
+    ghost use Rattle.std.specs.Prelude.{◌≡◌, ◌+◌, ◌%◌, ◌^◌, length};
     ghost use Rattle.ring_slots.specs.Slots.{Slots};
     ghost use Rattle.ring_slots.specs.heap.Memory.{owned, lent};
 
@@ -36,7 +38,7 @@ impl<T> Model for HeapSlots<T> {
 
     ghost view = { λ s. record { slots = s.slots; changes = s.changes } };
 
-    ghost invariant = { λ s. length s.slots ≡ s.size };
+    ghost invariant = { λ s. length s.slots ≡ (s.mask + 1) % 2 ^ 64 };
 
     ghost also_owns = { λ s. owned T.row s.alloc s.ptr s.slots };
 
@@ -50,13 +52,14 @@ impl<T: Drop> HeapSlots<T> {
     pub fn new(alloc: Global, size: usize) -> Result<HeapSlots<T>, AllocError>
         ensures { IfOk result (λ s. s ≡ record { slots = replicate size None; changes = 0 }) }
     {
+        let mask = size.wrapping_sub(1);
         if item_size::<T>() == 0 {
-            return Ok(HeapSlots::without_memory(alloc, size));
+            return Ok(HeapSlots::without_memory(alloc, mask));
         }
         if !may_hold::<T>(size) {
             return Err(AllocError);
         }
-        HeapSlots::in_block(alloc, size)
+        HeapSlots::in_block(alloc, size, mask)
     }
 
     /// Puts an item into an empty slot.
@@ -99,21 +102,30 @@ impl<T: Drop> HeapSlots<T> {
 }
 
 impl<T> HeapSlots<T> {
+    // The number of slots.
+    #[inline]
+    fn count(&self) -> usize
+        ensures { result ≡ length self.now.slots }
+    {
+        self.mask.wrapping_add(1)
+    }
+
     // Empty slots that need no memory, since items have no size. Their pointer is aligned as items are.
-    fn without_memory(alloc: Global, size: usize) -> HeapSlots<T>
+    fn without_memory(alloc: Global, mask: usize) -> HeapSlots<T>
         requires { type_size T.row ≡ 0 }
-        ensures { result ≡ record { slots = replicate size None; changes = 0 } }
+        ensures { result ≡ record { slots = replicate ((mask + 1) % 2 ^ 64) None; changes = 0 } }
     {
         let none: &[T; 0] = &[];
         HeapSlots {
             ptr: none as *const [T; 0] as *mut T,
-            size,
+            mask,
             alloc,
         }
     }
 
     // Empty slots in a new block.
-    fn in_block(alloc: Global, size: usize) -> Result<HeapSlots<T>, AllocError>
+    fn in_block(alloc: Global, size: usize, mask: usize) -> Result<HeapSlots<T>, AllocError>
+        requires size { size ≡ (mask + 1) % 2 ^ 64 }
         requires fits { FitsInBlock T.row size }
         requires sized { 0 < type_size T.row }
         ensures { IfOk result (λ s. s ≡ record { slots = replicate size None; changes = 0 }) }
@@ -121,7 +133,7 @@ impl<T> HeapSlots<T> {
         match alloc.allocate(size * size_of::<T>(), align_of::<T>()) {
             Ok(block) => Ok(HeapSlots {
                 ptr: block as *mut T,
-                size,
+                mask,
                 alloc,
             }),
             Err(error) => Err(error),
@@ -132,16 +144,21 @@ impl<T> HeapSlots<T> {
     fn forget(self) {
         let HeapSlots {
             ptr: _,
-            size: _,
+            mask: _,
             alloc: _,
         } = self;
     }
 
-    // Gives the block back.
-    fn free_block(self)
-        requires { 0 < type_size T.row }
+    // Gives the block back. `size` is the number of slots.
+    fn free_block(self, size: usize)
+        requires sized { 0 < type_size T.row }
+        requires size { size ≡ length self.slots }
     {
-        let HeapSlots { ptr, size, alloc } = self;
+        let HeapSlots {
+            ptr,
+            mask: _,
+            alloc,
+        } = self;
         unsafe {
             alloc.deallocate(ptr as *mut u8, size * size_of::<T>(), align_of::<T>());
         }
@@ -175,7 +192,8 @@ impl<T> Drop for HeapSlots<T> {
         if item_size::<T>() == 0 {
             self.forget();
         } else {
-            self.free_block();
+            let size = self.count();
+            self.free_block(size);
         }
     }
 }
@@ -191,17 +209,17 @@ impl<T: Drop> SlotRow<T> for HeapSlots<T> {
 
     #[inline]
     fn size(&self) -> usize {
-        self.size
+        self.count()
     }
 
     #[inline]
     fn place(&self, start: usize, k: usize) -> usize {
-        masked(start, k, self.size())
+        masked(start, k, self.mask)
     }
 
     #[inline]
     fn next(&self, place: usize) -> usize {
-        masked(place, 1, self.size())
+        masked(place, 1, self.mask)
     }
 
     #[inline]

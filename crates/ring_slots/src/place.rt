@@ -1,5 +1,5 @@
 //! Places counted round a row of slots.
-ghost use Rattle.std.specs.Prelude.{◌≡◌, ◌+◌, ◌%◌, ◌<◌, ◌≤◌};
+ghost use Rattle.std.specs.Prelude.{◌≡◌, ◌+◌, ◌%◌, ◌^◌, ◌<◌, ◌≤◌, IsTrue};
 ghost use Rattle.std.specs.Int.{IsPowerOfTwo};
 
 /// The place `k` after `start`, counted round `size` places. No sum wraps, however large the size.
@@ -9,7 +9,10 @@ pub fn wrapped(start: usize, k: usize, size: usize) -> usize
     requires count { k ≤ size }
     ensures { result ≡ (start + k) % size }
 {
-    // Twice a smaller size fits a word. At a constant this test is gone from the program.
+    if is_power_of_two(size) {
+        return masked(start, k, size - 1);
+    }
+    // Twice a smaller size fits a word. Of a constant size no such test is left in the program.
     if size <= usize::MAX / 2 {
         let sum = start + k;
         return if sum < size { sum } else { sum - size };
@@ -39,16 +42,28 @@ pub fn wrapped_next(place: usize, size: usize) -> usize
     requires { place < size }
     ensures { result ≡ (place + 1) % size }
 {
+    if is_power_of_two(size) {
+        return masked(place, 1, size - 1);
+    }
     if place < size - 1 { place + 1 } else { 0 }
 }
 
-/// The place `k` after `start`, counted round `size` places by a mask, where the size is a power of two.
+/// The place `k` after `start`, counted round `mask + 1` places, whose number is a power of two.
 #[inline]
-pub fn masked(start: usize, k: usize, size: usize) -> usize
-    requires size { IsPowerOfTwo size }
-    requires start { start < size }
-    requires count { k ≤ size }
-    ensures { result ≡ (start + k) % size }
+pub fn masked(start: usize, k: usize, mask: usize) -> usize
+    requires size { IsPowerOfTwo (mask + 1) }
+    requires word { mask + 1 < 2 ^ 64 }
+    requires start { start ≤ mask }
+    requires count { k ≤ mask + 1 }
+    ensures { result ≡ (start + k) % (mask + 1) }
 {
-    (start + k) & (size - 1)
+    (start + k) & mask
+}
+
+// Whether places can be found by a mask, which a constant answers before the program runs.
+#[inline]
+fn is_power_of_two(size: usize) -> bool
+    ensures { IsTrue result → IsPowerOfTwo size × (size < 2 ^ 64) }
+{
+    size <= 1 << (usize::BITS - 1) && size.next_power_of_two() == size
 }

@@ -51,9 +51,13 @@ impl<T: Drop, S: SlotRow<T>> Fixed<T, S> {
         requires room { capacity ≤ size_of S.seen self.old }
         ensures { Turns S.seen S.is_size self.old self.new (pushed capacity (held S.seen self.old) item) }
     {
-        let (start, len) = Self::push_from(&mut self.slots, self.start, self.len, item, capacity);
+        let before = self.len;
+        let (start, len) = Self::push_from(&mut self.slots, self.start, before, item, capacity);
         self.start = start;
-        self.len = len;
+        // A full ring keeps its length, and has one store less to make.
+        if len != before {
+            self.len = len;
+        }
     }
 
     /// Takes out the first item, if there is one.

@@ -146,7 +146,14 @@ impl<T: Drop> RingBuffer<T> for AllocRingBuffer<T> {
         // The count that the trait shows is the count of the slots themselves.
         ensures counts { ⟦<AllocRingBuffer<T> as RingBuffer<T>>⟧.slot_changes self.new ≡ self.new.held.changes }
     {
-        self.ring.push(item, self.capacity);
+        let len = self.ring.len;
+        let capacity = self.capacity;
+        self.ring.push(item, capacity);
+        // A full ring keeps its length, so this never happens. It is there for the compiler, which can't tell the item's
+        // slot from the ring's own fields: a length that is compared again stays in a register in a loop of pushes.
+        if len == capacity && self.ring.len != len {
+            None.unwrap()
+        }
         Ok(())
     }
 

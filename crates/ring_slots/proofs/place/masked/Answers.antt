@@ -1,4 +1,4 @@
-use Rattle.std.proofs.Common.{rules, ◌<◌, ◌≤◌, ◌^◌, ℕ, arith}
+use Rattle.std.proofs.Common.{rules, ◌<◌, ◌≤◌, ◌^◌, ◌+◌, ◌-◌, ◌≡◌, ℕ, arith}
 use Rattle.std.proofs.Math.Decide.{dec_lt}
 use Rattle.std.proofs.Math.Pow.{pow_mono}
 use Rattle.std.proofs.lemmas.Nat.{and_mask}
@@ -15,7 +15,9 @@ at_most_half size (k, is) fits =
 
 pub overflow_add-result : goal.overflow_add-result
 overflow_add-result c =
-    let half = at_most_half c.args.size c.requires.size c.ranges.size.fits in search rules
+    let half = at_most_half (c.args.mask + 1) c.requires.size c.requires.word in search rules
 
 pub returns : goal.returns
-returns c = rw c.requires.size.1 (and_mask _ c.requires.size.0)
+returns c =
+    let low : c.args.mask ≡ 2 ^ c.requires.size.0 - 1 = let is = c.requires.size.1 in omega arith in
+    rw c.requires.size.1 (rw low (and_mask _ c.requires.size.0))

@@ -14,30 +14,32 @@ use base.Fml.{ftrue, froom, flft}
 use prog.Capped.{capped_fits}
 use prog.Memory.{align, capped}
 use prog.Wp.{WpFn}
-use types.Kit.{‵, raw, ◌⊛◌, later, given, prop, at_ret, ◌$◌, ◌∵◌, !, qed, move, keep, drop, use1, learn, await, split, join, rewrite, regoal, suffices, group, fjoin, feq_i, done}
+use types.Kit.{‵, raw, ◌⊛◌, later, given, prop, at_ret, ◌$◌, ◌∵◌, !, qed, move, keep, drop, use1, learn, await, split, join, split3, fsplit, fpick, feq_l, flt_l, rewrite, regoal, suffices, group, fjoin, feq_i, done}
 use types.Part.{whole, sub}
 use types.Run.{stop, fld, from, addr, of_opd, bin, size_word, align_word, unit_lit, no_more, and_then, first, blocks, exec, returns, enter}
 use types.ByLocal.{alloc_all, pass_all, free_all, look_at, get, get_in, is, sets, take_at, give_at, lands_last, env}
 use package.contract.BorrowLft.{◌⊑◌}
 use package.contract.Monad.{fact}
 use package.contract.Running.{tables}
-use denote.Exit.{no}
+use denote.Builtin.{usize}
+use denote.Exit.{yes, no}
 use denote.Param.{layout, layouts}
 use denote.RawPtr.{block_ptr}
 use denote.Signature.{plain}
 use denote.Steps.{nothing, heard}
 use denote.Triple.Call.{calls_at_last}
 use denote.Triple.Table.{framed}
-use denote.Triple.Walked.{Stays, stay_dropped, walk_of, ends_at}
+use denote.Triple.Walked.{Stays, stay_dropped, Goes-dropped, walk_of, ends_at}
 use Rattle.std.specs.Mem.{type_size}
 use Rattle.std.proofs.RawLayout.{as_raw}
 use Rattle.std.proofs.VecSteps.Shapes.{after}
 use Rattle.std.proofs.alloc.Calls.{Goes-blank}
 use Rattle.std.proofs.impls.GlobalAllocator.deallocate.Met.{met}
 use Rattle.std.proofs.raw_atomic.Walks.{proved_at}
+use Rattle.ring_slots.specs.Slots.{Slots}
 use Rattle.ring_slots.specs.heap.Memory.{right_if}
 use Rattle.ring_slots.proofs.Blocks.{Give, give, gives, gave, block_type, block_laid, handle_lent, handle_back}
-use Rattle.ring_slots.proofs.Rows.{count_fits, has_size, product_is, to_room}
+use Rattle.ring_slots.proofs.Rows.{has_size, product_is, to_room}
 use Rattle.ring_slots.proofs.Opened.{R, Seen, slots_had}
 use Rattle.ring_slots.specs.contracts.heap.HeapSlots.free_block as contract
 use Rattle.ring_slots.proofs.heap.HeapSlots.free_block.Statement.{statement}
@@ -47,24 +49,26 @@ pub free_block_spec : {M : Type 1} → statement M
 free_block_spec 𝓤 𝓛 𝓜 𝓡 wired X L =
     let clauses = contract.clauses X 𝓛 𝓜.mem 𝓡.returns in
     let ended = contract.ended X in
-    let stayed : Stays ended.signature.params ended.kept = (stay_dropped (plain (λ _. Seen X)) no, tt) in
+    let stayed : Stays ended.signature.params ended.kept = (stay_dropped (plain (λ _. Seen X)) no, (stay_dropped (plain (λ _. usize)) yes, tt)) in
     let fn : Fn = inst_fn (layouts (a_type ∷ []) (X, tt)) code.function in
     let 𝓣 = tables 𝓤 𝓛.H 𝓜 𝓡 𝓡.env in
-    proved_at 𝓛 ended stayed clauses 𝓜 𝓡 (Goes-blank 𝓛 1 (plain (λ _. Seen X)) no (λ κs x w. tt), tt)
+    proved_at 𝓛 ended stayed clauses 𝓜 𝓡 (Goes-blank 𝓛 1 (plain (λ _. Seen X)) no (λ κs x w. tt), (Goes-dropped 𝓛 1 (plain (λ _. usize)) yes (λ κs x w. refl), tt))
     (contract.Key.name (layouts (a_type ∷ []) (X, tt))) fn (code.unfolded 𝓤 𝓛.H 𝓜 𝓡 wired (X, tt)) (λ y _.
-    let κ = y.0.0.0 in let q = y.0.1.0 in let vs = y.0.4.0 in let bytes = type_size (R X) in let al = capped (align (layout X)) in
+    let κ = y.0.0.0 in let q = y.0.1.0 in let d = y.0.3.0 in let vs = y.0.4.0 in let size = y.0.3.1.0 in let bytes = type_size (R X) in let al = capped (align (layout X)) in
     let Post : Val → SProp 𝓤 = (walk_of 𝓛 ended stayed clauses).post y in
-    qed 𝓛 (((‵ (flft κ q) ⊛ ‵ ftrue) ⊛ ‵ ((Seen X).own_val y.0.3.0 vs) ⊛ ‵ ftrue)
-    ∷ (raw (fact 𝓤 (κ ⊑ X.lives)) ⊛ raw (fact 𝓤 (0 < bytes))) ∷ []) ∵
-    move ! (1 ∷ []) $ split ! $ drop ! $ heard ! _ (λ sized.
-    split ! $ split ! $ move ! (2 ∷ []) $ split ! $ slots_had X L ! y.0.3.0 vs (λ s b o seen counted lies fit told.
+    qed 𝓛 (((‵ (flft κ q) ⊛ ‵ ftrue) ⊛ ‵ ((Seen X).own_val d vs) ⊛ ‵ (usize.own_val size y.0.4.1.0) ⊛ ‵ ftrue)
+    ∷ (raw (fact 𝓤 (κ ⊑ X.lives)) ⊛ raw (fact 𝓤 (0 < bytes)) ⊛ raw (fact 𝓤 (size ≡ length d.slots))) ∷ []) ∵
+    move ! (1 ∷ []) $ split ! $ drop ! $ split ! $ heard ! _ (λ sized. heard ! _ (λ whole_row.
+    split ! $ split ! $ move ! (2 ∷ []) $ split3 ! $ move ! (1 ∷ []) $ fsplit ! $ feq_l ! (λ sent. flt_l ! (λ few.
+    slots_had X L ! d vs (λ s b o seen counted lies fit told.
     let n = length s.slots in let far : n * bytes < 2 ^ 64 = omega (arith, fit) in
-    let few : s.size < 2 ^ 64 = subst (λ (k : ℕ). k < 2 ^ 64) counted (count_fits n bytes sized fit) in
-    let whole_size : s.size * capped bytes ≡ n * bytes = ap (λ (k : ℕ). k * capped bytes) (sym counted) ∙ product_is n bytes far in
-    regoal ! (λ (ws : List Val). prop (WpFn 𝓤 𝓛.H 𝓣.C 𝓣.Λ fn (ws ++ []) Post)) told refl $ keep ! (0 ∷ 1 ∷ 4 ∷ []) $
-    enter ! _ _ _ _ _ $ alloc_all ! (λ l. pass_all ! refl ((tt, (tt, (record { fits = few }, (((tt, tt), tt), tt)))), tt) $
+    let counts : size ≡ n = subst (λ (w : Slots X.Denot). size ≡ length w.slots) (sym seen) whole_row in
+    let whole_size : size * capped bytes ≡ n * bytes = ap (λ (k : ℕ). k * capped bytes) counts ∙ product_is n bytes far in
+    -- the mask is a word, as the fields say
+    move ! (2 ∷ []) $ fpick ! (λ parts. fsplit ! $ drop ! $ fsplit ! $ drop ! $ fsplit ! $ fsplit ! $ drop ! $ flt_l ! (λ word. drop ! $
+    regoal ! (λ (ws : List Val × List Val). prop (WpFn 𝓤 𝓛.H 𝓣.C 𝓣.Λ fn (ws.0 ++ (ws.1 ++ [])) Post)) (λ i. (told i, sent i)) refl $ keep ! (0 ∷ 1 ∷ 3 ∷ []) $
+    enter ! _ _ _ _ _ $ alloc_all ! (λ l. pass_all ! refl ((tt, (tt, (record { fits = word }, (((tt, tt), tt), tt)))), ((tt, record { fits = few }), tt)) $
     sets ! (of_opd ! (get_in ! (fld ! refl (stop !)) (sub ! 0 refl (whole !)))) refl (tt, tt) $
-    sets ! (of_opd ! (get_in ! (fld ! refl (stop !)) (sub ! 1 refl (whole !)))) refl (tt, record { fits = few }) $
     sets ! (of_opd ! (get_in ! (fld ! refl (stop !)) (sub ! 2 refl (whole !)))) refl (tt, ((tt, tt), tt)) $
     first ! $ blocks ! $
     sets ! (addr ! (from ! (stop !))) refl (tt, tt) $
@@ -84,8 +88,8 @@ free_block_spec 𝓤 𝓛 𝓜 𝓡 wired X L =
     use1 𝓛 (later (given (v ≡ vunit) (‵ (flft γ m.1)))) (gave 𝓛 𝓜.mem 𝓡.returns γ m.1 (l 4, 0) s.alloc (n * bytes) al (block_type X n) b o v) $ await ! tt $ learn ! (λ is_unit.
     handle_back s.alloc (l 4) κ q ! tt m $ give_at ! 4 $
     lands_last ! refl (subst (λ (u : Val). T (has_ty ty_unit u) × WT u) (sym is_unit) (tt, tt)) $
-    exec ! 𝓣.C 𝓣.Λ (env fn.locals l) (after 4 fn.body) (at_ret _ Post) $ sets ! (of_opd ! (unit_lit !)) refl (tt, tt) $
+    exec ! 𝓣.C 𝓣.Λ (env fn.locals l) (after 3 fn.body) (at_ret _ Post) $ sets ! (of_opd ! (unit_lit !)) refl (tt, tt) $
     returns ! (look_at ! 0 refl) $ free_all ! refl $ keep ! (0 ∷ []) $
-    suffices ! _ (ends_at 𝓛 ended stayed clauses y vunit tt (tt, tt) (tt, tt)) $
-    nothing ! $ move ! (1 ∷ 0 ∷ []) $ join ! $ feq_i ! (List Val) (vunit ∷ []) (vunit ∷ []) refl $ nothing ! $ nothing ! $ fjoin ! $
-    move ! (2 ∷ 0 ∷ 1 ∷ []) $ group ! 3 $ nothing ! $ move ! (1 ∷ 0 ∷ []) $ done !)))))))
+    suffices ! _ (ends_at 𝓛 ended stayed clauses y vunit tt (tt, (tt, tt)) (tt, (tt, tt))) $
+    nothing ! $ move ! (1 ∷ 0 ∷ []) $ join ! $ feq_i ! (List Val) (vunit ∷ []) (vunit ∷ []) refl $ nothing ! $ nothing ! $ fjoin ! $ nothing ! $ fjoin ! $
+    move ! (2 ∷ 0 ∷ 1 ∷ []) $ group ! 3 $ nothing ! $ move ! (1 ∷ 0 ∷ []) $ done !))))))))))))

@@ -37,7 +37,7 @@ use Rattle.std.proofs.raw_atomic.Walks.{proved_at}
 use Rattle.ring_slots.specs.Slots.{Slots, IsFullAt, changed}
 use Rattle.ring_slots.specs.heap.Memory.{slot, row}
 use Rattle.ring_slots.proofs.Rows.{item_of, full_within, place_fits, others, slot_out, slot_in}
-use Rattle.ring_slots.proofs.Opened.{R, Seen, Inside, Fields, AreSmall, Right, fields, words, slots_made, slots_opened}
+use Rattle.ring_slots.proofs.Opened.{R, Seen, Inside, Fields, AreSmall, Right, fields, words, slots_made, slots_opened, Counted}
 use Rattle.ring_slots.specs.contracts.heap.HeapSlots as H
 use Rattle.ring_slots.specs.contracts.heap.HeapSlots.get_mut as contract
 use Rattle.ring_slots.proofs.heap.HeapSlots.get_mut.Statement.{statement}
@@ -48,13 +48,13 @@ stayed X drops = (stay_dropped (mut_ref_to (0 ∷ []) tt (plain (λ _. Seen X)))
 
 module _ (X : RattleType) {M : Type 1} {𝓤 : Ura M} (𝓛 : Logic 𝓤) (s : (Inside X).Denot) (b o rb ro place : ℕ) where
   abbrev us : List Val
-  us = words b o s.size s.alloc ∷ []
+  us = words b o s.mask s.alloc ∷ []
 
   -- all but the item
   abbrev Rest : Fml
   Rest = fsep (others X b o s.slots place) (fsep (Right X 𝓛 b o s) (fsep ((Fields X).own_val (fields X s) us) (cell_at full_share (Seen X).mir us rb ro)))
 
-  back : (d : Slots X.Denot) → H.the_view (R X) s ≡ d → length s.slots ≡ s.size → s.ptr ≡ block_ptr b o → AreSmall X s.slots → place < length s.slots
+  back : (d : Slots X.Denot) → H.the_view (R X) s ≡ d → Counted X s → s.ptr ≡ block_ptr b o → AreSmall X s.slots → place < length s.slots
       → (w : X.Denot) → ent 𝓤 (sep 𝓤 (sem 𝓛 ((mem (R X)).own_at w b (place * type_size (R X) + o))) (sem 𝓛 Rest)) (sem 𝓛 ((mem (Seen X)).own_at (changed d place (Some w)) rb ro))
   unfolding part_of
   back d seen counted lies fit within w =

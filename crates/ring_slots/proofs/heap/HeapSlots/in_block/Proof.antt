@@ -1,8 +1,8 @@
 -- The new block is room for the items, which is a row of empty slots. The right to free it stays beside the row.
-use mathlib.Core.Path.{◌≡◌, refl, sym, ap, subst}
+use mathlib.Core.Path.{◌≡◌, refl, sym, ap, subst, ◌∙◌}
 use mathlib.Core.Bool.{Bool, true, false}
 use mathlib.Core.List.{[], ◌∷◌}
-use Prim.Native.Nat.{ℕ, ◌*◌, ◌<◌, ◌^◌}
+use Prim.Native.Nat.{ℕ, ◌+◌, ◌*◌, ◌%◌, ◌<◌, ◌^◌}
 use native.Mathlib.Omega.{arith}
 use lib.Dec.{lit<}
 use lib.ListN.{length, replicate, length-replicate}
@@ -62,43 +62,43 @@ pub in_block_spec : {M : Type 1} → statement M
 in_block_spec 𝓤 𝓛 𝓜 𝓡 wired X L =
     let clauses = contract.clauses X 𝓛 𝓜.mem 𝓡.returns in
     let ended = contract.ended X in
-    let stayed : Stays ended.signature.params ended.kept = (stay_dropped (plain (λ _. heap.the_row)) yes, (stay_dropped (plain (λ _. usize)) yes, tt)) in
+    let stayed : Stays ended.signature.params ended.kept = (stay_dropped (plain (λ _. heap.the_row)) yes, (stay_dropped (plain (λ _. usize)) yes, (stay_dropped (plain (λ _. usize)) yes, tt))) in
     let fn : Fn = inst_fn (layouts (a_type ∷ []) (X, tt)) code.function in
     let 𝓣 = tables 𝓤 𝓛.H 𝓜 𝓡 𝓡.env in
     let Refusal : RattleType = Struct (Declared.shape refusal.the_type) in
     let Out : RattleType = result.the_row (Seen X) refusal.the_row in
     proved 𝓛 ended stayed clauses 𝓜 𝓡
-    (Goes-dropped 𝓛 1 (plain (λ _. heap.the_row)) yes (λ κs x w. refl), (Goes-dropped 𝓛 1 (plain (λ _. usize)) yes (λ κs x w. refl), tt))
+    (Goes-dropped 𝓛 1 (plain (λ _. heap.the_row)) yes (λ κs x w. refl), (Goes-dropped 𝓛 1 (plain (λ _. usize)) yes (λ κs x w. refl), (Goes-dropped 𝓛 1 (plain (λ _. usize)) yes (λ κs x w. refl), tt)))
     (contract.Key.name (layouts (a_type ∷ []) (X, tt))) fn (code.unfolded 𝓤 𝓛.H 𝓜 𝓡 wired (X, tt))
-    (λ κs. ((λ h. heap_laws.lowered h ∷ []), (uint_vals w64, tt))) (λ κs. (heap_laws.lowers.val_is, (uint_Tells w64, tt))) (λ κs qs bounds a _ are.
-    let alloc = a.0 in let n = a.1.0 in let fits = are.1.0.1 in let τ = layout X in let bytes = type_size (R X) in let al = capped (align τ) in
-    let κ = κs.0 in let q = qs.0 in let vss : Vals ended.signature κs = (heap_laws.lowered alloc ∷ [], (uint_vals w64 n, tt)) in
+    (λ κs. ((λ h. heap_laws.lowered h ∷ []), (uint_vals w64, (uint_vals w64, tt)))) (λ κs. (heap_laws.lowers.val_is, (uint_Tells w64, (uint_Tells w64, tt)))) (λ κs qs bounds a _ are.
+    let alloc = a.0 in let n = a.1.0 in let mask = a.1.1.0 in let fits = are.1.0.1 in let mask_fits = are.1.1.0.1 in let τ = layout X in let bytes = type_size (R X) in let al = capped (align τ) in
+    let κ = κs.0 in let q = qs.0 in let vss : Vals ended.signature κs = (heap_laws.lowered alloc ∷ [], (uint_vals w64 n, (uint_vals w64 mask, tt))) in
     let y : (walk_of 𝓛 ended stayed clauses).Ghost = ((κs, qs, bounds, a, vss), tt) in let Post : Val → SProp 𝓤 = (walk_of 𝓛 ended stayed clauses).post y in
     qed 𝓛 (((‵ (flft κ q) ⊛ ‵ ftrue) ⊛ ‵ (owns (types_at ended.signature.params κs) a vss))
-    ∷ (raw (fact 𝓤 (κ ⊑ X.lives)) ⊛ raw (fact 𝓤 (FitsInBlock (R X) n)) ⊛ raw (fact 𝓤 (0 < bytes))) ∷ []) ∵
-    move ! (1 ∷ []) $ split ! $ drop ! $ split ! $ heard ! _ (λ fit. heard ! _ (λ sized. split ! $ split ! $ keep ! (0 ∷ []) $
+    ∷ (raw (fact 𝓤 (κ ⊑ X.lives)) ⊛ raw (fact 𝓤 (n ≡ (mask + 1) % 2 ^ 64)) ⊛ raw (fact 𝓤 (FitsInBlock (R X) n)) ⊛ raw (fact 𝓤 (0 < bytes))) ∷ []) ∵
+    move ! (1 ∷ []) $ split ! $ drop ! $ split ! $ heard ! _ (λ counted. split ! $ heard ! _ (λ fit. heard ! _ (λ sized. split ! $ split ! $ keep ! (0 ∷ []) $
     let far : n * bytes < 2 ^ 64 = omega (arith, fit.0) in let laid = block_laid X n far in
-    enter ! _ _ _ _ _ $ alloc_all ! (λ l. pass_all ! refl ((tt, ((tt, tt), tt)), ((tt, record { fits = fits }), tt)) $
+    enter ! _ _ _ _ _ $ alloc_all ! (λ l. pass_all ! refl ((tt, ((tt, tt), tt)), ((tt, record { fits = fits }), ((tt, record { fits = mask_fits }), tt))) $
     let En : Env 𝓤 𝓛.H = env fn.locals l in
     let both : Body = head (after 4 fn.body) in
     let Then : After 𝓤 𝓛.H = any_q (after_seq 𝓤 𝓛.H (Wp 𝓤 𝓛.H 𝓣.C 𝓣.Λ En (after 5 fn.body) (at_return 𝓤 𝓛.H En Post)) (at_return 𝓤 𝓛.H En Post)) in
     sets ! (of_opd ! (get ! refl)) refl (tt, ((tt, tt), tt)) $
     sets ! (addr ! (from ! (stop !))) refl (tt, tt) $
     sets ! (is ! (bin ! (get ! refl) (size_word !) (record { fits = rw (product_is n bytes far) far })) (ap (vint w64) (product_is n bytes far))) refl (tt, record { fits = far }) $
-    take_at ! 3 $ handle_lent alloc (l 3) κ q ! tt (λ m.
-    let γ = m.0 ∷ κ in let Asked = Ask 𝓛 𝓜.mem 𝓡.returns in let z : Asked.Ghost = ask 𝓛 𝓜.mem 𝓡.returns γ m.1 (l 3, 0) alloc (n * bytes) al (block_type X n) in
-    use2 𝓛 (raw (Asked.pre z)) (asks 𝓛 𝓜.mem 𝓡.returns γ m.1 (l 3, 0) alloc (n * bytes) al (block_type X n) laid far (capped_fits (align τ))) $
+    take_at ! 4 $ handle_lent alloc (l 4) κ q ! tt (λ m.
+    let γ = m.0 ∷ κ in let Asked = Ask 𝓛 𝓜.mem 𝓡.returns in let z : Asked.Ghost = ask 𝓛 𝓜.mem 𝓡.returns γ m.1 (l 4, 0) alloc (n * bytes) al (block_type X n) in
+    use2 𝓛 (raw (Asked.pre z)) (asks 𝓛 𝓜.mem 𝓡.returns γ m.1 (l 4, 0) alloc (n * bytes) al (block_type X n) laid far (capped_fits (align τ))) $
     calls_at ! (framed 𝓤 𝓛.H 𝓜 𝓣) Asked (met 𝓤 𝓛 𝓜 𝓡 (code.calls-std_heap::GlobalAllocator::allocate 𝓡.env wired)) z
     (and_then ! (get ! refl) (and_then ! (get ! refl) (and_then ! (align_word !) (no_more !)))) (λ v.
-    use1 𝓛 (later (raw (Answered Handle 𝓛 𝓜.mem 𝓡.returns alloc (block_type X n) v) ⊛ ‵ (flft γ m.1))) (asked 𝓛 𝓜.mem 𝓡.returns γ m.1 (l 3, 0) alloc (n * bytes) al (block_type X n) v) $
-    await ! tt $ split ! $ move ! (1 ∷ 2 ∷ []) $ handle_back alloc (l 3) κ q ! tt m $ give_at ! 3 $
+    use1 𝓛 (later (raw (Answered Handle 𝓛 𝓜.mem 𝓡.returns alloc (block_type X n) v) ⊛ ‵ (flft γ m.1))) (asked 𝓛 𝓜.mem 𝓡.returns γ m.1 (l 4, 0) alloc (n * bytes) al (block_type X n) v) $
+    await ! tt $ split ! $ move ! (1 ∷ 2 ∷ []) $ handle_back alloc (l 4) κ q ! tt m $ give_at ! 4 $
     -- [the token; the answer]
     move ! (1 ∷ []) $ answers Handle ! 𝓜.mem 𝓡.returns alloc (block_type X n) v
     (λ b o answer.
-    let s = begun X b o n alloc (replicate n None) in let us = words b o n alloc ∷ [] in let long : length s.slots ≡ n = length-replicate n None in
-    let seen : (Seen X).Denot = record { slots = s.slots; changes = 0 } in let made : Val = words b o n alloc in
+    let s = begun X b o mask alloc (replicate n None) in let us = words b o mask alloc ∷ [] in let long : length s.slots ≡ n = length-replicate n None in
+    let seen : (Seen X).Denot = record { slots = s.slots; changes = 0 } in let made : Val = words b o mask alloc in
     let small : AreSmall X s.slots = subst (λ (k : ℕ). k * bytes < 2 ^ 63) (sym long) fit.0 in
-    let good : WT made = (tt, (record { fits = fits }, (((tt, tt), tt), tt))) in
+    let good : WT made = (tt, (record { fits = mask_fits }, (((tt, tt), tt), tt))) in
     lands_as ! answer refl (Answer-typed true b o) $ first ! $ switches_on ! (get_tag ! (vrt ! refl (fld ! refl (stop !))) (whole !)) $ exec ! 𝓣.C 𝓣.Λ En (arm_body 0 both) Then $
     sets ! (of_opd ! (get_in ! (vrt ! refl (fld ! refl (stop !))) (in_variant ! 0 0 refl refl (whole !)))) refl (tt, tt) $ sets ! (of_opd ! (get ! refl)) refl (tt, tt) $
     sets ! (of_opd ! (get ! refl)) refl (tt, ((tt, tt), tt)) $
@@ -108,12 +108,12 @@ in_block_spec 𝓤 𝓛 𝓜 𝓡 wired X L =
     as_written ! (ty_array τ n) b o $ use1 𝓛 (‵ (row (R X) b o s.slots)) (of_room X b 𝓛 n o) $
     rewrite ! 1 (λ (w : Bool). ‵ (right_if (R X) w alloc (block_ptr b o) n)) (sym (has_size bytes sized)) refl $
     rewrite ! 1 (λ (k : ℕ). ‵ (right (R X) alloc (block_ptr b o) k)) (sym long) refl $
-    fields_made X b o n alloc ! s.slots fits $ move ! (1 ∷ 2 ∷ 0 ∷ []) $
-    use3 𝓛 (‵ ((Seen X).own_val seen us)) (slots_made X 𝓛 b o s s.slots 0 seen us refl long small refl refl) $
+    fields_made X b o mask alloc ! s.slots mask_fits $ move ! (1 ∷ 2 ∷ 0 ∷ []) $
+    use3 𝓛 (‵ ((Seen X).own_val seen us)) (slots_made X 𝓛 b o s s.slots 0 seen us refl (long ∙ counted) small refl refl) $
     use1 𝓛 (‵ (Out.own_val (Ok seen) (live 0 (vcons made vnil) ∷ []))) (ok_of 𝓛 (Seen X) refusal.the_row seen made) $
     returns ! (look_at ! 0 refl) $ free_all ! refl $
-    suffices ! _ (ends_at 𝓛 ended stayed clauses y (live 0 (vcons made vnil)) (Ok seen) (tt, (tt, tt)) (tt, (tt, tt))) $ says ! refl $
-    move ! (1 ∷ []) $ nothing ! $ move ! (1 ∷ 0 ∷ []) $ join ! $ frame ! $ nothing ! $ nothing ! $ fjoin ! $ nothing ! $ fjoin ! $ frame ! $ done !)
+    suffices ! _ (ends_at 𝓛 ended stayed clauses y (live 0 (vcons made vnil)) (Ok seen) (tt, (tt, (tt, tt))) (tt, (tt, (tt, tt)))) $ says ! refl $
+    move ! (1 ∷ []) $ nothing ! $ move ! (1 ∷ 0 ∷ []) $ join ! $ frame ! $ nothing ! $ nothing ! $ fjoin ! $ nothing ! $ fjoin ! $ nothing ! $ fjoin ! $ frame ! $ done !)
     (λ answer.
     let none : Val = live 1 (vcons (vstruct vnil) vnil) in
     lands_as ! answer refl (Answer-typed false 0 0) $ first ! $ switches_on ! (get_tag ! (vrt ! refl (fld ! refl (stop !))) (whole !)) $ exec ! 𝓣.C 𝓣.Λ En (arm_body 1 both) Then $
@@ -123,5 +123,5 @@ in_block_spec 𝓤 𝓛 𝓜 𝓡 wired X L =
     owned ! Refusal (Is Refusal) (Struct-Makes 𝓛 (Declared.shape refusal.the_type) tt) tt (vstruct vnil ∷ []) (tt, (refl, tt)) $
     use1 𝓛 (‵ (Out.own_val (Err (record {})) (none ∷ []))) (err_of 𝓛 (Seen X) refusal.the_row (record {}) (vstruct vnil)) $
     returns ! (look_at ! 0 refl) $ free_all ! refl $
-    suffices ! _ (ends_at 𝓛 ended stayed clauses y none (Err (record {})) (tt, (tt, tt)) (tt, (tt, tt))) $ says ! tt $
-    move ! (1 ∷ []) $ nothing ! $ move ! (1 ∷ 0 ∷ []) $ join ! $ frame ! $ nothing ! $ nothing ! $ fjoin ! $ nothing ! $ fjoin ! $ frame ! $ done !)))))))
+    suffices ! _ (ends_at 𝓛 ended stayed clauses y none (Err (record {})) (tt, (tt, (tt, tt))) (tt, (tt, (tt, tt)))) $ says ! tt $
+    move ! (1 ∷ []) $ nothing ! $ move ! (1 ∷ 0 ∷ []) $ join ! $ frame ! $ nothing ! $ nothing ! $ fjoin ! $ nothing ! $ fjoin ! $ nothing ! $ fjoin ! $ frame ! $ done !))))))))

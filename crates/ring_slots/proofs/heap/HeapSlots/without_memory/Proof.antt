@@ -2,7 +2,7 @@
 use mathlib.Core.Path.{◌≡◌, refl, sym, ap, subst, ◌∙◌}
 use mathlib.Core.Bool.{Bool}
 use mathlib.Core.List.{[], ◌∷◌}
-use Prim.Native.Nat.{ℕ, ◌*◌, ◌<◌, ◌^◌}
+use Prim.Native.Nat.{ℕ, ◌+◌, ◌*◌, ◌%◌, ◌<◌, ◌^◌}
 use native.Mathlib.Omega.{arith}
 use native.Mathlib.Nat.{zero-mul, mul-zero}
 use lib.Dec.{eqb}
@@ -55,12 +55,12 @@ without_memory_spec 𝓤 𝓛 𝓜 𝓡 wired X L =
     (Goes-dropped 𝓛 1 (plain (λ _. heap.the_row)) yes (λ κs x w. refl), (Goes-dropped 𝓛 1 (plain (λ _. usize)) yes (λ κs x w. refl), tt))
     (contract.Key.name (layouts (a_type ∷ []) (X, tt))) fn (code.unfolded 𝓤 𝓛.H 𝓜 𝓡 wired (X, tt))
     (λ κs. ((λ h. heap_laws.lowered h ∷ []), (uint_vals w64, tt))) (λ κs. (heap_laws.lowers.val_is, (uint_Tells w64, tt))) (λ κs qs bounds a _ are.
-    let alloc = a.0 in let n = a.1.0 in let fits = are.1.0.1 in let τ = layout X in let vss : Vals ended.signature κs = (heap_laws.lowered alloc ∷ [], (uint_vals w64 n, tt)) in
+    let alloc = a.0 in let mask = a.1.0 in let n = (mask + 1) % 2 ^ 64 in let fits = are.1.0.1 in let τ = layout X in let vss : Vals ended.signature κs = (heap_laws.lowered alloc ∷ [], (uint_vals w64 mask, tt)) in
     qed 𝓛 ((raw (alive 𝓛 ended.signature κs qs) ⊛ ‵ (owns (types_at ended.signature.params κs) a vss))
     ∷ (raw (fact 𝓤 (κs.0 ⊑ X.lives)) ⊛ raw (fact 𝓤 (type_size (R X) ≡ 0))) ∷ []) ∵
     move ! (1 ∷ []) $ split ! $ drop ! $ heard ! _ (λ no_size. split ! $ keep ! (0 ∷ []) $
     enter ! _ _ _ _ _ $ alloc_all ! (λ l. pass_all ! refl ((tt, ((tt, tt), tt)), ((tt, record { fits = fits }), tt)) $
-    let b = l 4 in let s = begun X b 0 n alloc (replicate n None) in let us = words b 0 n alloc ∷ [] in
+    let b = l 4 in let s = begun X b 0 mask alloc (replicate n None) in let us = words b 0 mask alloc ∷ [] in
     sets ! (agg ! (no_more !)) refl (tt, tt) $
     sets ! (addr ! (from ! (stop !))) refl (tt, tt) $
     sets ! (addr ! (through ! refl (stop !))) refl (tt, tt) $
@@ -68,7 +68,7 @@ without_memory_spec 𝓤 𝓛 𝓜 𝓡 wired X L =
     sets ! (agg ! (and_then ! (get ! refl) (and_then ! (get ! refl) (and_then ! (get ! refl) (no_more !))))) refl (tt, (tt, (record { fits = fits }, (((tt, tt), tt), tt)))) $
     returns ! (look_at ! 0 refl) $ free_all ! refl $
     let same : size (ty_array τ n) ≡ size (ty_array τ 0) = ap (λ (k : ℕ). n * k) no_size ∙ mul-zero n ∙ sym (zero-mul (size τ)) in
-    fields_made X b 0 n alloc ! s.slots fits $
+    fields_made X b 0 mask alloc ! s.slots fits $
     nothing ! $ rewrite ! 0 (λ (y : Bool). ‵ (right_if (R X) y alloc (block_ptr b 0) n)) (sym (ap (λ (k : ℕ). eqb k 0) no_size)) refl $
     use0 𝓛 (‵ (froom (ty_array τ 0) b 0)) (𝓛.laws.room_nil τ b 0) $
     use1 𝓛 (‵ (froom (ty_array τ n) b 0) ⊛ raw (wand 𝓤 (𝓛.H.room (ty_array τ n) b 0) (𝓛.H.room (ty_array τ 0) b 0))) (𝓛.laws.room_as (ty_array τ 0) (ty_array τ n) b 0 same (dv_self (align τ))) $
@@ -77,5 +77,5 @@ without_memory_spec 𝓤 𝓛 𝓜 𝓡 wired X L =
     let seen : (Seen X).Denot = record { slots = s.slots; changes = 0 } in
     rewrite ! 1 (λ (k : ℕ). ‵ (right (R X) alloc (block_ptr b 0) k)) (sym long) refl $
     use3 𝓛 (‵ ((Seen X).own_val seen us)) (slots_made X 𝓛 b 0 s s.slots 0 seen us refl long (small_rows (length s.slots) (type_size (R X)) no_size) refl refl) $
-    suffices ! _ (ends_at 𝓛 ended stayed clauses ((κs, qs, bounds, a, vss), tt) (words b 0 n alloc) seen (tt, (tt, tt)) (tt, (tt, tt))) $ says ! refl $
+    suffices ! _ (ends_at 𝓛 ended stayed clauses ((κs, qs, bounds, a, vss), tt) (words b 0 mask alloc) seen (tt, (tt, tt)) (tt, (tt, tt))) $ says ! refl $
     nothing ! $ nothing ! $ fjoin ! $ nothing ! $ fjoin ! $ move ! (2 ∷ 0 ∷ 1 ∷ []) $ frame ! $ frame ! $ done !)))
