@@ -68,7 +68,8 @@ pub fn newest_first<R: RingBuffer<u32>>(alloc: Global, ring: &R) -> Result<Vec<u
 
 /// Whether every item is below a bound.
 pub fn all_below<R: RingBuffer<u32>>(ring: &R, bound: u32) -> bool
-    ensures { IsTrue result → All (λ x. x < bound) (R.contents ring.now) }
+    ensures only { IsTrue result → All (λ x. x < bound) (R.contents ring.now) }
+    ensures whenever { All (λ x. x < bound) (R.contents ring.now) → IsTrue result }
 {
     for x in RingBufferIterator::new(ring) {
         if *x >= bound {
