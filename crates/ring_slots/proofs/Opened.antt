@@ -59,6 +59,7 @@ module _ (X : RattleType) where
   abbrev pub AreSmall : List (Option X.Denot) → Type 0
   AreSmall cs = length cs * type_size R < 2 ^ 63
 
+  -- the mask tells the number of slots
   abbrev pub Counted : Inside.Denot → Type 0
   Counted s = length s.slots ≡ (s.mask + 1) % 2 ^ 64
 

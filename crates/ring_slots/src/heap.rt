@@ -104,7 +104,7 @@ impl<T: Drop> HeapSlots<T> {
 impl<T> HeapSlots<T> {
     // The number of slots.
     #[inline]
-    fn count(&self) -> usize
+    fn size(&self) -> usize
         ensures { result ≡ length self.now.slots }
     {
         self.mask.wrapping_add(1)
@@ -192,7 +192,7 @@ impl<T> Drop for HeapSlots<T> {
         if item_size::<T>() == 0 {
             self.forget();
         } else {
-            let size = self.count();
+            let size = HeapSlots::size(&self);
             self.free_block(size);
         }
     }
@@ -209,7 +209,7 @@ impl<T: Drop> SlotRow<T> for HeapSlots<T> {
 
     #[inline]
     fn size(&self) -> usize {
-        self.count()
+        HeapSlots::size(self)
     }
 
     #[inline]
