@@ -1,6 +1,6 @@
 //! Generic code over `RingBuffer<T>`, proved from the trait's contract alone.
 
-ghost use Rattle.std.specs.Prelude.{◌≡◌, ◌+◌, ◌%◌, ◌<◌, ◌^◌, [], ◌∷◌, ◌++◌, All, IfOk, IsSome, IsTrue, drop, map, reverse, slice_set, sum};
+ghost use Rattle.std.specs.Prelude.{◌≡◌, ◌+◌, ◌%◌, ◌<◌, ◌^◌, [], ◌∷◌, ◌++◌, All, IfOk, IfSome, IsSome, IsTrue, List, drop, length, map, reverse, slice_set, sum};
 ghost use Rattle.ringbuffer.specs.Contents.{ChangesSlots, keep_last};
 
 use ringbuffer::{
@@ -16,6 +16,20 @@ pub fn push_two<T: Drop, R: RingBuffer<T>>(ring: &mut R, x: T, y: T)
 {
     let _ = ring.push(x);
     let _ = ring.push(y);
+}
+
+/// Pushes an item onto a full ring, and what gave way for it onto a second ring: the oldest item moves over.
+pub fn push_through<T: Drop, R: RingBuffer<T>, S: RingBuffer<T>>(near: &mut R, far: &mut S, item: T)
+    requires full { IsSome (R.limit near.old) × IfSome (R.limit near.old) (λ n. length (R.contents near.old) ≡ n) }
+    requires limit { IsSome (S.limit far.old) }
+    ensures moved { (oldest : T) × (others : List T) × (R.contents near.old ≡ oldest ∷ others) × (R.contents near.new ≡ others ++ item ∷ []) × (S.contents far.new ≡ keep_last (S.limit far.old) (S.contents far.old ++ oldest ∷ [])) }
+    ensures limits { (R.limit near.new ≡ R.limit near.old) × (S.limit far.new ≡ S.limit far.old) }
+{
+    // Brings in that the limit is above zero.
+    let _ = near.len();
+    if let Ok(Some(oldest)) = near.push(item) {
+        let _ = far.push(oldest);
+    }
 }
 
 /// Pushes an item onto a ring with a limit, and then replaces the newest item, which is that one.

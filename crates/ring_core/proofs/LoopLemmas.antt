@@ -46,9 +46,9 @@ module _ {T : Type 0} {limit : Option ℕ} {start : List T} {all done todo : Lis
       rw (empty, append-nil) at h.parts
 
   -- One more command is answered.
-  pub replies_to-turn : (c : Command T) (r : Reply T) → HasDone limit start all done todo at limit' now before after → r ≡ reply_to now c
+  pub replies_to-turn : (c : Command T) (r : Reply T) → HasDone limit start all done todo at limit' now before after → r ≡ reply_to limit' now c
       → replies_to limit start (done ++ c ∷ []) ≡ replies_to limit start done ++ r ∷ []
-  replies_to-turn c r h is = rw (is, h.left) (replies_to-append limit start done (c ∷ []))
+  replies_to-turn c r h is = rw (is, h.same_limit, h.left) (replies_to-append limit start done (c ∷ []))
 
   -- While a command is to do, fewer are answered than there are.
   pub length-replies_so_far : (c : Command T) (rest : List (Command T)) → HasDone limit start all done todo at limit' now before after → todo ≡ c ∷ rest
@@ -59,7 +59,7 @@ module _ {T : Type 0} {limit : Option ℕ} {start : List T} {all done todo : Lis
 
   -- Its reply goes into the place with its number.
   pub places-turn : (c : Command T) (rest : List (Command T)) (replies next : List (Option (Reply T))) (r : Reply T) → HasDone limit start all done todo at limit' now before after → todo ≡ c ∷ rest
-      → replies ≡ places (length all) (replies_to limit start done) → r ≡ reply_to now c → next ≡ set replies at (Some r)
+      → replies ≡ places (length all) (replies_to limit start done) → r ≡ reply_to limit' now c → next ≡ set replies at (Some r)
       → next ≡ places (length all) (replies_to limit start (done ++ c ∷ []))
   places-turn c rest replies next r h first answered is written =
       let so_far = replies_to limit start done in

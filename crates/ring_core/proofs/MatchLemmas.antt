@@ -1,6 +1,6 @@
 -- What a run means by item numbers is what it means by lists: after k steps the contents are the items so far from the
 -- first held number on.
-use Rattle.std.proofs.Common.{◌≡◌, ℕ, zero, suc, ◌+◌, ◌-◌, ◌*◌, ◌<◌, ◌≤◌, max, true, false, nat_lt, if◌then◌else◌, List, [], ◌∷◌, ◌++◌, length, take, drop, map, slice_get, Option, Some, None, refl, inl, inr, sym, ap, ◌∙◌, add-zero, zero-add, append-nil, append_assoc, arith, length-append, length-drop}
+use Rattle.std.proofs.Common.{◌≡◌, ℕ, zero, suc, ◌+◌, ◌-◌, ◌*◌, ◌<◌, ◌≤◌, ◌==◌, ◌&&◌, max, true, false, nat_lt, if◌then◌else◌, List, [], ◌∷◌, ◌++◌, length, take, drop, map, slice_get, Option, Some, None, refl, inl, inr, sym, ap, ◌∙◌, add-zero, zero-add, append-nil, append_assoc, arith, length-append, length-drop}
 use Rattle.std.specs.List.{enumerate_from, filter_map, range_with_len}
 use Rattle.std.proofs.lemmas.Bool.{cases_lt}
 use Rattle.std.proofs.lemmas.Bool.Decides.{nat_tests}
@@ -9,12 +9,12 @@ use Rattle.std.proofs.lemmas.Option.{slice_get_past}
 use Rattle.std.proofs.lemmas.List.{drop-append-le, drop-drop, drop_all, drop_min, length_push, length-take-le, take-append-drop, take_all, take_at}
 use Rattle.ring_core.specs.declared.runs.Command.{Command}
 use Rattle.ring_core.specs.declared.runs.Command.TheVariants.{Push, Extend, Dequeue, Skip, Clear}
-use Rattle.ring_core.specs.declared.runs.Reply.TheVariants.{Dequeued}
-use Rattle.ring_core.specs.Contents.{ChangesSlots, IsWithin, keep_last, rest}
+use Rattle.ring_core.specs.declared.runs.Reply.TheVariants.{Dequeued, Pushed}
+use Rattle.ring_core.specs.Contents.{ChangesSlots, IsWithin, keep_last, overwritten, rest}
 use Rattle.ring_core.specs.Meaning.{after_all, after_one, puts, replies_to, reply_to}
-use Rattle.ring_core.specs.History.{ChangesFewSlots, Step, pushes, takes, clears, all_items, contents_after, number, oldest, pushed, replies_of, reply_after, steps, steps_of}
+use Rattle.ring_core.specs.History.{ChangesFewSlots, Step, pushes, takes, clears, all_items, contents_after, number, oldest, overwrites, overwritten_after, pushed, replies_of, reply_after, steps, steps_of}
 use Rattle.ring_core.proofs.MeaningLemmas.{after_all-append, slice_get-at}
-use Rattle.ring_core.proofs.HistoryLemmas.{IsRoom, IsWindow-held, first, first_next, head-first, held_numbers-window, pushed-take_more, pushed_by, removed-first}
+use Rattle.ring_core.proofs.HistoryLemmas.{IsRoom, IsWindow-held, first, first_next, head-first, held_numbers-window, pushed-take_more, pushed_by, removed-first, window}
 
 -- ---- lists
 
@@ -143,6 +143,21 @@ first-held f n xs ys count = elim (cases_lt f n) [
       rw (test, slice_get-drop) (sym (slice_get_past xs f (omega arith)))
 ]
 
+-- With a limit the next push overwrites the first of the held numbers, exactly where they are as many as the limit.
+overwritten-held : {T : Type 0} (c f n : ℕ) (xs ys : List T) → length xs ≡ n → f ≤ n → IsRoom (Some c) f n
+    → (if window f n (n - c) && overwrites (Some c) n (n - c) then slice_get (xs ++ ys) (n - c) else None) ≡ overwritten (Some c) (drop f xs)
+overwritten-held c f n xs ys count order room = elim (cases_lt (n - f) c) [
+  | inl fewer ↦
+      let test : (window f n (n - c) && (n - c + c == n)) ≡ false = grind (arith, nat_tests) in
+      let long : (length (drop f xs) == c) ≡ false = rw (length-drop, count) (grind (arith, nat_tests)) in
+      rw (test, long) refl
+  | inr full ↦
+      let first : n - c ≡ f = omega (arith, room.1) in
+      let test : (window f n f && (f + c == n)) ≡ true = grind (arith, nat_tests, room.0, room.1) in
+      let long : (length (drop f xs) == c) ≡ true = rw (length-drop, count) (grind (arith, nat_tests, room.1)) in
+      rw (first, test, long, slice_get-drop) (slice_get-append_left f xs ys (omega (arith, room.0)))
+]
+
 -- By induction on the first steps.
 pub pushed-append : {T : Type 0} (xs ys : List (Step T)) → pushed (xs ++ ys) ≡ pushed xs ++ pushed ys
 pushed-append [] ys = refl
@@ -162,6 +177,10 @@ pushed-steps_of (Extend items) = pushed-pushes items.items
 pushed-steps_of Dequeue = refl
 pushed-steps_of Skip = refl
 pushed-steps_of Clear = refl
+
+-- All items are those so far and those of the later steps.
+items_so_far : {T : Type 0} (start : List T) (ss : List (Step T)) (k : ℕ) → all_items start ss ≡ all_items start (take k ss) ++ pushed (drop k ss)
+items_so_far start ss k = rw (append_assoc, ← pushed-append (take k ss) (drop k ss), take-append-drop k ss) refl
 
 module _ {T : Type 0} (limit : Option ℕ) (start : List T) (ss : List (Step T)) (within : IsWithin start limit) where
   -- the items held after k steps
@@ -194,9 +213,18 @@ module _ {T : Type 0} (limit : Option ℕ) (start : List T) (ss : List (Step T))
   unfolding left_by
   oldest-left k =
       let so_far = all_items start (take k ss) in
-      let parts : all_items start ss ≡ so_far ++ pushed (drop k ss) =
-      rw (append_assoc, ← pushed-append (take k ss) (drop k ss), take-append-drop k ss) refl in
-      rw (head-first limit start ss within k, parts) (first-held (first limit start ss k) (number start ss k) so_far (pushed (drop k ss)) (length-append start (pushed (take k ss))))
+      rw (head-first limit start ss within k, items_so_far start ss k) (first-held (first limit start ss k) (number start ss k) so_far (pushed (drop k ss)) (length-append start (pushed (take k ss))))
+
+-- What the next push overwrites is what a push onto the items held overwrites.
+overwritten-left : {T : Type 0} (limit : Option ℕ) (start : List T) (ss : List (Step T)) (within : IsWithin start limit) (k : ℕ)
+    → overwritten_after limit start ss k ≡ overwritten limit (left_by limit start ss within k)
+unfolding left_by
+overwritten-left None start ss within k = refl
+overwritten-left (Some c) start ss within k =
+    let w = IsWindow-held (Some c) start ss within k in
+    let n = number start ss k in
+    let so_far = all_items start (take k ss) in
+    rw (w.is (n - c), items_so_far start ss k) (overwritten-held c (first (Some c) start ss k) n so_far (pushed (drop k ss)) (length-append start (pushed (take k ss))) w.order w.room)
 
 -- ---- a run of commands
 
@@ -230,8 +258,8 @@ module _ {T : Type 0} (limit : Option ℕ) (start : List T) (cs : List (Command 
       rw (held_numbers-window limit start ss within (length ss), items-from _ _ (all_items start ss) length-all_items w.order) (sym after_all-drop)
 
   -- A reply by numbers is the reply at the items held.
-  reply_after-left : (k : ℕ) (c : Command T) → reply_after limit start (steps cs) k c ≡ reply_to (left_by limit start (steps cs) within k) c
-  reply_after-left k (Push x) = refl
+  reply_after-left : (k : ℕ) (c : Command T) → reply_after limit start (steps cs) k c ≡ reply_to limit (left_by limit start (steps cs) within k) c
+  reply_after-left k (Push x) = ap Pushed (overwritten-left limit start (steps cs) within k)
   reply_after-left k (Extend items) = refl
   reply_after-left k Dequeue = ap Dequeued (oldest-left limit start (steps cs) within k)
   reply_after-left k Skip = refl
@@ -243,7 +271,7 @@ module _ {T : Type 0} (limit : Option ℕ) (start : List T) (cs : List (Command 
   replies-left done [] whole = refl
   replies-left done (c ∷ todo) whole =
       let at : take (length done) cs ≡ done = rw (← whole) (take_at done (c ∷ todo) (length done) refl) in
-      let here = reply_after-left (length (steps done)) c ∙ ap (λ l. reply_to l c) (sym (after_all-left done (c ∷ todo) whole)) in
+      let here = reply_after-left (length (steps done)) c ∙ ap (λ l. reply_to limit l c) (sym (after_all-left done (c ∷ todo) whole)) in
       let later = rw (length_push, after_all-append) at (replies-left (done ++ c ∷ []) todo (rw append_assoc whole)) in
       rw (at, here, later) refl
 

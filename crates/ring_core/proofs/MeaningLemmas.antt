@@ -17,7 +17,7 @@ module _ {T : Type 0} (limit : Option ℕ) where
   -- By induction on the first list.
   pub replies_to-append : (l : List T) (xs ys : List (Command T)) → replies_to limit l (xs ++ ys) ≡ replies_to limit l xs ++ replies_to limit (after_all limit l xs) ys
   replies_to-append l [] ys = refl
-  replies_to-append l (c ∷ xs) ys = ap (λ rs. reply_to l c ∷ rs) (replies_to-append (after_one limit l c) xs ys)
+  replies_to-append l (c ∷ xs) ys = ap (λ rs. reply_to limit l c ∷ rs) (replies_to-append (after_one limit l c) xs ys)
 
   -- There is one reply a command.
   pub length-replies_to : (l : List T) (cs : List (Command T)) → length (replies_to limit l cs) ≡ length cs

@@ -1,5 +1,5 @@
 -- Two runs worked out by item numbers: the numbers held after each step, what is left, and what is answered.
-use Rattle.std.specs.Prelude.{◌≡◌, ℕ, List, [], ◌∷◌, map, Some, refl}
+use Rattle.std.specs.Prelude.{◌≡◌, ℕ, List, [], ◌∷◌, map, None, Some, refl}
 use Rattle.std.specs.List.{range_with_len}
 use Rattle.ring_core.specs.declared.runs.Command.{Command}
 use Rattle.ring_core.specs.declared.runs.Command.TheVariants.{Push, Dequeue, Clear}
@@ -17,7 +17,7 @@ with_dequeue-held = refl
 pub with_dequeue-left : contents_after (Some 3) [] with_dequeue ≡ 2 ∷ 3 ∷ 4 ∷ []
 with_dequeue-left = refl
 
-pub with_dequeue-answered : replies_of (Some 3) [] with_dequeue ≡ Pushed ∷ Pushed ∷ Dequeued (Some 0) ∷ Pushed ∷ Pushed ∷ Pushed ∷ []
+pub with_dequeue-answered : replies_of (Some 3) [] with_dequeue ≡ Pushed None ∷ Pushed None ∷ Dequeued (Some 0) ∷ Pushed None ∷ Pushed None ∷ Pushed (Some 1) ∷ []
 with_dequeue-answered = refl
 
 -- with capacity 2 all are gone before the pushes of numbers 2 and 3, which overwrite nothing; that of number 4 overwrites item 2
@@ -31,5 +31,5 @@ with_clear-held = refl
 pub with_clear-left : contents_after (Some 2) [] with_clear ≡ 3 ∷ 4 ∷ []
 with_clear-left = refl
 
-pub with_clear-answered : replies_of (Some 2) [] with_clear ≡ Pushed ∷ Pushed ∷ Cleared ∷ Pushed ∷ Pushed ∷ Pushed ∷ []
+pub with_clear-answered : replies_of (Some 2) [] with_clear ≡ Pushed None ∷ Pushed None ∷ Cleared ∷ Pushed None ∷ Pushed None ∷ Pushed (Some 2) ∷ []
 with_clear-answered = refl

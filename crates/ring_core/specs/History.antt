@@ -1,6 +1,6 @@
 -- What a run of commands means by item numbers. Items are numbered in the order of their pushes, and a rule says which
 -- numbers are held after each step. It rests on the items at the start, the limit and the commands alone.
-use Rattle.std.specs.Prelude.{◌≡◌, ℕ, zero, suc, ◌+◌, ◌<◌, ◌≤◌, Bool, false, not, ◌&&◌, ◌||◌, ◌==◌, ◌↔◌, nat_lt, if◌then◌else◌, List, [], ◌∷◌, ◌++◌, length, take, map, filter, slice_get, Option, Some, None, IfSome, IsTrue}
+use Rattle.std.specs.Prelude.{◌≡◌, ℕ, zero, suc, ◌+◌, ◌-◌, ◌<◌, ◌≤◌, Bool, false, not, ◌&&◌, ◌||◌, ◌==◌, ◌↔◌, nat_lt, if◌then◌else◌, List, [], ◌∷◌, ◌++◌, length, take, map, filter, slice_get, Option, Some, None, IfSome, IsTrue}
 use Rattle.std.specs.List.{enumerate_from, filter_map, flat_map, range_with_len}
 use Rattle.ring_core.specs.declared.runs.Command.{Command}
 use Rattle.ring_core.specs.declared.runs.Command.TheVariants.{Push, Extend, Dequeue, Skip, Clear}
@@ -81,6 +81,14 @@ abbrev pub oldest : {T : Type 0} → Option ℕ → List T → List (Step T) →
 oldest limit start ss k =
     if nat_lt (head limit start ss k) (number start ss k) then slice_get (all_items start ss) (head limit start ss k) else None
 
+-- the item whose number the next push after k steps overwrites, if that number is held
+abbrev pub overwritten_after : {T : Type 0} → Option ℕ → List T → List (Step T) → ℕ → Option T
+overwritten_after None start ss k = None
+overwritten_after (Some capacity) start ss k =
+    let n = number start ss k in
+    let i = n - capacity in
+    if held (Some capacity) start ss k i && overwrites (Some capacity) n i then slice_get (all_items start ss) i else None
+
 -- the items whose numbers are held after the run, in the order of their pushes
 abbrev pub contents_after : {T : Type 0} → Option ℕ → List T → List (Command T) → List T
 contents_after limit start cs =
@@ -88,7 +96,7 @@ contents_after limit start cs =
 
 -- what a command answers that comes after k steps
 abbrev pub reply_after : {T : Type 0} → Option ℕ → List T → List (Step T) → ℕ → Command T → Reply T
-reply_after limit start ss k (Push x) = Pushed
+reply_after limit start ss k (Push x) = Pushed (overwritten_after limit start ss k)
 reply_after limit start ss k (Extend items) = Extended
 reply_after limit start ss k Dequeue = Dequeued (oldest limit start ss k)
 reply_after limit start ss k Skip = Skipped

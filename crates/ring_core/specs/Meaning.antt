@@ -9,7 +9,7 @@ use Rattle.ring_core.specs.declared.runs.Refused.{Refused}
 use Rattle.ring_core.specs.declared.runs.Refused.TheVariants as refused
 use Rattle.ring_core.specs.declared.runs.RunFault.{RunFault}
 use Rattle.ring_core.specs.declared.runs.RunFault.TheVariants as fault
-use Rattle.ring_core.specs.Contents.{keep_last, rest, IsCut}
+use Rattle.ring_core.specs.Contents.{keep_last, overwritten, rest, IsCut}
 
 -- the items that a command pushes
 abbrev pub puts : {T : Type 0} → Command T → List T
@@ -28,12 +28,12 @@ after_one limit l Skip = rest l
 after_one limit l Clear = []
 
 -- what a command answers at the contents l
-abbrev pub reply_to : {T : Type 0} → List T → Command T → Reply T
-reply_to l (Push x) = Pushed
-reply_to l (Extend items) = Extended
-reply_to l Dequeue = Dequeued (slice_get l 0)
-reply_to l Skip = Skipped
-reply_to l Clear = Cleared
+abbrev pub reply_to : {T : Type 0} → Option ℕ → List T → Command T → Reply T
+reply_to limit l (Push x) = Pushed (overwritten limit l)
+reply_to limit l (Extend items) = Extended
+reply_to limit l Dequeue = Dequeued (slice_get l 0)
+reply_to limit l Skip = Skipped
+reply_to limit l Clear = Cleared
 
 -- what the commands leave, one after the other
 abbrev pub after_all : {T : Type 0} → Option ℕ → List T → List (Command T) → List T
@@ -43,7 +43,7 @@ after_all limit l (c ∷ cs) = after_all limit (after_one limit l c) cs
 -- what they answer
 abbrev pub replies_to : {T : Type 0} → Option ℕ → List T → List (Command T) → List (Reply T)
 replies_to limit l [] = []
-replies_to limit l (c ∷ cs) = reply_to l c ∷ replies_to limit (after_one limit l c) cs
+replies_to limit l (c ∷ cs) = reply_to limit l c ∷ replies_to limit (after_one limit l c) cs
 
 -- a slice of n places that begins with these replies and holds no other
 abbrev pub places : {T : Type 0} → ℕ → List (Reply T) → List (Option (Reply T))

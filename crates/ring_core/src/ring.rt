@@ -5,15 +5,16 @@ ghost use Rattle.std.specs.Borrow.{LendsIf, sem};
 ghost use Rattle.std.specs.Iterator.{IsFiniteIterable};
 ghost use Rattle.std.specs.List.{AllZip, FoldsTo, list_any};
 ghost use Rattle.std.specs.Option.{option_copied, option_copied_mut};
-ghost use Rattle.ring_core.specs.Contents.{ChangesSlots, IsWithin, keep_last, place, rest, signed_place};
+ghost use Rattle.ring_core.specs.Contents.{ChangesSlots, IsWithin, keep_last, overwritten, place, rest, signed_place};
 ghost use Rattle.ring_core.specs.Extension.{Extends};
 
 use std::alloc::{AllocError, Global};
 
 /// A ring buffer: items in the order of their pushes, oldest first, within the ring's limit if it has one.
 ///
-/// With a limit, as in `ConstGenericRingBuffer` and `AllocRingBuffer`, a push into a full ring drops the oldest item,
-/// and no push is refused. Without one, as in `GrowableAllocRingBuffer`, a push may be refused for want of memory.
+/// With a limit, as in `ConstGenericRingBuffer` and `AllocRingBuffer`, a push onto a full ring takes out the oldest item
+/// and hands it back, and no push is refused. Without one, as in `GrowableAllocRingBuffer`, a push may be refused for
+/// want of memory.
 ///
 /// A contract sees a ring as its contents, its limit and, with a limit, the number of times that a slot was changed.
 /// A position is taken modulo the length, and the remainder is never negative: 0 is the oldest item, -1 the newest.
@@ -42,8 +43,8 @@ pub trait RingBuffer<T: Drop>: Sized {
         self.len() == 0
     }
 
-    /// Whether the ring holds as many items as `capacity` says. The next push into a full ring drops the oldest item if
-    /// the ring has a limit, and asks for memory if it has none.
+    /// Whether the ring holds as many items as `capacity` says. The next push onto a full ring takes out the oldest item
+    /// if the ring has a limit, and asks for memory if it has none.
     fn is_full(&self) -> bool
         ensures { IfSome (limit self.now) (λ n. IsTrue result ↔ (length (contents self.now) ≡ n)) }
     {
@@ -62,12 +63,13 @@ pub trait RingBuffer<T: Drop>: Sized {
         ensures room { IfSome (limit self.now) (λ n. n ≤ result) }
         ensures holds { length (contents self.now) ≤ result };
 
-    /// Puts the item last. A ring that is at its limit drops its oldest item for it.
+    /// Puts the item last. A ring that is at its limit hands back its oldest item, which gave way for it.
     ///
     /// # Errors
     ///
-    /// Hands the item back where memory was refused, which no ring with a limit meets.
-    fn push(&mut self, item: T) -> Result<(), T>
+    /// Hands `item` back where memory was refused, which no ring with a limit meets.
+    fn push(&mut self, item: T) -> Result<Option<T>, T>
+        ensures overwrites { IfOk result (λ old. old ≡ overwritten (limit self.old) (contents self.old)) }
         ensures ok { OnOk result (contents self.new ≡ keep_last (limit self.old) (contents self.old ++ item ∷ [])) }
         ensures err { IfErr result (λ x. (x ≡ item) × (contents self.new ≡ contents self.old)) }
         ensures limit { limit self.new ≡ limit self.old }
@@ -79,7 +81,8 @@ pub trait RingBuffer<T: Drop>: Sized {
     /// # Errors
     ///
     /// As `push`.
-    fn enqueue(&mut self, item: T) -> Result<(), T>
+    fn enqueue(&mut self, item: T) -> Result<Option<T>, T>
+        ensures overwrites { IfOk result (λ old. old ≡ overwritten (limit self.old) (contents self.old)) }
         ensures ok { OnOk result (contents self.new ≡ keep_last (limit self.old) (contents self.old ++ item ∷ [])) }
         ensures err { IfErr result (λ x. (x ≡ item) × (contents self.new ≡ contents self.old)) }
         ensures limit { limit self.new ≡ limit self.old }
@@ -172,9 +175,9 @@ pub trait RingBuffer<T: Drop>: Sized {
     {
         self.clear();
         for _ in 0..self.capacity() {
-            let Ok(()) = self.push(value.clone()?) else {
+            if let Err(_) = self.push(value.clone()?) {
                 return Err(AllocError);
-            };
+            }
         }
         Ok(())
     }
@@ -199,7 +202,7 @@ pub trait RingBuffer<T: Drop>: Sized {
         ensures value { option_copied_mut result ≡ slice_get (contents self.old) (signed_place (length (contents self.old)) index) }
         ensures none { IsNone result ↔ (contents self.old ≡ []) };
 
-    /// The oldest item. It is the next to be dropped by a push only if the ring is full.
+    /// The oldest item. The next push overwrites it only if the ring is full and has a limit.
     fn peek(&self) -> Option<&T>
         ensures { option_copied result ≡ slice_get (contents self.now) 0 }
     {

@@ -26,8 +26,8 @@ pub enum Command<T> {
 /// What a command answers once it is done.
 #[derive(Debug, PartialEq, Drop)]
 pub enum Reply<T> {
-    /// To `Push`.
-    Pushed,
+    /// To `Push`: the item that gave way, or `None` if no item did.
+    Pushed(Option<T>),
     /// To `Extend`.
     Extended,
     /// To `Dequeue`: the item, or `None` if the ring was empty.
@@ -78,7 +78,7 @@ pub fn apply<T: Drop, R: RingBuffer<T>>(
     command: Command<T>,
 ) -> Result<Reply<T>, Refused<T>>
     ensures contents { OnOk result (R.contents ring.new ≡ after_one (R.limit ring.old) (R.contents ring.old) command) }
-    ensures reply { IfOk result (λ reply. reply ≡ reply_to (R.contents ring.old) command) }
+    ensures reply { IfOk result (λ reply. reply ≡ reply_to (R.limit ring.old) (R.contents ring.old) command) }
     ensures refused { IfErr result (IsRefused command (R.contents ring.old) (R.contents ring.new)) }
     ensures limit { R.limit ring.new ≡ R.limit ring.old }
     ensures changes { IsSome (R.limit ring.old) → ChangesSlots (R.slot_changes ring.old) (R.contents ring.old) (R.slot_changes ring.new) (R.contents ring.new) (length (puts command)) }
@@ -86,7 +86,7 @@ pub fn apply<T: Drop, R: RingBuffer<T>>(
 {
     match command {
         Command::Push(item) => match ring.push(item) {
-            Ok(()) => Ok(Reply::Pushed),
+            Ok(old) => Ok(Reply::Pushed(old)),
             Err(item) => Err(Refused::Push(item)),
         },
         Command::Extend(items) => match ring.extend(items) {

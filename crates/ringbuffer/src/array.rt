@@ -5,7 +5,7 @@ ghost use Rattle.std.specs.Cmp.{on_per};
 ghost use Rattle.std.specs.Cmp.Lexicographic.{lists_per, pointwise};
 ghost use Rattle.std.specs.List.{AllZip};
 ghost use Rattle.std.proofs.lemmas.Cmp.{lists_equiv, on_equiv};
-ghost use Rattle.ring_core.specs.Contents.{ChangesSlots, keep_last, place};
+ghost use Rattle.ring_core.specs.Contents.{ChangesSlots, keep_last, overwritten, place};
 ghost use Rattle.ring_core.specs.Walk.{ReadsInOrder, ReadsInReverse, StartsOver, unmoved, unread};
 ghost use Rattle.ringbuffer.specs.Held.{pushed, written};
 
@@ -94,7 +94,8 @@ impl<T: Drop, const CAP: usize> RingBuffer<T> for ConstGenericRingBuffer<T, CAP>
     }
 
     #[inline]
-    fn push(&mut self, item: T) -> Result<(), T>
+    fn push(&mut self, item: T) -> Result<Option<T>, T>
+        ensures overwrites { IfOk result (λ old. old ≡ overwritten (Some CAP) self.old.items) }
         ensures ok { OnOk result (self.new.items ≡ keep_last (Some CAP) (self.old.items ++ item ∷ [])) }
         ensures err { IfErr result (λ x. (x ≡ item) × (self.new.items ≡ self.old.items)) }
         ensures changes { IsSome (Some CAP) → ChangesSlots self.old.changes self.old.items self.new.changes self.new.items 1 }
@@ -104,8 +105,7 @@ impl<T: Drop, const CAP: usize> RingBuffer<T> for ConstGenericRingBuffer<T, CAP>
         // The count that the trait shows is the count of the slots themselves.
         ensures counts { ⟦<ConstGenericRingBuffer<T, CAP> as RingBuffer<T>>⟧.slot_changes self.new ≡ self.new.changes }
     {
-        self.ring.push(item, CAP);
-        Ok(())
+        Ok(self.ring.push(item, CAP))
     }
 
     fn extend<I: IntoIterator<Item = T>>(&mut self, items: I) -> Result<(), AllocError>

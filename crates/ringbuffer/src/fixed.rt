@@ -4,7 +4,7 @@ ghost use Rattle.std.specs.Borrow.{sem};
 ghost use Rattle.std.specs.Iterator.{Drains, IsFiniteIterable};
 ghost use Rattle.std.specs.List.{FoldsTo};
 ghost use Rattle.std.specs.Option.{option_copied};
-ghost use Rattle.ring_core.specs.Contents.{place, signed_place};
+ghost use Rattle.ring_core.specs.Contents.{overwritten, place, signed_place};
 ghost use Rattle.ringbuffer.specs.Held.{put_last, taken_first, pushed, extended, emptied, refilled};
 ghost use Rattle.ringbuffer.specs.Layout.{Lies, Becomes, shown};
 
@@ -42,22 +42,30 @@ impl<T: Drop, S: SlotRow<T>> Fixed<T, S> {
         }
     }
 
-    /// Pushes an item. At the capacity the first item gives way, and is dropped.
+    /// Pushes an item. At the capacity the first item gives way, and is handed back.
     #[inline]
-    pub(crate) fn push(&mut self, item: T, capacity: usize)
+    pub(crate) fn push(&mut self, item: T, capacity: usize) -> Option<T>
         requires sound { IsSound S.seen S.is_size self.old }
         requires some { 0 < capacity }
         requires within { self.old.len ≤ capacity }
         requires room { capacity ≤ size_of S.seen self.old }
-        ensures { Turns S.seen S.is_size self.old self.new (pushed capacity (held S.seen self.old) item) }
+        ensures value { result ≡ overwritten (Some capacity) (held S.seen self.old).items }
+        ensures after { Turns S.seen S.is_size self.old self.new (pushed capacity (held S.seen self.old) item) }
     {
         let before = self.len;
-        let (start, len) = Self::push_from(&mut self.slots, self.start, before, item, capacity);
+        let (start, len, old) = Self::push_from(
+            &mut self.slots,
+            self.start,
+            before,
+            item,
+            capacity,
+        );
         self.start = start;
         // A full ring keeps its length, and has one store less to make.
         if len != before {
             self.len = len;
         }
+        old
     }
 
     /// Takes out the first item, if there is one.
@@ -105,7 +113,9 @@ impl<T: Drop, S: SlotRow<T>> Fixed<T, S> {
         let mut start = self.start;
         let mut len = self.len;
         for item in items {
-            (start, len) = Self::push_from(&mut self.slots, start, len, item, capacity);
+            let old;
+            (start, len, old) = Self::push_from(&mut self.slots, start, len, item, capacity);
+            drop(old);
         }
         self.start = start;
         self.len = len;
@@ -168,7 +178,7 @@ impl<T: Drop, S: SlotRow<T>> Fixed<T, S> {
         self.slots.get_mut(place)
     }
 
-    // Pushes an item onto `len` items, and answers the start and the length after it.
+    // Pushes an item onto `len` items. Returns the start and the length after it, and the item that gave way.
     #[inline]
     fn push_from(
         slots: &mut S,
@@ -176,7 +186,7 @@ impl<T: Drop, S: SlotRow<T>> Fixed<T, S> {
         len: usize,
         item: T,
         capacity: usize,
-    ) -> (usize, usize)
+    ) -> (usize, usize, Option<T>)
         requires lies { Lies S.is_size (S.seen slots.old) start }
         requires len { len ≡ length (shown (S.seen slots.old) start).items }
         requires some { 0 < capacity }
@@ -184,12 +194,14 @@ impl<T: Drop, S: SlotRow<T>> Fixed<T, S> {
         requires room { capacity ≤ length (S.seen slots.old).slots }
         ensures after { Becomes S.is_size (S.seen slots.old) (S.seen slots.new) result.0 (pushed capacity (shown (S.seen slots.old) start) item) }
         ensures len { result.1 ≡ length (pushed capacity (shown (S.seen slots.old) start) item).items }
+        ensures value { result.2 ≡ overwritten (Some capacity) (shown (S.seen slots.old) start).items }
     {
         if len == capacity {
-            (Self::put_over(slots, start, len, item), len)
+            let (next, old) = Self::put_over(slots, start, len, item);
+            (next, len, Some(old))
         } else {
             Self::put_after(slots, start, len, item);
-            (start, len + 1)
+            (start, len + 1, None)
         }
     }
 
@@ -205,18 +217,19 @@ impl<T: Drop, S: SlotRow<T>> Fixed<T, S> {
         slots.put(place, item);
     }
 
-    // Puts an item after the last once the first has given way, and answers the next start.
+    // Puts an item after the last once the first has given way. Returns the next start and the item that was first.
     #[inline]
-    fn put_over(slots: &mut S, start: usize, len: usize, item: T) -> usize
+    fn put_over(slots: &mut S, start: usize, len: usize, item: T) -> (usize, T)
         requires lies { Lies S.is_size (S.seen slots.old) start }
         requires len { len ≡ length (shown (S.seen slots.old) start).items }
         requires some { 0 < len }
-        ensures { Becomes S.is_size (S.seen slots.old) (S.seen slots.new) result (put_last (taken_first (shown (S.seen slots.old) start)) item) }
+        ensures value { slice_get (shown (S.seen slots.old) start).items 0 ≡ Some result.1 }
+        ensures after { Becomes S.is_size (S.seen slots.old) (S.seen slots.new) result.0 (put_last (taken_first (shown (S.seen slots.old) start)) item) }
     {
         let place = slots.place_after(start, len);
-        let (next, _) = Self::take_from(slots, start);
+        let (next, old) = Self::take_from(slots, start);
         slots.put(place, item);
-        next
+        (next, old)
     }
 
     // Takes the first item, and answers the next start before it.

@@ -124,9 +124,9 @@ impl<T: Drop> RingBuffer<T> for GrowableAllocRingBuffer<T> {
         self.deque.capacity()
     }
 
-    fn push(&mut self, item: T) -> Result<(), T> {
+    fn push(&mut self, item: T) -> Result<Option<T>, T> {
         match self.deque.push_back(item) {
-            Ok(()) => Ok(()),
+            Ok(()) => Ok(None),
             Err(failed) => Err(failed.value),
         }
     }

@@ -6,7 +6,7 @@ ghost use Rattle.std.specs.Cmp.{and_per, on_per, partial_equiv_from_equiv};
 ghost use Rattle.std.specs.Cmp.Lexicographic.{lists_per, pointwise};
 ghost use Rattle.std.specs.List.{AllZip};
 ghost use Rattle.std.proofs.lemmas.Cmp.{and_equiv, lists_equiv, nat_eq_equiv, on_equiv};
-ghost use Rattle.ring_core.specs.Contents.{place};
+ghost use Rattle.ring_core.specs.Contents.{overwritten, place};
 ghost use Rattle.ring_core.specs.Walk.{ReadsInOrder, ReadsInReverse, StartsOver, unmoved, unread};
 ghost use Rattle.ringbuffer.specs.Held.{pushed, written};
 
@@ -139,7 +139,8 @@ impl<T: Drop> RingBuffer<T> for AllocRingBuffer<T> {
     }
 
     #[inline]
-    fn push(&mut self, item: T) -> Result<(), T>
+    fn push(&mut self, item: T) -> Result<Option<T>, T>
+        ensures overwrites { IfOk result (λ old. old ≡ overwritten (Some self.old.capacity) self.old.held.items) }
         ensures pushes { self.new ≡ record self.old { held = pushed self.old.capacity self.old.held item } }
         ensures ok { IsOk result }
 
@@ -148,13 +149,13 @@ impl<T: Drop> RingBuffer<T> for AllocRingBuffer<T> {
     {
         let len = self.ring.len;
         let capacity = self.capacity;
-        self.ring.push(item, capacity);
+        let old = self.ring.push(item, capacity);
         // A full ring keeps its length, so this never happens. It is there for the compiler, which can't tell the item's
         // slot from the ring's own fields: a length that is compared again stays in a register in a loop of pushes.
         if len == capacity && self.ring.len != len {
             None.unwrap()
         }
-        Ok(())
+        Ok(old)
     }
 
     fn extend<I: IntoIterator<Item = T>>(&mut self, items: I) -> Result<(), AllocError>

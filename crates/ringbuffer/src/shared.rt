@@ -1,6 +1,6 @@
 //! What the ring types share: comparing two rings, and pushing clones.
 
-ghost use Rattle.std.specs.Prelude.{◌≡◌, ◌++◌, IsOk, IsSome, List, OnOk, length, map};
+ghost use Rattle.std.specs.Prelude.{◌≡◌, [], ◌∷◌, ◌++◌, IsOk, IsSome, List, OnOk, length, map};
 ghost use Rattle.std.specs.Cmp.Lexicographic.{pointwise};
 ghost use Rattle.std.specs.Borrow.{Bor};
 ghost use Rattle.std.specs.Iterator.{Drains, IsFinite};
@@ -16,6 +16,18 @@ pub fn same_items<T: PartialEq + Drop, R: RingBuffer<T>>(a: &R, b: &R) -> bool
     ensures { result ≡ pointwise T.eq (R.contents a.now) (R.contents b.now) }
 {
     a.len() == b.len() && RingBufferIterator::new(a).eq(RingBufferIterator::new(b))
+}
+
+// Pushes an item, and drops the one that it overwrites. An item that is refused is dropped too.
+fn push_item<T: Drop, R: RingBuffer<T>>(ring: &mut R, item: T) -> Result<(), AllocError>
+    ensures contents { OnOk result (R.contents ring.new ≡ keep_last (R.limit ring.old) (R.contents ring.old ++ item ∷ [])) }
+    ensures limit { R.limit ring.new ≡ R.limit ring.old }
+    ensures succeeds { IsSome (R.limit ring.old) → IsOk result }
+{
+    match ring.push(item) {
+        Ok(_) => Ok(()),
+        Err(_) => Err(AllocError),
+    }
 }
 
 /// Pushes a clone of each item of a source that ends, in order.
@@ -34,9 +46,7 @@ pub fn extend_cloned<'a, T: Clone + Drop + 'a, I: Iterator<Item = &'a T>, R: Rin
 {
     let _held = ring.len();
     for item in items {
-        if let Err(_) = ring.push(item.clone()?) {
-            return Err(AllocError);
-        }
+        push_item(ring, item.clone()?)?;
     }
     Ok(())
 }
@@ -59,9 +69,7 @@ pub fn extend_somes<T: Drop, R: RingBuffer<T>, const N: usize>(
     let mut items = items;
     for i in 0..N {
         if let Some(item) = items[i].take() {
-            if let Err(_) = ring.push(item) {
-                return Err(AllocError);
-            }
+            push_item(ring, item)?;
         }
     }
     Ok(())

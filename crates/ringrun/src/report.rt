@@ -3,7 +3,7 @@
 use ringbuffer::{Reply, RingBuffer, RingBufferIterator};
 use std::alloc::{AllocError, Global};
 
-// Most lines that answer a command are no longer than this.
+// The room that the text has at first for each line that answers a command.
 const USUAL_LINE: usize = b"extended\n".len();
 
 /// The text that answers a run: a line for each reply, and then a line for the items that the ring holds.
@@ -26,7 +26,8 @@ pub fn text<R: RingBuffer<i64>>(
 
 fn push_reply(text: &mut String, reply: &Reply<i64>) -> Result<(), AllocError> {
     match reply {
-        Reply::Pushed => text.push_str("pushed\n"),
+        Reply::Pushed(None) => text.push_str("pushed\n"),
+        Reply::Pushed(Some(old)) => writeln!(text, "pushed over {old}"),
         Reply::Extended => text.push_str("extended\n"),
         Reply::Dequeued(Some(item)) => writeln!(text, "dequeued {item}"),
         Reply::Dequeued(None) => text.push_str("dequeued none\n"),

@@ -29,6 +29,67 @@ fn a_full_ring_keeps_the_newest(rt: HostRuntime) -> Result<(), AllocError> {
 }
 
 #[test]
+fn a_push_hands_back_what_it_overwrote(rt: HostRuntime) -> Result<(), AllocError> {
+    fn on<R: RingBuffer<i64> + Drop>(rt: &impl Abort, mut ring: R) {
+        for (item, overwritten) in [(5, None), (42, None), (1, Some(5))] {
+            assert_eq!(rt; ring.push(item), Ok(overwritten), "the push of {item}");
+        }
+        for (item, overwritten) in [(6, 42), (7, 1)] {
+            assert_eq!(rt;
+                ring.enqueue(item),
+                Ok(Some(overwritten)),
+                "the push of {item}"
+            );
+        }
+    }
+    on(&rt, ConstGenericRingBuffer::<i64, 2>::new());
+    on(&rt, AllocRingBuffer::new(rt.alloc(), 2)?);
+    Ok(())
+}
+
+#[test]
+fn a_push_after_a_dequeue_hands_nothing_back(rt: HostRuntime) -> Result<(), AllocError> {
+    fn on<R: RingBuffer<i64> + Drop>(rt: &impl Abort, mut ring: R) {
+        push_all(rt, &mut ring, &[0, 1]);
+        assert_eq!(rt; ring.dequeue(), Some(0));
+        for (item, overwritten) in [(2, None), (3, None), (4, Some(1))] {
+            assert_eq!(rt; ring.push(item), Ok(overwritten), "the push of {item}");
+        }
+        assert_gives(rt, &mut ring, &[2, 3, 4]);
+    }
+    on(&rt, ConstGenericRingBuffer::<i64, 3>::new());
+    on(&rt, AllocRingBuffer::new(rt.alloc(), 3)?);
+    Ok(())
+}
+
+#[test]
+fn a_push_after_a_clear_hands_nothing_back(rt: HostRuntime) -> Result<(), AllocError> {
+    fn on<R: RingBuffer<i64> + Drop>(rt: &impl Abort, mut ring: R) {
+        for item in [0, 1] {
+            assert_eq!(rt; ring.push(item), Ok(None), "the push of {item}");
+        }
+        ring.clear();
+        for (item, overwritten) in [(2, None), (3, None), (4, Some(2))] {
+            assert_eq!(rt; ring.push(item), Ok(overwritten), "the push of {item}");
+        }
+        assert_gives(rt, &mut ring, &[3, 4]);
+    }
+    on(&rt, ConstGenericRingBuffer::<i64, 2>::new());
+    on(&rt, AllocRingBuffer::new(rt.alloc(), 2)?);
+    Ok(())
+}
+
+#[test]
+fn a_push_without_a_limit_hands_nothing_back(rt: HostRuntime) -> Result<(), AllocError> {
+    let mut ring = GrowableAllocRingBuffer::with_capacity(rt.alloc(), 2)?;
+    for item in [1, 2, 3] {
+        assert_eq!(rt; ring.push(item), Ok(None), "the push of {item}");
+    }
+    assert_gives(&rt, &mut ring, &[1, 2, 3]);
+    Ok(())
+}
+
+#[test]
 fn a_new_ring_is_empty(rt: HostRuntime) -> Result<(), AllocError> {
     fn on<R: RingBuffer<i64> + Drop>(rt: &impl Abort, ring: R) {
         assert_eq!(rt; ring.capacity(), 8);

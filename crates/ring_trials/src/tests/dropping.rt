@@ -21,7 +21,56 @@ fn push_first<'a, R: RingBuffer<Counted<'a>>>(
 }
 
 #[test]
-fn a_push_drops_what_it_overwrites(rt: HostRuntime) -> Result<(), AllocError> {
+fn what_a_push_hands_back_lives_until_it_is_dropped(rt: HostRuntime) -> Result<(), AllocError> {
+    fn on<'a, R: RingBuffer<Counted<'a>> + Drop>(
+        rt: &impl Abort,
+        mut ring: R,
+        drops: &'a Drops,
+        overwrites: bool,
+    ) {
+        push_first(rt, &mut ring, drops, 1);
+        for (old, number) in [(0, 1), (1, 2)] {
+            let Ok(overwritten) = ring.push(drops.item(rt, number)) else {
+                panic!(rt; "the push of {number} was refused");
+            };
+            assert_eq!(rt; drops.of(rt, old), 0);
+            match overwritten {
+                Some(item) => {
+                    assert!(rt; overwrites);
+                    assert_eq!(rt; item.number, old);
+                    drop(item);
+                    assert_eq!(rt; drops.of(rt, old), 1);
+                }
+                None => assert!(rt; !overwrites),
+            }
+            assert_eq!(rt; drops.of(rt, number), 0);
+        }
+        drop(ring);
+        drops.assert_each_once(rt);
+    }
+    let drops = Drops::new(rt.alloc(), 3)?;
+    on(
+        &rt,
+        ConstGenericRingBuffer::<Counted, 1>::new(),
+        &drops,
+        true,
+    );
+    let drops = Drops::new(rt.alloc(), 3)?;
+    on(&rt, AllocRingBuffer::new(rt.alloc(), 1)?, &drops, true);
+    let drops = Drops::new(rt.alloc(), 3)?;
+    on(
+        &rt,
+        GrowableAllocRingBuffer::with_capacity(rt.alloc(), 1)?,
+        &drops,
+        false,
+    );
+    Ok(())
+}
+
+#[test]
+fn what_a_push_hands_back_is_dropped_at_once_if_nobody_takes_it(
+    rt: HostRuntime,
+) -> Result<(), AllocError> {
     fn on<'a, R: RingBuffer<Counted<'a>> + Drop>(
         rt: &impl Abort,
         mut ring: R,
@@ -29,18 +78,23 @@ fn a_push_drops_what_it_overwrites(rt: HostRuntime) -> Result<(), AllocError> {
         overwritten: u8,
     ) {
         push_first(rt, &mut ring, drops, 1);
-        assert_eq!(rt; drops.of(rt, 0), 0);
-        assert!(rt; ring.push(drops.item(rt, 1)).is_ok());
+        let _ = ring.push(drops.item(rt, 1));
         assert_eq!(rt; drops.of(rt, 0), overwritten);
         assert_eq!(rt; drops.of(rt, 1), 0);
+        let _ = ring.enqueue(drops.item(rt, 2));
+        assert_eq!(rt; drops.of(rt, 1), overwritten);
+        assert_eq!(rt; drops.of(rt, 2), 0);
+        let _ = apply(&mut ring, Command::Push(drops.item(rt, 3)));
+        assert_eq!(rt; drops.of(rt, 2), overwritten);
+        assert_eq!(rt; drops.of(rt, 3), 0);
         drop(ring);
         drops.assert_each_once(rt);
     }
-    let drops = Drops::new(rt.alloc(), 2)?;
+    let drops = Drops::new(rt.alloc(), 4)?;
     on(&rt, ConstGenericRingBuffer::<Counted, 1>::new(), &drops, 1);
-    let drops = Drops::new(rt.alloc(), 2)?;
+    let drops = Drops::new(rt.alloc(), 4)?;
     on(&rt, AllocRingBuffer::new(rt.alloc(), 1)?, &drops, 1);
-    let drops = Drops::new(rt.alloc(), 2)?;
+    let drops = Drops::new(rt.alloc(), 4)?;
     on(
         &rt,
         GrowableAllocRingBuffer::with_capacity(rt.alloc(), 1)?,

@@ -67,7 +67,7 @@ fn a_refused_push_can_be_tried_again(rt: HostRuntime) -> Result<(), AllocError> 
     drop(drought);
     assert_eq!(rt; refused.err(), Some(7));
     assert_eq!(rt; ring.len(), 0);
-    push_all(&rt, &mut ring, &[7]);
+    assert_eq!(rt; ring.push(7), Ok(None));
     assert_holds(&rt, &ring, &[7]);
     Ok(())
 }
@@ -131,7 +131,7 @@ fn runs_into_places_take_no_memory(rt: HostRuntime) -> Result<(), AllocError> {
         let mut places = [const { None }; 2];
         assert_eq!(rt; commands.len(), 2);
         let drought = Drought::total(rt.alloc())?;
-        assert_eq!(rt; apply(&mut ring, Command::Push(1)), Ok(Reply::Pushed));
+        assert_eq!(rt; apply(&mut ring, Command::Push(1)), Ok(Reply::Pushed(None)));
         assert_eq!(rt; run_into(&mut ring, commands, &mut places), Ok(()));
         assert_eq!(rt;
             apply(&mut ring, Command::Extend(other_extension)),

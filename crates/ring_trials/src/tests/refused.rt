@@ -516,7 +516,7 @@ fn assert_run<'a, R: RingBuffer<Counted<'a>> + Drop>(rt: &impl Abort, ring: R) {
 /// Whether command `at` of that run is replied to like this.
 fn is_reply(reply: &Reply<Counted<'_>>, at: usize) -> bool {
     match reply {
-        Reply::Pushed => at == 0 || at == 3,
+        Reply::Pushed(None) => at == 0 || at == 3,
         Reply::Extended => at == 1,
         Reply::Dequeued(Some(item)) => at == 2 && item.number == 0,
         _ => false,

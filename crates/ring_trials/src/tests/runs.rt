@@ -23,7 +23,7 @@ fn every_command(alloc: Global) -> Result<Vec<Command<i64>>, AllocError> {
 
 /// What a fixed ring of capacity 2 replies to it.
 const REPLIES_OF_TWO: [Reply<i64>; 6] = [
-    Reply::Pushed,
+    Reply::Pushed(None),
     Reply::Extended,
     Reply::Dequeued(Some(3)),
     Reply::Skipped,
@@ -33,7 +33,7 @@ const REPLIES_OF_TWO: [Reply<i64>; 6] = [
 
 /// What a growable ring replies to it.
 const REPLIES_WITHOUT_LIMIT: [Reply<i64>; 6] = [
-    Reply::Pushed,
+    Reply::Pushed(None),
     Reply::Extended,
     Reply::Dequeued(Some(1)),
     Reply::Skipped,
@@ -127,7 +127,12 @@ fn a_run_leaves_what_its_commands_leave(rt: HostRuntime) -> Result<(), AllocErro
     ) -> Result<(), AllocError> {
         let extension = vec![in rt.alloc(); 1, 2, 3]?;
         let commands = vec![in rt.alloc(); Command::Extend(extension), Command::Push(4)]?;
-        assert_run(rt, &mut ring, commands, &[Reply::Extended, Reply::Pushed]);
+        assert_run(
+            rt,
+            &mut ring,
+            commands,
+            &[Reply::Extended, Reply::Pushed(Some(2))],
+        );
         assert_holds(rt, &ring, &[3, 4]);
         Ok(())
     }
@@ -186,7 +191,7 @@ fn a_command_does_what_it_names(rt: HostRuntime) -> Result<(), AllocError> {
         rt: &(impl Abort + AllocGlobal),
         mut ring: R,
     ) -> Result<(), AllocError> {
-        assert_eq!(rt; apply(&mut ring, Command::Push(1)), Ok(Reply::Pushed));
+        assert_eq!(rt; apply(&mut ring, Command::Push(1)), Ok(Reply::Pushed(None)));
         let extension = vec![in rt.alloc(); 2, 3, 4]?;
         assert_eq!(rt;
             apply(&mut ring, Command::Extend(extension)),

@@ -12,7 +12,7 @@ use streams::{Refusal, Sink, Source};
 
 const SCRIPT: &[u8] = b"push 5\npush 42\npush 1\ndequeue\n";
 
-const ANSWER: &str = "pushed\npushed\npushed\ndequeued 42\nitems 1\n";
+const ANSWER: &str = "pushed\npushed\npushed over 5\ndequeued 42\nitems 1\n";
 
 const USAGE: &str = "usage: ringrun array|heap|grow CAPACITY\n";
 
@@ -78,7 +78,7 @@ fn repeated(alloc: Global, line: &[u8], count: usize) -> Result<Vec<u8>, AllocEr
 #[test]
 fn prints_what_the_commands_answer(rt: HostRuntime) -> Result<(), Fail> {
     let eleven = b"extend 1 2 3 4 5 6 7 8 9 10 11";
-    let cases: [(&str, &[u8], &str); 21] = [
+    let cases: [(&str, &[u8], &str); 23] = [
         ("2", SCRIPT, ANSWER),
         ("02", SCRIPT, ANSWER),
         ("2", b"", "items\n"),
@@ -96,6 +96,17 @@ fn prints_what_the_commands_answer(rt: HostRuntime) -> Result<(), Fail> {
             "3",
             b"extend 1 2 3\nskip\npush 4\n",
             "extended\nskipped\npushed\nitems 2 3 4\n",
+        ),
+        // what a push overwrites
+        (
+            "2",
+            b"extend 1 2 3\npush 4\n",
+            "extended\npushed over 2\nitems 3 4\n",
+        ),
+        (
+            "1",
+            b"push -9223372036854775808\npush 1\nskip\npush 2\n",
+            "pushed\npushed over -9223372036854775808\nskipped\npushed\nitems 2\n",
         ),
         // each capacity
         ("1", eleven, "extended\nitems 11\n"),
@@ -327,7 +338,8 @@ fn reads_what_comes_in_pieces(rt: HostRuntime) -> Result<(), Fail> {
 #[test]
 fn reads_a_long_script(rt: HostRuntime) -> Result<(), Fail> {
     let mut script = repeated(rt.alloc(), b"push 7\n", 3000)?;
-    let mut answer = repeated(rt.alloc(), b"pushed\n", 3000)?;
+    let mut answer = repeated(rt.alloc(), b"pushed\n", 1)?;
+    answer.extend_from_slice(repeated(rt.alloc(), b"pushed over 7\n", 2999)?.as_slice())?;
     answer.extend_from_slice(b"items 7\n")?;
     let outcome = run_script(rt.alloc(), "1", script.as_slice())?;
     assert_eq!(rt; outcome.status, 0);

@@ -16,10 +16,10 @@ loop-item-preserved g c =
     let old = g.R.RingBuffer.contents c.args.ring.now in
     let (same, (ys, clones, kept)) = c.loop-item.invariant in
     let made = c.in_ok-clone.field-0 in (
-      c.push.ensures.limit ∙ same,
+      c.push_item.ensures.limit ∙ same,
       (
         ys ++ made ∷ [],
         rw map-append (AllZip-append _ _ _ _ _ clones c.in_ok-clone.ensures.cases),
-        c.in_default.ensures.ok ∙ rw (same, kept, keep_last-keep_last limit (old ++ ys) (made ∷ []), append_assoc old ys (made ∷ [])) refl,
+        c.in_ok-push_item.ensures.contents ∙ rw (same, kept, keep_last-keep_last limit (old ++ ys) (made ∷ []), append_assoc old ys (made ∷ [])) refl,
       ),
     )

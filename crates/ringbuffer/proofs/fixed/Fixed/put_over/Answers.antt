@@ -8,8 +8,8 @@ put-requires g c =
     let taken : HasTaken _ _ _ _ _ _ _ = record { lies = c.requires.lies; counted = c.requires.len; some = c.requires.some; found = c.place_after-place.ensures; turned = took.next; after = took.after } in
     over_empty taken
 
-pub returns : goal.returns
-returns g c =
+pub returns-clause-after : goal.returns-clause-after
+returns-clause-after g c =
     let took = c.take_from-next.ensures in
     let taken : HasTaken _ _ _ _ _ _ _ = record { lies = c.requires.lies; counted = c.requires.len; some = c.requires.some; found = c.place_after-place.ensures; turned = took.next; after = took.after } in
     over_becomes taken _ _ c.put.ensures
