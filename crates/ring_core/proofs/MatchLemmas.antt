@@ -24,6 +24,11 @@ slice_get-drop zero xs = refl
 slice_get-drop (suc n) [] = refl
 slice_get-drop (suc n) (x ∷ xs) = slice_get-drop n xs
 
+-- The first item of the first one.
+slice_get-take_one : {A : Type 0} (xs : List A) → slice_get (take 1 xs) 0 ≡ slice_get xs 0
+slice_get-take_one [] = refl
+slice_get-take_one (x ∷ xs) = refl
+
 -- The first list's items stay at their places.
 slice_get-append_left : {A : Type 0} (n : ℕ) (xs ys : List A) → n < length xs → slice_get (xs ++ ys) n ≡ slice_get xs n
 slice_get-append_left n [] ys within = absurd (omega arith)
@@ -149,13 +154,13 @@ overwritten-held : {T : Type 0} (c f n : ℕ) (xs ys : List T) → length xs ≡
 overwritten-held c f n xs ys count order room = elim (cases_lt (n - f) c) [
   | inl fewer ↦
       let test : (window f n (n - c) && (n - c + c == n)) ≡ false = grind (arith, nat_tests) in
-      let long : (length (drop f xs) == c) ≡ false = rw (length-drop, count) (grind (arith, nat_tests)) in
-      rw (test, long) refl
+      let room : length (drop f xs) + 1 - c ≡ 0 = rw (length-drop, count) (omega arith) in
+      rw (test, room) refl
   | inr full ↦
       let first : n - c ≡ f = omega (arith, room.1) in
       let test : (window f n f && (f + c == n)) ≡ true = grind (arith, nat_tests, room.0, room.1) in
-      let long : (length (drop f xs) == c) ≡ true = rw (length-drop, count) (grind (arith, nat_tests, room.1)) in
-      rw (first, test, long, slice_get-drop) (slice_get-append_left f xs ys (omega (arith, room.0)))
+      let one : length (drop f xs) + 1 - c ≡ 1 = rw (length-drop, count) (omega (arith, room.1)) in
+      rw (first, test, one, slice_get-take_one, slice_get-drop) (slice_get-append_left f xs ys (omega (arith, room.0)))
 ]
 
 -- By induction on the first steps.

@@ -1,15 +1,15 @@
 -- What the contents of a ring are: a list, oldest item first, within a limit; and which place a position names.
-use Rattle.std.specs.Prelude.{◌≡◌, ℕ, ◌+◌, ◌-◌, ◌%◌, ◌<◌, ◌≤◌, ◌==◌, if◌then◌else◌, List, [], ◌∷◌, length, take, drop, slice_get, ℤ, pos, negsuc, Option, None, Some}
+use Rattle.std.specs.Prelude.{◌≡◌, ℕ, ◌+◌, ◌-◌, ◌%◌, ◌<◌, ◌≤◌, List, [], ◌∷◌, length, take, drop, slice_get, ℤ, pos, negsuc, Option, None, Some}
 
 -- what a limit leaves of a list: its last items, at most so many
 abbrev pub keep_last : {A : Type 0} → Option ℕ → List A → List A
 keep_last None xs = xs
 keep_last (Some limit) xs = drop (length xs - limit) xs
 
--- what a push onto these contents overwrites: the oldest item, where they are as many as the limit
+-- what a push overwrites: the first of the items that are too many once one more comes, so the oldest of a full ring
 abbrev pub overwritten : {A : Type 0} → Option ℕ → List A → Option A
 overwritten None xs = None
-overwritten (Some limit) xs = if length xs == limit then slice_get xs 0 else None
+overwritten (Some limit) xs = slice_get (take (length xs + 1 - limit) xs) 0
 
 -- a list is no longer than the limit, which is above zero
 abbrev pub IsWithin : {A : Type 0} → List A → Option ℕ → Type 0

@@ -70,7 +70,7 @@ pub trait RingBuffer<T: Drop>: Sized {
     /// Hands `item` back where memory was refused, which no ring with a limit meets.
     fn push(&mut self, item: T) -> Result<Option<T>, T>
         ensures overwrites { IfOk result (λ old. old ≡ overwritten (limit self.old) (contents self.old)) }
-        ensures ok { OnOk result (contents self.new ≡ keep_last (limit self.old) (contents self.old ++ item ∷ [])) }
+        ensures ok { IsOk result → contents self.new ≡ keep_last (limit self.old) (contents self.old ++ item ∷ []) }
         ensures err { IfErr result (λ x. (x ≡ item) × (contents self.new ≡ contents self.old)) }
         ensures limit { limit self.new ≡ limit self.old }
         ensures changes { IsSome (limit self.old) → ChangesSlots (slot_changes self.old) (contents self.old) (slot_changes self.new) (contents self.new) 1 }
@@ -83,7 +83,7 @@ pub trait RingBuffer<T: Drop>: Sized {
     /// As `push`.
     fn enqueue(&mut self, item: T) -> Result<Option<T>, T>
         ensures overwrites { IfOk result (λ old. old ≡ overwritten (limit self.old) (contents self.old)) }
-        ensures ok { OnOk result (contents self.new ≡ keep_last (limit self.old) (contents self.old ++ item ∷ [])) }
+        ensures ok { IsOk result → contents self.new ≡ keep_last (limit self.old) (contents self.old ++ item ∷ []) }
         ensures err { IfErr result (λ x. (x ≡ item) × (contents self.new ≡ contents self.old)) }
         ensures limit { limit self.new ≡ limit self.old }
         ensures changes { IsSome (limit self.old) → ChangesSlots (slot_changes self.old) (contents self.old) (slot_changes self.new) (contents self.new) 1 }

@@ -96,7 +96,7 @@ impl<T: Drop, const CAP: usize> RingBuffer<T> for ConstGenericRingBuffer<T, CAP>
     #[inline]
     fn push(&mut self, item: T) -> Result<Option<T>, T>
         ensures overwrites { IfOk result (λ old. old ≡ overwritten (Some CAP) self.old.items) }
-        ensures ok { OnOk result (self.new.items ≡ keep_last (Some CAP) (self.old.items ++ item ∷ [])) }
+        ensures ok { IsOk result → self.new.items ≡ keep_last (Some CAP) (self.old.items ++ item ∷ []) }
         ensures err { IfErr result (λ x. (x ≡ item) × (self.new.items ≡ self.old.items)) }
         ensures changes { IsSome (Some CAP) → ChangesSlots self.old.changes self.old.items self.new.changes self.new.items 1 }
         ensures succeeds { IsSome (Some CAP) → IsOk result }
