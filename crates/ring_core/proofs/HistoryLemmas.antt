@@ -7,7 +7,7 @@ use Rattle.std.proofs.lemmas.Option.{IfSome_then}
 use Rattle.std.proofs.lemmas.Bool.{cases_lt, eq-eqb, eqb-true, false≢true}
 use Rattle.std.proofs.lemmas.Bool.Decides.{nat_tests}
 use Rattle.ring_core.specs.Contents.{IsWithin, rest}
-use Rattle.ring_core.specs.History.{HasNoGap, IsLeft, IsPush, IsWithinLimit, PushesOverwrite, RemovesOnce, Step, pushes, takes, clears, held, held_numbers, held_next, head, least, number, overwrites, pushed, removed, removes, some_below}
+use Rattle.ring_core.specs.History.{HasNoGap, IsLeft, IsPush, IsWithinLimit, KeepsToNumbers, PushesOverwrite, RemovesOnce, Step, pushes, takes, clears, held, held_numbers, held_next, head, least, number, overwrites, pushed, removed, removes, some_below}
 
 -- the numbers from f on, below n
 abbrev pub window : ℕ → ℕ → ℕ → Bool
@@ -224,7 +224,7 @@ module _ {T : Type 0} (limit : Option ℕ) (start : List T) (ss : List (Step T))
       omega (arith, at_end (omega arith), w.order)
 
   -- A window has no gap.
-  pub HasNoGap-held : HasNoGap limit start ss
+  HasNoGap-held : HasNoGap limit start ss
   HasNoGap-held k i =
       let w = IsWindow-held k in
       rw (head-first k, w.is i) (window-true (first limit start ss k) (number start ss k) i)
@@ -236,7 +236,7 @@ module _ {T : Type 0} (limit : Option ℕ) (start : List T) (ss : List (Step T))
       filter-window (held limit start ss k) (first limit start ss k) (number start ss k) (number start ss k) w.is w.order (omega arith)
 
   -- There are as many as the window is wide.
-  pub IsWithinLimit-held : IsWithinLimit limit start ss
+  IsWithinLimit-held : IsWithinLimit limit start ss
   IsWithinLimit-held k =
       let w = IsWindow-held k in
       IfSome_then limit w.room (λ c r. rw (held_numbers-window k, length-range_with_len) (omega (arith, r.1)))
@@ -271,7 +271,7 @@ module _ {T : Type 0} (limit : Option ℕ) (start : List T) (ss : List (Step T))
   ]
 
   -- Of two steps that remove a number neither is the later one.
-  pub RemovesOnce-held : RemovesOnce limit start ss
+  RemovesOnce-held : RemovesOnce limit start ss
   RemovesOnce-held j k i one other = omega (arith, removes_last j k i one other, removes_last k j i other one)
 
   -- By induction on the number of steps: what some step removed is what the window has left behind.
@@ -313,8 +313,12 @@ module _ {T : Type 0} (limit : Option ℕ) (start : List T) (ss : List (Step T))
   ]
 
   -- Before the push nothing removed a number that it removes; and what is left until then, it removes.
-  pub PushesOverwrite-held : PushesOverwrite limit start ss
+  PushesOverwrite-held : PushesOverwrite limit start ss
   PushesOverwrite-held k i push = (
     λ e. (overwrites-removes k i push e, λ j earlier e'. absurd (omega (arith, removes_last j k i e' e))),
     λ (over, left). rw (removes-window k i) ((window-true _ _ i).1 (not_passed k i over left, rw push.1 (moved-overwrites limit _ (number start ss k) i push.0 over))),
   )
+
+  -- So all of it holds.
+  pub KeepsToNumbers-held : KeepsToNumbers limit start ss
+  KeepsToNumbers-held = record { no_gap = HasNoGap-held; within_limit = IsWithinLimit-held; removes_once = RemovesOnce-held; pushes_overwrite = PushesOverwrite-held }

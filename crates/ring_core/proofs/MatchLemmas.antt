@@ -264,11 +264,7 @@ module _ {T : Type 0} (limit : Option ℕ) (start : List T) (cs : List (Command 
 
   -- A reply by numbers is the reply at the items held.
   reply_after-left : (k : ℕ) (c : Command T) → reply_after limit start (steps cs) k c ≡ reply_to limit (left_by limit start (steps cs) within k) c
-  reply_after-left k (Push x) = ap Pushed (overwritten-left limit start (steps cs) within k)
-  reply_after-left k (Extend items) = refl
-  reply_after-left k Dequeue = ap Dequeued (oldest-left limit start (steps cs) within k)
-  reply_after-left k Skip = refl
-  reply_after-left k Clear = refl
+  reply_after-left k c = rw (overwritten-left limit start (steps cs) within k, oldest-left limit start (steps cs) within k) refl
 
   -- By induction on the commands that are left.
   replies-left : (done todo : List (Command T)) → done ++ todo ≡ cs

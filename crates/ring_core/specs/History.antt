@@ -5,7 +5,7 @@ use Rattle.std.specs.List.{enumerate_from, filter_map, flat_map, range_with_len}
 use Rattle.ring_core.specs.declared.runs.Command.{Command}
 use Rattle.ring_core.specs.declared.runs.Command.TheVariants.{Push, Extend, Dequeue, Skip, Clear}
 use Rattle.ring_core.specs.declared.runs.Reply.{Reply}
-use Rattle.ring_core.specs.declared.runs.Reply.TheVariants.{Pushed, Extended, Dequeued, Skipped, Cleared}
+use Rattle.ring_core.specs.Meaning.{reply_with}
 
 -- a step changes a ring by one item, or empties it
 pub data Step (T : Type 0) : Type 0 where
@@ -96,11 +96,7 @@ contents_after limit start cs =
 
 -- what a command answers that comes after k steps
 abbrev pub reply_after : {T : Type 0} → Option ℕ → List T → List (Step T) → ℕ → Command T → Reply T
-reply_after limit start ss k (Push x) = Pushed (overwritten_after limit start ss k)
-reply_after limit start ss k (Extend items) = Extended
-reply_after limit start ss k Dequeue = Dequeued (oldest limit start ss k)
-reply_after limit start ss k Skip = Skipped
-reply_after limit start ss k Clear = Cleared
+reply_after limit start ss k c = reply_with (overwritten_after limit start ss k) (oldest limit start ss k) c
 
 -- what the commands of a run answer: each comes after the steps of those before it
 abbrev pub replies_of : {T : Type 0} → Option ℕ → List T → List (Command T) → List (Reply T)
@@ -139,6 +135,13 @@ IsLeft limit start ss k i = (j : ℕ) → j < k → IsTrue (removes limit start 
 abbrev pub PushesOverwrite : {T : Type 0} → Option ℕ → List T → List (Step T) → Type 0
 PushesOverwrite limit start ss = (k i : ℕ) → IsPush ss k
     → IsTrue (removes limit start ss k i) ↔ (IsTrue (overwrites limit (number start ss k) i) × IsLeft limit start ss k i)
+
+-- what the numbers of any run keep to
+pub record KeepsToNumbers {T : Type 0} (limit : Option ℕ) (start : List T) (ss : List (Step T)) : Type 0 where
+  pub no_gap : HasNoGap limit start ss
+  pub within_limit : IsWithinLimit limit start ss
+  pub removes_once : RemovesOnce limit start ss
+  pub pushes_overwrite : PushesOverwrite limit start ss
 
 -- a count of slot changes never fell over the run, and rose by at most the items that it pushed and those that it removed
 abbrev pub ChangesFewSlots : {T : Type 0} → Option ℕ → List T → List (Step T) → ℕ → ℕ → Type 0

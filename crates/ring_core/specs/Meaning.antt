@@ -27,13 +27,17 @@ after_one limit l Dequeue = rest l
 after_one limit l Skip = rest l
 after_one limit l Clear = []
 
+-- what a command answers where a push overwrites the first of these items, and a dequeue takes the second
+abbrev pub reply_with : {T : Type 0} → Option T → Option T → Command T → Reply T
+reply_with overwritten taken (Push x) = Pushed overwritten
+reply_with overwritten taken (Extend items) = Extended
+reply_with overwritten taken Dequeue = Dequeued taken
+reply_with overwritten taken Skip = Skipped
+reply_with overwritten taken Clear = Cleared
+
 -- what a command answers at the contents l
 abbrev pub reply_to : {T : Type 0} → Option ℕ → List T → Command T → Reply T
-reply_to limit l (Push x) = Pushed (overwritten limit l)
-reply_to limit l (Extend items) = Extended
-reply_to limit l Dequeue = Dequeued (slice_get l 0)
-reply_to limit l Skip = Skipped
-reply_to limit l Clear = Cleared
+reply_to limit l c = reply_with (overwritten limit l) (slice_get l 0) c
 
 -- what the commands leave, one after the other
 abbrev pub after_all : {T : Type 0} → Option ℕ → List T → List (Command T) → List T

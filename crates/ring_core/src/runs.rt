@@ -2,7 +2,7 @@
 
 ghost use Rattle.std.specs.Prelude.{◌≡◌, [], ◌∷◌, ◌++◌, ◌+◌, ◌*◌, ◌<◌, ◌≤◌, IfErr, IfOk, IsOk, IsSome, OnOk, None, Some, length, map, replicate, slice_set, take, vec_capacity, vec_len};
 ghost use Rattle.ring_core.specs.Contents.{ChangesSlots};
-ghost use Rattle.ring_core.specs.History.{ChangesFewSlots, HasNoGap, IsWithinLimit, PushesOverwrite, RemovesOnce, all_items, contents_after, replies_of, steps};
+ghost use Rattle.ring_core.specs.History.{ChangesFewSlots, KeepsToNumbers, all_items, contents_after, replies_of, steps};
 ghost use Rattle.ring_core.specs.Meaning.{IfNoRoom, IfStopped, IsRefused, RunsJoin, StopsAt, after_all, after_one, places, puts, replies_to, reply_to};
 
 use crate::ring::RingBuffer;
@@ -144,10 +144,7 @@ pub fn run_into<T: Drop, R: RingBuffer<T>>(
     // By item numbers: what is left and answered is what the numbers held after each step say.
     ensures contents { OnOk result (R.contents ring.new ≡ contents_after (R.limit ring.old) (R.contents ring.old) commands.items) }
     ensures replies { OnOk result (replies.new ≡ map Some (replies_of (R.limit ring.old) (R.contents ring.old) commands.items)) }
-    ensures no_gap { HasNoGap (R.limit ring.old) (R.contents ring.old) (steps commands.items) }
-    ensures within_limit { IsWithinLimit (R.limit ring.old) (R.contents ring.old) (steps commands.items) }
-    ensures removes_once { RemovesOnce (R.limit ring.old) (R.contents ring.old) (steps commands.items) }
-    ensures pushes_overwrite { PushesOverwrite (R.limit ring.old) (R.contents ring.old) (steps commands.items) }
+    ensures numbers { KeepsToNumbers (R.limit ring.old) (R.contents ring.old) (steps commands.items) }
     ensures few_changes { IsSome (R.limit ring.old) → ChangesFewSlots (R.limit ring.old) (R.contents ring.old) (steps commands.items) (R.slot_changes ring.old) (R.slot_changes ring.new) }
     ensures twice { IsSome (R.limit ring.old) → R.slot_changes ring.new ≤ R.slot_changes ring.old + 2 * length (all_items (R.contents ring.old) (steps commands.items)) }
 
@@ -199,10 +196,7 @@ pub fn run<T: Drop, R: RingBuffer<T>>(
     // By item numbers: what is left and answered is what the numbers held after each step say.
     ensures contents { OnOk result (R.contents ring.new ≡ contents_after (R.limit ring.old) (R.contents ring.old) commands.items) }
     ensures replies { IfOk result (λ r. r.items ≡ replies_of (R.limit ring.old) (R.contents ring.old) commands.items) }
-    ensures no_gap { HasNoGap (R.limit ring.old) (R.contents ring.old) (steps commands.items) }
-    ensures within_limit { IsWithinLimit (R.limit ring.old) (R.contents ring.old) (steps commands.items) }
-    ensures removes_once { RemovesOnce (R.limit ring.old) (R.contents ring.old) (steps commands.items) }
-    ensures pushes_overwrite { PushesOverwrite (R.limit ring.old) (R.contents ring.old) (steps commands.items) }
+    ensures numbers { KeepsToNumbers (R.limit ring.old) (R.contents ring.old) (steps commands.items) }
     ensures few_changes { IsSome (R.limit ring.old) → ChangesFewSlots (R.limit ring.old) (R.contents ring.old) (steps commands.items) (R.slot_changes ring.old) (R.slot_changes ring.new) }
     ensures twice { IsSome (R.limit ring.old) → R.slot_changes ring.new ≤ R.slot_changes ring.old + 2 * length (all_items (R.contents ring.old) (steps commands.items)) }
 

@@ -1,44 +1,18 @@
 -- The heap is asked for a block, and is given it back, by a handle that lies in a local.
-use mathlib.Core.Path.{◌≡◌, refl, ap, ◌∙◌}
-use mathlib.Core.Bool.{Bool, true, false}
-use mathlib.Core.List.{List, [], ◌∷◌, ◌++◌}
-use Prim.Native.Nat.{ℕ, ◌*◌, ◌<◌, ◌^◌}
-use seplogic.Ra.Ura.{Ura}
-use base.Fraction.{full_share}
-use base.Logic.{SProp, ent, sep, emp, guard, wand, apply∗, id⊢, fst∗, never}
-use base.Fml.{Lft, Share, ftrue, fsep, fat, froom, flft}
+use Rattle.ring_slots.proofs.Walk.{◌≡◌, refl, ap, ◌∙◌, Bool, true, false, List, [], ◌∷◌, ◌++◌, ℕ, ◌*◌, ◌<◌, ◌^◌, Ura, full_share, SProp, ent, sep, emp, guard, wand, apply∗, id⊢, fst∗, never, Lft, Share, ftrue, fsep, fat, froom, flft, Ty, ty_array, w64, Val, vunit, vptr, vint, of_list, Fun, fact, fact_i, Memory, align, capped, capped_is, part_in, part_out, Logic, sem, live, Item, Goal, Soaks, Seq, Step, step, ‵, raw, ◌⊛◌, some, later, ◌$◌, ◌∵◌, !, qed, move, keep, drop, use0, use1, use2, pick, split, split3, join, rewrite, fsplit, fjoin, fpick, feq_i, feq_l, flt_i, check, show, await, updating, now, done, unit, Is, shows, part_at, hidden_shr, layout, param, RattleType, Ptr, block_ptr, null_ptr, ptr_val, room_for, in_a_block, only, nothing, facts, Ok, Err, type_size, Global, Al, Answer, answer_val, got, Answered, lends}
 use mir.Raw.{raw as bare}
-use mir.Syntax.{Ty, ty_array, w64, given as no_methods}
-use mir.Val.{Val, vunit, vptr, vint, of_list}
-use package.contract.Monad.{Fun, fact, fact_i}
-use prog.Memory.{Memory, align, capped}
-use prog.Capped.{capped_is}
+use mir.Syntax.{given as no_methods}
 use prog.RawLaws.{size-raw, align-raw}
 use prog.Routine.{Routine}
-use borrow.Table.OneValue.{part_in, part_out}
-use types.Logic.{Logic, sem}
-use types.Match.{live}
-use types.Kit.{Item, Goal, Soaks, Seq, Step, step, ‵, raw, ◌⊛◌, some, later, ◌$◌, ◌∵◌, !, qed, move, keep, drop, use0, use1, use2, pick, split, split3, join, rewrite, fsplit, fjoin, fpick, feq_i, feq_l, flt_i, check, show, await, updating, now, done}
-use denote.Builtin.{unit}
-use denote.Laws.{Is, shows}
-use denote.Memory.{part_at, hidden_shr}
-use denote.Param.{layout, param}
-use denote.RattleType.{RattleType}
-use denote.RawPtr.{Ptr, block_ptr, null_ptr, ptr_val, room_for, in_a_block}
-use denote.Steps.{only, nothing, facts}
 use denote.Triple.Statement.{Contract}
 use denote.Triple.Spec.{triple_of}
-use Rattle.std.specs.Prelude.{Ok, Err}
-use Rattle.std.specs.Mem.{type_size}
 use Rattle.std.specs.Allocator.{HasLayout, block_if_ok}
-use Rattle.std.specs.declared.alloc.Global.{Global}
 use Rattle.std.specs.contracts.alloc.Global as heap
 use Rattle.std.specs.contracts.impls.GlobalAllocator.TheImpl.{ghosts}
 use Rattle.std.specs.contracts.impls.GlobalAllocator.allocate as asking
 use Rattle.std.specs.contracts.impls.GlobalAllocator.deallocate as giving
 use Rattle.std.proofs.alloc.Global.TheLaws as heap_laws
 use Rattle.ring_slots.proofs.Opened.{handle_made}
-use Rattle.std.proofs.alloc.Calls.{Al, Answer, answer_val, got, Answered, lends}
 
 -- the handle as what the library's steps are stated for. They read its row and what frees a block alone
 abbrev pub Handle : Al

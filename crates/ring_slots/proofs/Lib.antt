@@ -2,3 +2,4 @@ mod Blocks
 mod Opened
 mod Rows
 mod Sharing
+mod Walk

@@ -1,32 +1,9 @@
 -- Heap slots are taken apart into their row, the right to free its block and their fields, and are made of these again.
-use mathlib.Core.Path.{◌≡◌, refl, sym, ap, subst, ◌∙◌}
-use mathlib.Core.List.{List, [], ◌∷◌}
-use Prim.Native.Nat.{ℕ, ◌+◌, ◌*◌, ◌%◌, ◌^◌, ◌<◌}
-use lib.ListN.{length}
-use seplogic.Ra.Ura.{Ura}
-use base.Fraction.{full_share}
-use base.Logic.{ent, sep, never, id⊢}
+use Rattle.ring_slots.proofs.Walk.{◌≡◌, refl, sym, ap, subst, ◌∙◌, List, [], ◌∷◌, ℕ, ◌+◌, ◌*◌, ◌%◌, ◌^◌, ◌<◌, length, Ura, full_share, ent, sep, never, id⊢, Fml, Lft, GName, Share, ftrue, fsep, flft, fobs, fauth, fbor, fobor, w64, Val, vunit, vptr, vint, vstruct, vcons, vnil, Logic, sem, Item, Goal, Soaks, Seq, Step, step, ‵, ◌$◌, ◌∵◌, !, qed, move, drop, use3, rewrite, fsplit, fjoin, fpick, fpack, feq_i, flt_i, flt_l, done, usize, Is, shows, mem, cell_at, param, Laws, param_laws, RattleType, Valss, Ptr, RawPtr, block_ptr, in_a_block, nothing, opens, closes, peeks, makes, Struct, within, Option, type_size, Global}
 use base.Stored.{Gv}
-use base.Fml.{Fml, Lft, GName, Share, ftrue, fsep, flft, fobs, fauth, fbor, fobor}
-use mir.Syntax.{w64}
-use mir.Val.{Val, vunit, vptr, vint, vstruct, vcons, vnil}
-use types.Logic.{Logic, sem}
-use types.Kit.{Item, Goal, Soaks, Seq, Step, step, ‵, ◌$◌, ◌∵◌, !, qed, move, drop, use3, rewrite, fsplit, fjoin, fpick, fpack, feq_i, flt_i, flt_l, done}
 use types.SemTy.{Body}
-use denote.Builtin.{usize}
-use denote.Laws.{Is, shows}
-use denote.Memory.{mem, cell_at}
-use denote.Param.{param}
-use denote.Param.Laws.{Laws, param_laws}
-use denote.RattleType.{RattleType, Valss}
-use denote.RawPtr.{Ptr, RawPtr, block_ptr, in_a_block}
-use denote.Steps.{nothing, opens, closes, owned as made, peeks}
-use denote.Struct.Laws.{makes}
-use denote.Struct.Struct.{Struct, within}
+use denote.Steps.{owned as made}
 use denote.Struct.Owning.{shape, to}
-use Rattle.std.specs.Prelude.{Option}
-use Rattle.std.specs.Mem.{type_size}
-use Rattle.std.specs.declared.alloc.Global.{Global}
 use Rattle.std.specs.contracts.alloc.Global as heap
 use Rattle.std.proofs.alloc.Global.TheLaws as heap_laws
 use Rattle.ring_slots.specs.Slots.{Slots}

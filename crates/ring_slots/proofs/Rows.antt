@@ -1,32 +1,5 @@
 -- One slot of a row is taken out and put back, and a row is made of memory and gives it back.
-use mathlib.Core.Path.{◌≡◌, refl, sym, ap, ◌∙◌}
-use mathlib.Core.Bool.{Bool, true, false}
-use mathlib.Core.List.{List, [], ◌∷◌}
-use Prim.Native.Nat.{ℕ, zero, suc, ◌+◌, ◌*◌, ◌^◌, ◌<◌, ◌≤◌}
-use native.Mathlib.Nat.{zero-mul, one-mul, suc-mul, mul-le-mul_right}
-use native.Mathlib.Omega.{arith}
-use lib.Dec.{T, eqb, eqb→eq}
-use lib.ListN.{length, get_or, set, replicate}
-use seplogic.Ra.Ura.{Ura}
-use base.Fraction.{full_share}
-use base.Logic.{SProp, ent, sep, assoc∗}
-use base.Fml.{Fml, Lft, ftrue, fsep, fat, froom}
-use mir.Syntax.{Ty, ty_array}
-use mir.Val.{Val, has_ty, WT}
-use types.Logic.{Logic, sem}
-use package.contract.Monad.{fact}
-use types.Kit.{Item, Step, step, prop, suffices, ‵, ◌⊛◌, some, ◌$◌, ◌∵◌, !, qed, by, move, keep, drop, use1, use2, pick, split, rewrite, fsplit, fjoin, frame, done}
-use denote.Laws.{Typed}
-use denote.Memory.{part_at}
-use denote.Param.{layout, param}
-use denote.RattleType.{RattleType}
-use denote.Steps.{nothing}
-use denote.Triple.Walked.{says}
-use prog.Capped.{capped_is}
-use prog.Memory.{capped}
-use borrow.Table.OneValue.{part_out}
-use Rattle.std.specs.Prelude.{Option, Some, None, IsSome}
-use Rattle.std.specs.Mem.{type_size}
+use Rattle.ring_slots.proofs.Walk.{◌≡◌, refl, sym, ap, ◌∙◌, Bool, true, false, List, [], ◌∷◌, ℕ, zero, suc, ◌+◌, ◌*◌, ◌^◌, ◌<◌, ◌≤◌, zero-mul, one-mul, suc-mul, mul-le-mul_right, arith, T, eqb, eqb→eq, length, get_or, set, replicate, Ura, full_share, SProp, ent, sep, assoc∗, Fml, Lft, ftrue, fsep, fat, froom, Ty, ty_array, Val, has_ty, WT, Logic, sem, fact, Item, Step, step, prop, suffices, ‵, ◌⊛◌, some, ◌$◌, ◌∵◌, !, qed, by, move, keep, drop, use1, use2, pick, split, rewrite, fsplit, fjoin, frame, done, Typed, part_at, layout, param, RattleType, nothing, says, capped_is, capped, part_out, Option, Some, None, IsSome, type_size}
 use Rattle.ring_slots.specs.heap.Memory.{slot, row, slot_shown, row_shown}
 
 -- the item of a full slot

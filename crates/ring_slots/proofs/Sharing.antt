@@ -1,20 +1,8 @@
 -- A borrow of heap slots is shared item by item.
-use mathlib.Core.List.{List, [], ◌∷◌}
-use Prim.Native.Nat.{ℕ, ◌+◌}
-use lib.ListN.{length}
-use seplogic.Ra.Ura.{Ura}
-use base.Fml.{Lft, Incl, ftrue, fsep}
-use types.Logic.{Logic}
-use denote.RattleType.{RattleType, RowLaws}
-use denote.Param.Laws.{Laws}
-use denote.RawPtr.{Ptr, block_ptr, null_ptr}
+use Rattle.ring_slots.proofs.Walk.{List, [], ◌∷◌, ℕ, ◌+◌, length, Ura, Lft, Incl, ftrue, fsep, Logic, RattleType, RowLaws, Laws, Ptr, block_ptr, null_ptr, Lends, Lends-both, Lends-first, Lends-nothing, Lends-said, Lends-false, Option, Some, None, type_size, Global}
 use denote.Sharing.{ShrLaws, said}
 use denote.SharingLaws.{beside_shr_laws, nothing_shr_laws, said_shr_laws}
 use denote.Shares.{Shares-less}
-use denote.Struct.Lending.{Lends, Lends-both, Lends-first, Lends-nothing, Lends-said, Lends-false}
-use Rattle.std.specs.Prelude.{Option, Some, None}
-use Rattle.std.specs.Mem.{type_size}
-use Rattle.std.specs.declared.alloc.Global.{Global}
 use Rattle.ring_slots.specs.heap.Memory.{slot, row, slot_shown, row_shown, small, right, owned, lent}
 
 module _ (R : RattleType) (twice : RowLaws R) where

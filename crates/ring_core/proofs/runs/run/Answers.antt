@@ -1,7 +1,7 @@
 -- One turn of the loop, its end, its stop at a refusal, and what holds where no command was done.
 use Rattle.std.proofs.Common.{◌<◌, length, arith}
 use Rattle.ring_core.specs.History.{steps}
-use Rattle.ring_core.proofs.HistoryLemmas.{HasNoGap-held, IsWithinLimit-held, PushesOverwrite-held, RemovesOnce-held}
+use Rattle.ring_core.proofs.HistoryLemmas.{KeepsToNumbers-held}
 use Rattle.ring_core.proofs.MatchLemmas.{ChangesFewSlots-twice, contents_after-all, replies_of-all}
 use Rattle.ring_core.proofs.LoopLemmas.{HasDone-few, HasDone-stops, HasDone-turn, HasDone-whole, length-replies_so_far, replies_to-turn}
 use Rattle.ring_core.proofs.runs.run.Goals as goal
@@ -49,17 +49,8 @@ pub returns-clause-replies : goal.returns-clause-replies
 returns-clause-replies g c =
     rw (replies_of-all _ _ c.args.commands.items c.len.ensures.within) (returns-clause-replies_in_turn g c)
 
-pub returns-clause-no_gap : goal.returns-clause-no_gap
-returns-clause-no_gap g c = HasNoGap-held _ _ (steps c.args.commands.items) c.len.ensures.within
-
-pub returns-clause-within_limit : goal.returns-clause-within_limit
-returns-clause-within_limit g c = IsWithinLimit-held _ _ (steps c.args.commands.items) c.len.ensures.within
-
-pub returns-clause-removes_once : goal.returns-clause-removes_once
-returns-clause-removes_once g c = RemovesOnce-held _ _ (steps c.args.commands.items) c.len.ensures.within
-
-pub returns-clause-pushes_overwrite : goal.returns-clause-pushes_overwrite
-returns-clause-pushes_overwrite g c = PushesOverwrite-held _ _ (steps c.args.commands.items) c.len.ensures.within
+pub returns-clause-numbers : goal.returns-clause-numbers
+returns-clause-numbers g c = KeepsToNumbers-held _ _ (steps c.args.commands.items) c.len.ensures.within
 
 pub returns-clause-few_changes : goal.returns-clause-few_changes
 returns-clause-few_changes g c =
@@ -70,24 +61,10 @@ returns-clause-few_changes g c =
 pub returns-clause-twice : goal.returns-clause-twice
 returns-clause-twice g c = λ some. ChangesFewSlots-twice _ _ c.args.commands.items c.len.ensures.within _ _ (returns-clause-few_changes g c some)
 
--- ---- the same, where the run stopped
+-- ---- the same, where the run stopped, and where there was no room
 
-pub returns-in_default-apply-clause-no_gap : goal.returns-in_default-apply-clause-no_gap
-returns-in_default-apply-clause-no_gap g c = HasNoGap-held _ _ (steps c.args.commands.items) c.len.ensures.within
+pub returns-in_default-apply-clause-numbers : goal.returns-in_default-apply-clause-numbers
+returns-in_default-apply-clause-numbers g c = KeepsToNumbers-held _ _ (steps c.args.commands.items) c.len.ensures.within
 
-pub returns-in_default-apply-clause-removes_once : goal.returns-in_default-apply-clause-removes_once
-returns-in_default-apply-clause-removes_once g c = RemovesOnce-held _ _ (steps c.args.commands.items) c.len.ensures.within
-
--- ---- the same, where there was no room
-
-pub returns-in_default-clause-no_gap : goal.returns-in_default-clause-no_gap
-returns-in_default-clause-no_gap g c = HasNoGap-held _ _ (steps c.args.commands.items) c.len.ensures.within
-
-pub returns-in_default-clause-within_limit : goal.returns-in_default-clause-within_limit
-returns-in_default-clause-within_limit g c = IsWithinLimit-held _ _ (steps c.args.commands.items) c.len.ensures.within
-
-pub returns-in_default-clause-removes_once : goal.returns-in_default-clause-removes_once
-returns-in_default-clause-removes_once g c = RemovesOnce-held _ _ (steps c.args.commands.items) c.len.ensures.within
-
-pub returns-in_default-clause-pushes_overwrite : goal.returns-in_default-clause-pushes_overwrite
-returns-in_default-clause-pushes_overwrite g c = PushesOverwrite-held _ _ (steps c.args.commands.items) c.len.ensures.within
+pub returns-in_default-clause-numbers : goal.returns-in_default-clause-numbers
+returns-in_default-clause-numbers g c = KeepsToNumbers-held _ _ (steps c.args.commands.items) c.len.ensures.within

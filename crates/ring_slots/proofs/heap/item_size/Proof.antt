@@ -1,24 +1,5 @@
 -- The size is a word of its own here. It is capped at what a word holds.
-use mathlib.Core.Path.{refl}
-use mathlib.Core.List.{List, [], ◌∷◌}
-use Prim.Native.Nat.{ℕ, zero, suc, ◌<◌, ◌^◌}
-use native.Mathlib.Omega.{arith}
-use mir.Syntax.{a_type, w64}
-use mir.MapTy.{inst_fn}
-use mir.Val.{Val, vint}
-use base.Fml.{ftrue}
-use prog.Memory.{size, capped}
-use prog.Capped.{capped_fits, capped_is, capped_small}
-use types.Kit.{‵, raw, ◌⊛◌, ◌$◌, ◌∵◌, !, qed, move, keep, join, fjoin, feq_i, flt_i, split, suffices, done}
-use types.Run.{size_word, of_opd, returns, enter}
-use types.ByLocal.{alloc_all, pass_all, free_all, look_at, sets}
-use package.contract.BorrowLft.{◌⊑◌}
-use package.contract.Monad.{fact}
-use denote.Param.{layout, layouts}
-use denote.Steps.{nothing}
-use denote.Triple.Entry.{alive}
-use denote.Triple.Walked.{says, ends_at}
-use Rattle.std.proofs.raw_atomic.Walks.{proved}
+use Rattle.ring_slots.proofs.Walk.{refl, List, [], ◌∷◌, ℕ, zero, suc, ◌<◌, ◌^◌, arith, a_type, w64, inst_fn, Val, vint, ftrue, size, capped, capped_fits, capped_is, capped_small, ‵, raw, ◌⊛◌, ◌$◌, ◌∵◌, !, qed, move, keep, join, fjoin, feq_i, flt_i, split, suffices, done, size_word, of_opd, returns, enter, alloc_all, pass_all, free_all, look_at, sets, ◌⊑◌, fact, layout, layouts, nothing, alive, says, ends_at, proved}
 use Rattle.ring_slots.specs.contracts.heap.item_size as contract
 use Rattle.ring_slots.proofs.heap.item_size.Statement.{statement}
 use Rattle.ring_slots.proofs.heap.item_size.Code as code

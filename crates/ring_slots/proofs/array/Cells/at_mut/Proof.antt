@@ -1,50 +1,17 @@
 -- An element of the array is lent to the caller, which the borrow checker does not follow through an array. The struct
 -- lies where its one field does, so the element is taken out of memory with a way back at any value, and then lent.
-use mathlib.Core.Path.{◌≡◌, refl, sym, ap, ◌∙◌}
-use mathlib.Core.List.{List, [], ◌∷◌}
-use Prim.Native.Nat.{ℕ, zero, ◌+◌, ◌*◌, ◌^◌, ◌<◌, ◌≤◌}
-use native.Mathlib.Nat.{mul-le-mul_right}
-use native.Mathlib.Omega.{arith}
+use Rattle.ring_slots.proofs.Walk.{◌≡◌, refl, sym, ap, ◌∙◌, List, [], ◌∷◌, ℕ, zero, ◌+◌, ◌*◌, ◌^◌, ◌<◌, ◌≤◌, mul-le-mul_right, arith, length, get_or, set, length-set, Ura, Args, a_type, a_number, ty_array, named, w64, inst_fn, Val, vptr, vint, SProp, ent, sep, ex, guard, all, wand, all_e, apply∗, full_share, Fml, Lft, GName, Share, ftrue, fsep, feq, flft, size, align, up, Logic, sem, cells, Item, ‵, raw, ◌⊛◌, some, given, later, ◌$◌, ◌∵◌, !, qed, by, move, keep, drop, split, split3, join, learn, check, each, assume, fsplit, fsplit3, fjoin, feq_l, feq_i, use1, use2, await, pick, suffices, frame, group, rewrite, updating, show, now, done, ◌⊑◌, stop, fld, addr, bin, size_word, returns, enter, alloc_all, pass_all, free_all, look_at, get, through, sets, is, RefMutOf, usize, yes, no, follows, lends_Part, Part, mem, part_at, param, number, layout, layouts, ArrayAt, Laws, param_laws, number_array_laws, uint_vals, uint_Tells, RattleType, MutRef, mut_vals, mut_Tells, plain, nothing, Struct, says, Stays, stay_dropped, Goes-dropped, Goes-spent_ref, ends_at, proved}
 use Rattle.std.proofs.lemmas.List.{get_or_default}
-use lib.ListN.{length, get_or, set, length-set}
-use seplogic.Ra.Ura.{Ura}
-use mir.Syntax.{Args, a_type, a_number, ty_array, named, w64}
-use mir.MapTy.{inst_fn}
-use mir.Val.{Val, vptr, vint}
-use base.Logic.{SProp, ent, sep, ex, guard, all, wand, all_e, apply∗}
-use base.Fraction.{full_share}
-use base.Fml.{Fml, Lft, GName, Share, ftrue, fsep, feq, flft}
-use prog.Memory.{size, align, up}
-use types.Logic.{Logic, sem}
-use types.SemTy.{cells}
 use types.Mut.{open_ref}
-use types.Kit.{Item, ‵, raw, ◌⊛◌, some, given, later, ◌$◌, ◌∵◌, !, qed, by, move, keep, drop, split, split3, join, learn, check, each, assume, fsplit, fsplit3, fjoin, feq_l, feq_i, use1, use2, await, pick, suffices, frame, group, rewrite, updating, show, now, done}
-use package.contract.BorrowLft.{◌⊑◌}
-use types.Run.{stop, fld, addr, bin, size_word, returns, enter}
-use types.ByLocal.{alloc_all, pass_all, free_all, look_at, get, through, sets, is}
-use denote.Builtin.{RefMutOf, usize}
 use denote.Array.{Array}
 use denote.ArrayMemory.{Array-apart, Array-whole}
-use denote.Exit.{yes, no}
-use denote.Follow.{follows, lends_Part, Part}
 use denote.Index.{row, whole_in, whole_out}
-use denote.Memory.{mem, part_at}
-use denote.Param.{param, number, layout, layouts, ArrayAt}
-use denote.Param.Laws.{Laws, param_laws, number_array_laws}
-use denote.Plain.{uint_vals, uint_Tells}
-use denote.RattleType.{RattleType}
-use denote.Ref.{MutRef, mut_vals, mut_Tells}
-use denote.Signature.{plain}
-use denote.Steps.{nothing}
 use denote.Struct.CellSteps.{only_out, first_at, BackTo}
 use denote.Struct.Declared.{shape}
 use denote.Struct.Members.{Member}
 use denote.Struct.Recorded.{Recorded-part}
-use denote.Struct.Struct.{Struct}
 use denote.Triple.Clauses.{Ended}
-use denote.Triple.Walked.{says, Stays, stay_dropped, Goes-dropped, Goes-spent_ref, ends_at}
 use borrow.Table.Elements.{at, at_mul, focus_any}
-use Rattle.std.proofs.raw_atomic.Walks.{proved}
 use Rattle.ring_slots.proofs.Rows.{product_is}
 use Rattle.ring_slots.specs.contracts.array.Cells.{the_row, the_type}
 use Rattle.ring_slots.specs.contracts.array.Cells.at_mut as contract

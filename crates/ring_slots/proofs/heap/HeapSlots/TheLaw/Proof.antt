@@ -1,13 +1,8 @@
 -- A `&` to heap slots reaches each item. The right to free the block is let go for the lifetime.
-use mathlib.Core.List.{[], ◌++◌}
-use base.Fml.{Incl-trans}
+use Rattle.ring_slots.proofs.Walk.{[], ◌++◌, Incl-trans, RattleType, Laws, RawPtr-copy, usize-copy, of_Lends}
 use contract.BorrowLft.{meet_⊑_left}
-use denote.RattleType.{RattleType}
-use denote.Param.Laws.{Laws}
 use denote.Param.Shared.{copy_shared}
 use denote.Struct.Field.{RawPtr-field, usize-field}
-use denote.Struct.Laws.{RawPtr-copy, usize-copy}
-use denote.Struct.Lending.{of_Lends}
 use Rattle.std.specs.contracts.alloc.Global as heap
 use Rattle.std.proofs.alloc.Global.TheLaws as heap_laws
 use Rattle.ring_slots.specs.contracts.heap.HeapSlots.TheInside as C

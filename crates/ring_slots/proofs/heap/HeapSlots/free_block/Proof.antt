@@ -1,41 +1,6 @@
 -- The row is memory again, which goes back to the heap with the right to free it. Nothing is asked of the slots.
-use mathlib.Core.Path.{◌≡◌, refl, sym, ap, subst, ◌∙◌}
-use mathlib.Core.Bool.{Bool}
-use mathlib.Core.List.{List, [], ◌∷◌, ◌++◌}
-use Prim.Native.Nat.{ℕ, ◌*◌, ◌<◌, ◌^◌}
-use native.Mathlib.Omega.{arith}
-use lib.Dec.{T}
-use lib.ListN.{length}
-use mir.Syntax.{Fn, a_type, w64, ty_array, ty_unit}
-use mir.MapTy.{inst_fn}
-use mir.Val.{Val, vint, vunit, has_ty, WT}
-use base.Logic.{SProp}
-use base.Fml.{ftrue, froom, flft}
-use prog.Capped.{capped_fits}
-use prog.Memory.{align, capped}
-use prog.Wp.{WpFn}
-use types.Kit.{‵, raw, ◌⊛◌, later, given, prop, at_ret, ◌$◌, ◌∵◌, !, qed, move, keep, drop, use1, learn, await, split, join, split3, fsplit, fpick, feq_l, flt_l, rewrite, regoal, suffices, group, fjoin, feq_i, done}
-use types.Part.{whole, sub}
-use types.Run.{stop, fld, from, addr, of_opd, bin, size_word, align_word, unit_lit, no_more, and_then, first, blocks, exec, returns, enter}
-use types.ByLocal.{alloc_all, pass_all, free_all, look_at, get, get_in, is, sets, take_at, give_at, lands_last, env}
-use package.contract.BorrowLft.{◌⊑◌}
-use package.contract.Monad.{fact}
-use package.contract.Running.{tables}
-use denote.Builtin.{usize}
-use denote.Exit.{yes, no}
-use denote.Param.{layout, layouts}
-use denote.RawPtr.{block_ptr}
-use denote.Signature.{plain}
-use denote.Steps.{nothing, heard}
-use denote.Triple.Call.{calls_at_last}
-use denote.Triple.Table.{framed}
-use denote.Triple.Walked.{Stays, stay_dropped, Goes-dropped, walk_of, ends_at}
-use Rattle.std.specs.Mem.{type_size}
-use Rattle.std.proofs.RawLayout.{as_raw}
-use Rattle.std.proofs.VecSteps.Shapes.{after}
-use Rattle.std.proofs.alloc.Calls.{Goes-blank}
+use Rattle.ring_slots.proofs.Walk.{◌≡◌, refl, sym, ap, subst, ◌∙◌, Bool, List, [], ◌∷◌, ◌++◌, ℕ, ◌*◌, ◌<◌, ◌^◌, arith, T, length, Fn, a_type, w64, ty_array, ty_unit, inst_fn, Val, vint, vunit, has_ty, WT, SProp, ftrue, froom, flft, capped_fits, align, capped, WpFn, ‵, raw, ◌⊛◌, later, given, prop, at_ret, ◌$◌, ◌∵◌, !, qed, move, keep, drop, use1, learn, await, split, join, split3, fsplit, fpick, feq_l, flt_l, rewrite, regoal, suffices, group, fjoin, feq_i, done, whole, sub, stop, fld, from, addr, of_opd, bin, size_word, align_word, unit_lit, no_more, and_then, first, blocks, exec, returns, enter, alloc_all, pass_all, free_all, look_at, get, get_in, is, sets, take_at, give_at, lands_last, env, ◌⊑◌, fact, tables, usize, yes, no, layout, layouts, block_ptr, plain, nothing, heard, calls_at_last, framed, Stays, stay_dropped, Goes-dropped, walk_of, ends_at, type_size, as_raw, after, Goes-blank, proved_at}
 use Rattle.std.proofs.impls.GlobalAllocator.deallocate.Met.{met}
-use Rattle.std.proofs.raw_atomic.Walks.{proved_at}
 use Rattle.ring_slots.specs.Slots.{Slots}
 use Rattle.ring_slots.specs.heap.Memory.{right_if}
 use Rattle.ring_slots.proofs.Blocks.{Give, give, gives, gave, block_type, block_laid, handle_lent, handle_back}

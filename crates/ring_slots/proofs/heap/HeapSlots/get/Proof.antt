@@ -1,36 +1,7 @@
 -- What a `&` to the slots shows of the one at the place is a `&` to its item.
-use mathlib.Core.Path.{◌≡◌, refl, sym, subst}
-use mathlib.Core.List.{List, [], ◌∷◌, ◌++◌}
-use Prim.Native.Nat.{ℕ, ◌+◌, ◌*◌}
-use lib.ListN.{length, get_or}
-use mir.Syntax.{Fn, Dict, a_type, named, dcons, dnil}
-use mir.MapTy.{inst_fn}
-use mir.Val.{Val, vptr}
-use base.Logic.{SProp, never, id⊢}
-use base.Fml.{ftrue, flft}
-use prog.Wp.{WpFn}
-use types.Kit.{‵, raw, ◌⊛◌, prop, at_ret, ◌$◌, ◌∵◌, !, qed, move, keep, drop, use1, split, split3, join, fsplit, fjoin, fpick, feq_i, feq_l, flt_l, rewrite, regoal, suffices, frame, done}
-use types.Run.{stop, fld, load, look, addr, of_opd, bin, size_lit, first, blocks, exec, returns, enter}
-use types.ByLocal.{alloc_all, pass_all, free_all, look_at, get, through, sets, sets_last, env}
-use package.contract.BorrowLft.{◌⊑◌}
-use package.contract.Monad.{fact}
-use package.contract.Running.{tables}
-use denote.Builtin.{RefOf, usize}
-use denote.Exit.{yes}
-use denote.Memory.{hidden_shr}
+use Rattle.ring_slots.proofs.Walk.{◌≡◌, refl, sym, subst, List, [], ◌∷◌, ◌++◌, ℕ, ◌+◌, ◌*◌, length, get_or, Fn, Dict, a_type, named, dcons, dnil, inst_fn, Val, vptr, SProp, never, id⊢, ftrue, flft, WpFn, ‵, raw, ◌⊛◌, prop, at_ret, ◌$◌, ◌∵◌, !, qed, move, keep, drop, use1, split, split3, join, fsplit, fjoin, fpick, feq_i, feq_l, flt_l, rewrite, regoal, suffices, frame, done, stop, fld, load, look, addr, of_opd, bin, size_lit, first, blocks, exec, returns, enter, alloc_all, pass_all, free_all, look_at, get, through, sets, sets_last, env, ◌⊑◌, fact, tables, RefOf, usize, yes, hidden_shr, bounded, RattleType, Ptr, RawPtr, block_ptr, ptr_row_laws, in_a_block, ShrRef, plain, nothing, heard, says, Stays, stay_dropped, Goes-dropped, walk_of, ends_at, Option, Some, None, type_size, after, proved_at}
 use denote.Opens.{shr_dup, hide, unhide}
-use denote.Param.{bounded}
-use denote.RattleType.{RattleType}
-use denote.RawPtr.{Ptr, RawPtr, block_ptr, ptr_row_laws, in_a_block}
-use denote.Ref.{ShrRef}
-use denote.Signature.{plain}
-use denote.Steps.{nothing, heard}
-use denote.Triple.Walked.{says, Stays, stay_dropped, Goes-dropped, walk_of, ends_at}
-use Rattle.std.specs.Prelude.{Option, Some, None}
-use Rattle.std.specs.Mem.{type_size}
-use Rattle.std.proofs.VecSteps.Shapes.{after}
 use Rattle.std.proofs.Words.{pointer_in, pointer_out}
-use Rattle.std.proofs.raw_atomic.Walks.{proved_at}
 use Rattle.ring_slots.specs.Slots.{Slots, IsFullAt}
 use Rattle.ring_slots.specs.heap.Memory.{lent, slot_shown}
 use Rattle.ring_slots.proofs.Rows.{item_of, full_within, place_fits, slot_seen}

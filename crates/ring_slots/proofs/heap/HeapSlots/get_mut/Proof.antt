@@ -1,39 +1,5 @@
 -- The item is lent apart from the rest, which closes round any item that is written.
-use mathlib.Core.Path.{◌≡◌, refl, sym, ap, subst}
-use mathlib.Core.List.{List, [], ◌∷◌, ◌++◌}
-use Prim.Native.Nat.{ℕ, ◌+◌, ◌*◌, ◌<◌}
-use lib.ListN.{length, get_or, set, length-set}
-use mir.Syntax.{Fn, Dict, a_type, named, dcons, dnil}
-use mir.MapTy.{inst_fn}
-use mir.Val.{Val, vptr}
-use seplogic.Ra.Ura.{Ura}
-use base.Fraction.{full_share}
-use base.Logic.{SProp, ent, sep}
-use base.Fml.{Fml, GName, ftrue, fsep, flft}
-use prog.Wp.{WpFn}
-use types.Logic.{Logic, sem}
-use types.Kit.{‵, raw, ◌⊛◌, some, later, prop, at_ret, ◌$◌, ◌∵◌, !, qed, move, keep, drop, use1, use2, use3, pick, split, split3, join, fsplit, fsplit3, fjoin, fjoin3, fpack, feq_l, flt_l, rewrite, regoal, suffices, frame, group, await, done}
-use types.Part.{whole, sub, look_in}
-use types.Run.{stop, fld, load, addr, of_opd, bin, size_lit, first, blocks, exec, returns, enter}
-use types.ByLocal.{alloc_all, pass_all, free_all, look_at, get, through, sets, sets_last, env}
-use package.contract.BorrowLft.{◌⊑◌}
-use package.contract.Monad.{fact}
-use package.contract.Running.{tables}
-use denote.Builtin.{usize}
-use denote.Exit.{yes, no}
-use denote.Follow.{follows, lends_Part}
-use denote.Memory.{mem, cell_at, part_of}
-use denote.Param.{bounded}
-use denote.RattleType.{RattleType}
-use denote.RawPtr.{block_ptr}
-use denote.Ref.{MutRef}
-use denote.Signature.{plain, mut_ref_to}
-use denote.Steps.{nothing, heard}
-use denote.Triple.Walked.{says, Stays, stay_dropped, Goes-dropped, Goes-spent_ref, walk_of, ends_at}
-use Rattle.std.specs.Prelude.{Option, Some, None}
-use Rattle.std.specs.Mem.{type_size}
-use Rattle.std.proofs.VecSteps.Shapes.{after}
-use Rattle.std.proofs.raw_atomic.Walks.{proved_at}
+use Rattle.ring_slots.proofs.Walk.{◌≡◌, refl, sym, ap, subst, List, [], ◌∷◌, ◌++◌, ℕ, ◌+◌, ◌*◌, ◌<◌, length, get_or, set, length-set, Fn, Dict, a_type, named, dcons, dnil, inst_fn, Val, vptr, Ura, full_share, SProp, ent, sep, Fml, GName, ftrue, fsep, flft, WpFn, Logic, sem, ‵, raw, ◌⊛◌, some, later, prop, at_ret, ◌$◌, ◌∵◌, !, qed, move, keep, drop, use1, use2, use3, pick, split, split3, join, fsplit, fsplit3, fjoin, fjoin3, fpack, feq_l, flt_l, rewrite, regoal, suffices, frame, group, await, done, whole, sub, look_in, stop, fld, load, addr, of_opd, bin, size_lit, first, blocks, exec, returns, enter, alloc_all, pass_all, free_all, look_at, get, through, sets, sets_last, env, ◌⊑◌, fact, tables, usize, yes, no, follows, lends_Part, mem, cell_at, part_of, bounded, RattleType, block_ptr, MutRef, plain, mut_ref_to, nothing, heard, says, Stays, stay_dropped, Goes-dropped, Goes-spent_ref, walk_of, ends_at, Option, Some, None, type_size, after, proved_at}
 use Rattle.ring_slots.specs.Slots.{Slots, IsFullAt, changed}
 use Rattle.ring_slots.specs.heap.Memory.{slot, row}
 use Rattle.ring_slots.proofs.Rows.{item_of, full_within, place_fits, others, slot_out, slot_in}

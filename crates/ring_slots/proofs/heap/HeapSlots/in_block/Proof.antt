@@ -1,55 +1,15 @@
 -- The new block is room for the items, which is a row of empty slots. The right to free it stays beside the row.
-use mathlib.Core.Path.{◌≡◌, refl, sym, ap, subst, ◌∙◌}
-use mathlib.Core.Bool.{Bool, true, false}
-use mathlib.Core.List.{[], ◌∷◌}
-use Prim.Native.Nat.{ℕ, ◌+◌, ◌*◌, ◌%◌, ◌<◌, ◌^◌}
-use native.Mathlib.Omega.{arith}
-use lib.Dec.{lit<}
-use lib.ListN.{length, replicate, length-replicate}
-use mir.Syntax.{Fn, Body, a_type, w64, ty_array}
-use mir.MapTy.{inst_fn}
-use mir.Val.{Val, WT, vint, vstruct, vcons, vnil}
-use base.Logic.{SProp}
-use base.Fml.{ftrue, flft}
-use prog.Capped.{capped_fits}
-use prog.Memory.{align, capped}
-use prog.Wp.{Env, Wp, after_seq, at_return}
-use types.Kit.{Post as After, any_q, ‵, raw, ◌⊛◌, later, at_ret, ◌$◌, ◌∵◌, !, qed, move, keep, drop, use1, use2, use3, await, split, join, rewrite, suffices, frame, fjoin, done}
-use types.Match.{live, vrt, in_variant}
-use types.Part.{whole, agg}
-use types.Run.{stop, fld, lit, from, addr, of_opd, bin, size_word, align_word, no_more, and_then, first, switches_on, exec, returns, enter}
-use types.ByLocal.{alloc_all, pass_all, free_all, look_at, get, get_in, get_tag, is, sets, sets_last, take_at, give_at, lands_as, env}
-use package.contract.BorrowLft.{◌⊑◌}
-use package.contract.Monad.{fact}
-use package.contract.Running.{tables}
-use denote.Builtin.{usize}
-use denote.Exit.{yes}
-use denote.Laws.{Is}
-use denote.Param.{layout, layouts}
-use denote.Plain.{uint_vals, uint_Tells}
-use denote.RattleType.{RattleType, owns}
-use denote.RawPtr.{block_ptr}
-use denote.Signature.{plain, types_at}
-use denote.Steps.{nothing, heard, owned}
+use Rattle.ring_slots.proofs.Walk.{◌≡◌, refl, sym, ap, subst, ◌∙◌, Bool, true, false, [], ◌∷◌, ℕ, ◌+◌, ◌*◌, ◌%◌, ◌<◌, ◌^◌, arith, lit<, length, replicate, length-replicate, Fn, a_type, w64, ty_array, inst_fn, Val, WT, vint, vstruct, vcons, vnil, SProp, ftrue, flft, capped_fits, align, capped, Env, Wp, after_seq, at_return, any_q, ‵, raw, ◌⊛◌, later, at_ret, ◌$◌, ◌∵◌, !, qed, move, keep, drop, use1, use2, use3, await, split, join, rewrite, suffices, frame, fjoin, done, live, vrt, in_variant, whole, agg, stop, fld, lit, from, addr, of_opd, bin, size_word, align_word, no_more, and_then, first, switches_on, exec, returns, enter, alloc_all, pass_all, free_all, look_at, get, get_in, get_tag, is, sets, sets_last, take_at, give_at, lands_as, env, ◌⊑◌, fact, tables, usize, yes, Is, layout, layouts, uint_vals, uint_Tells, RattleType, owns, block_ptr, plain, types_at, nothing, heard, owned, Struct, Struct-Makes, calls_at, Vals, framed, says, Stays, stay_dropped, Goes-dropped, walk_of, ends_at, None, Ok, Err, type_size, as_written, after, head, arm_body, Answer-typed, Answered, answers, proved}
+use mir.Syntax.{Body}
+use types.Kit.{Post as After}
 use denote.Struct.Declared as Declared
-use denote.Struct.Struct.{Struct, Struct-Makes}
-use denote.Triple.Call.{calls_at}
-use denote.Triple.Entry.{Vals}
-use denote.Triple.Table.{framed}
-use denote.Triple.Walked.{says, Stays, stay_dropped, Goes-dropped, walk_of, ends_at}
-use Rattle.std.specs.Prelude.{None, Ok, Err}
-use Rattle.std.specs.Mem.{type_size}
 use Rattle.std.specs.Vec.Ownership.{FitsInBlock}
 use Rattle.std.specs.contracts.alloc.AllocError as refusal
 use Rattle.std.specs.contracts.alloc.Global as heap
 use Rattle.std.specs.contracts.result.Result as result
-use Rattle.std.proofs.RawLayout.{as_written}
 use Rattle.std.proofs.ResultValues.{ok_of, err_of}
-use Rattle.std.proofs.VecSteps.Shapes.{after, head, arm_body}
-use Rattle.std.proofs.alloc.Calls.{Answer-typed, Answered, answers}
 use Rattle.std.proofs.alloc.Global.TheLaws as heap_laws
 use Rattle.std.proofs.impls.GlobalAllocator.allocate.Met.{met}
-use Rattle.std.proofs.raw_atomic.Walks.{proved}
 use Rattle.ring_slots.specs.heap.Memory.{row, right, right_if}
 use Rattle.ring_slots.proofs.Blocks.{Handle, Ask, ask, asks, asked, block_type, block_laid, handle_lent, handle_back}
 use Rattle.ring_slots.proofs.Rows.{has_size, product_is, of_room}

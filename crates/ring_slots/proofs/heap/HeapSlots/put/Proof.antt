@@ -1,38 +1,5 @@
 -- The item is written into the room of its slot, and the slots are closed round it.
-use mathlib.Core.Path.{◌≡◌, refl, sym, ap, subst}
-use mathlib.Core.List.{List, [], ◌∷◌, ◌++◌}
-use Prim.Native.Nat.{ℕ, ◌+◌, ◌*◌, ◌<◌}
-use lib.ListN.{length, get_or, set, length-set}
-use mir.Syntax.{Fn, Dict, a_type, named, dcons, dnil}
-use mir.MapTy.{inst_fn}
-use mir.Val.{Val, vptr, vunit}
-use base.Fraction.{full_share}
-use base.Logic.{SProp}
-use base.Fml.{ftrue, flft}
-use prog.Wp.{WpFn}
-use types.Kit.{‵, raw, ◌⊛◌, prop, at_ret, ◌$◌, ◌∵◌, !, qed, move, keep, drop, use1, use2, split, split3, join, fsplit, fsplit3, fjoin, fjoin3, feq_i, feq_l, flt_l, rewrite, regoal, suffices, frame, done}
-use types.Part.{whole, sub, look_in}
-use types.Run.{init, stop, fld, load, unit_lit, of_opd, bin, size_lit, assigns_last, first, blocks, exec, returns, enter}
-use types.ByLocal.{alloc_all, pass_all, free_all, look_at, get, through, sets, env}
-use package.contract.BorrowLft.{◌⊑◌}
-use package.contract.Monad.{fact}
-use package.contract.Running.{tables}
-use borrow.Table.OneValue.{part_in}
-use denote.Builtin.{usize}
-use denote.Exit.{yes, no}
-use denote.Laws.{Is, shows}
-use denote.Param.{bounded, layout}
-use denote.Param.Laws.{param_laws}
-use denote.RattleType.{RattleType}
-use denote.Ref.{MutRef}
-use denote.Signature.{plain}
-use denote.Steps.{nothing, heard, peeks}
-use denote.Triple.Walked.{says, Stays, stay_dropped, stay_ref, Goes-dropped, Goes-ref, walk_of, ends_at}
-use Rattle.std.specs.Prelude.{Option, Some, None}
-use Rattle.std.specs.Mem.{type_size}
-use Rattle.std.proofs.RawLayout.{as_written}
-use Rattle.std.proofs.VecSteps.Shapes.{after}
-use Rattle.std.proofs.raw_atomic.Walks.{proved_at}
+use Rattle.ring_slots.proofs.Walk.{◌≡◌, refl, sym, ap, subst, List, [], ◌∷◌, ◌++◌, ℕ, ◌+◌, ◌*◌, ◌<◌, length, get_or, set, length-set, Fn, Dict, a_type, named, dcons, dnil, inst_fn, Val, vptr, vunit, full_share, SProp, ftrue, flft, WpFn, ‵, raw, ◌⊛◌, prop, at_ret, ◌$◌, ◌∵◌, !, qed, move, keep, drop, use1, use2, split, split3, join, fsplit, fsplit3, fjoin, fjoin3, feq_i, feq_l, flt_l, rewrite, regoal, suffices, frame, done, whole, sub, look_in, init, stop, fld, load, unit_lit, of_opd, bin, size_lit, assigns_last, first, blocks, exec, returns, enter, alloc_all, pass_all, free_all, look_at, get, through, sets, env, ◌⊑◌, fact, tables, part_in, usize, yes, no, Is, shows, bounded, layout, param_laws, RattleType, MutRef, plain, nothing, heard, peeks, says, Stays, stay_dropped, stay_ref, Goes-dropped, Goes-ref, walk_of, ends_at, Option, Some, None, type_size, as_written, after, proved_at}
 use Rattle.ring_slots.specs.Slots.{Slots, IsEmptyAt, changed}
 use Rattle.ring_slots.specs.heap.Memory.{slot, row}
 use Rattle.ring_slots.proofs.Rows.{place_fits, one_value, others, slot_out, slot_in}

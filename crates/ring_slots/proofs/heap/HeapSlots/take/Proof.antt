@@ -1,37 +1,5 @@
 -- The item is read out of its slot, whose memory is room from then on.
-use mathlib.Core.Path.{◌≡◌, refl, sym, ap, subst}
-use mathlib.Core.List.{List, [], ◌∷◌, ◌++◌}
-use Prim.Native.Nat.{ℕ, ◌+◌, ◌*◌}
-use lib.ListN.{length, get_or, set, length-set}
-use mir.Syntax.{Fn, Dict, a_type, named, dcons, dnil}
-use mir.MapTy.{inst_fn}
-use mir.Val.{Val, vptr}
-use base.Fraction.{full_share}
-use base.Logic.{SProp}
-use base.Fml.{ftrue, fat, froom, flft}
-use prog.Wp.{WpFn}
-use types.Kit.{‵, raw, ◌⊛◌, some, prop, at_ret, ◌$◌, ◌∵◌, !, qed, move, keep, drop, use1, use2, pick, split, split3, join, fsplit, fsplit3, fjoin, fjoin3, feq_i, feq_l, flt_l, rewrite, regoal, suffices, frame, done}
-use types.Part.{whole, sub, look_in}
-use types.Run.{stop, fld, load, look, of_opd, bin, size_lit, first, blocks, exec, returns, enter}
-use types.ByLocal.{alloc_all, pass_all, free_all, look_at, get, through, sets, sets_last, env}
-use package.contract.BorrowLft.{◌⊑◌}
-use package.contract.Monad.{fact}
-use package.contract.Running.{tables}
-use borrow.Table.OneValue.{part_out}
-use denote.Builtin.{usize}
-use denote.Exit.{yes}
-use denote.Laws.{Is, shows}
-use denote.Param.{bounded, layout}
-use denote.Param.Laws.{param_laws}
-use denote.RattleType.{RattleType}
-use denote.Ref.{MutRef}
-use denote.Signature.{plain}
-use denote.Steps.{nothing, heard, peeks}
-use denote.Triple.Walked.{Stays, stay_dropped, stay_ref, Goes-dropped, Goes-ref, walk_of, ends_at}
-use Rattle.std.specs.Prelude.{Option, Some, None}
-use Rattle.std.specs.Mem.{type_size}
-use Rattle.std.proofs.VecSteps.Shapes.{after}
-use Rattle.std.proofs.raw_atomic.Walks.{proved_at}
+use Rattle.ring_slots.proofs.Walk.{◌≡◌, refl, sym, ap, subst, List, [], ◌∷◌, ◌++◌, ℕ, ◌+◌, ◌*◌, length, get_or, set, length-set, Fn, Dict, a_type, named, dcons, dnil, inst_fn, Val, vptr, full_share, SProp, ftrue, fat, froom, flft, WpFn, ‵, raw, ◌⊛◌, some, prop, at_ret, ◌$◌, ◌∵◌, !, qed, move, keep, drop, use1, use2, pick, split, split3, join, fsplit, fsplit3, fjoin, fjoin3, feq_i, feq_l, flt_l, rewrite, regoal, suffices, frame, done, whole, sub, look_in, stop, fld, load, look, of_opd, bin, size_lit, first, blocks, exec, returns, enter, alloc_all, pass_all, free_all, look_at, get, through, sets, sets_last, env, ◌⊑◌, fact, tables, part_out, usize, yes, Is, shows, bounded, layout, param_laws, RattleType, MutRef, plain, nothing, heard, peeks, Stays, stay_dropped, stay_ref, Goes-dropped, Goes-ref, walk_of, ends_at, Option, Some, None, type_size, after, proved_at}
 use Rattle.ring_slots.specs.Slots.{Slots, IsFullAt, changed}
 use Rattle.ring_slots.specs.heap.Memory.{slot, row}
 use Rattle.ring_slots.proofs.Rows.{item_of, full_within, place_fits, says_both, others, slot_out, slot_in}

@@ -1,39 +1,8 @@
 -- Room for no item is had for nothing, and is room for any number of items without size.
-use mathlib.Core.Path.{◌≡◌, refl, sym, ap, subst, ◌∙◌}
-use mathlib.Core.Bool.{Bool}
-use mathlib.Core.List.{[], ◌∷◌}
-use Prim.Native.Nat.{ℕ, ◌+◌, ◌*◌, ◌%◌, ◌<◌, ◌^◌}
-use native.Mathlib.Omega.{arith}
-use native.Mathlib.Nat.{zero-mul, mul-zero}
-use lib.Dec.{eqb}
-use lib.ListN.{length, replicate, length-replicate}
-use mir.Syntax.{Fn, a_type, w64, ty_array}
-use mir.MapTy.{inst_fn}
-use base.Logic.{wand}
-use base.Fml.{froom}
+use Rattle.ring_slots.proofs.Walk.{◌≡◌, refl, sym, ap, subst, ◌∙◌, Bool, [], ◌∷◌, ℕ, ◌+◌, ◌*◌, ◌%◌, ◌<◌, ◌^◌, arith, zero-mul, mul-zero, eqb, length, replicate, length-replicate, Fn, a_type, w64, ty_array, inst_fn, wand, froom, size, align, ‵, raw, ◌⊛◌, ◌$◌, ◌∵◌, !, qed, move, keep, drop, use0, use1, use3, split, fjoin, frame, rewrite, suffices, done, agg, stop, from, addr, of_opd, no_more, and_then, returns, enter, alloc_all, pass_all, free_all, look_at, get, through, sets, ◌⊑◌, fact, usize, yes, layout, layouts, uint_vals, uint_Tells, owns, block_ptr, plain, types_at, nothing, heard, Vals, alive, says, Stays, stay_dropped, Goes-dropped, ends_at, None, type_size, proved}
 use prog.Align.{dv_self}
-use prog.Memory.{size, align}
-use types.Kit.{‵, raw, ◌⊛◌, ◌$◌, ◌∵◌, !, qed, move, keep, drop, use0, use1, use3, split, fjoin, frame, rewrite, suffices, done}
-use types.Part.{agg}
-use types.Run.{stop, from, addr, of_opd, no_more, and_then, returns, enter}
-use types.ByLocal.{alloc_all, pass_all, free_all, look_at, get, through, sets}
-use package.contract.BorrowLft.{◌⊑◌}
-use package.contract.Monad.{fact}
-use denote.Builtin.{usize}
-use denote.Exit.{yes}
-use denote.Param.{layout, layouts}
-use denote.Plain.{uint_vals, uint_Tells}
-use denote.RattleType.{owns}
-use denote.RawPtr.{block_ptr}
-use denote.Signature.{plain, types_at}
-use denote.Steps.{nothing, heard}
-use denote.Triple.Entry.{Vals, alive}
-use denote.Triple.Walked.{says, Stays, stay_dropped, Goes-dropped, ends_at}
-use Rattle.std.specs.Prelude.{None}
-use Rattle.std.specs.Mem.{type_size}
 use Rattle.std.specs.contracts.alloc.Global as heap
 use Rattle.std.proofs.alloc.Global.TheLaws as heap_laws
-use Rattle.std.proofs.raw_atomic.Walks.{proved}
 use Rattle.ring_slots.specs.heap.Memory.{row, right, right_if}
 use Rattle.ring_slots.proofs.Rows.{of_room}
 use Rattle.ring_slots.proofs.Opened.{R, Seen, words, begun, fields_made, slots_made}

@@ -1,17 +1,5 @@
 -- The count that a proof gives the new struct is 0. The struct has no bytes and owns nothing.
-use mathlib.Core.Path.{refl}
-use mathlib.Core.List.{[], ◌∷◌}
-use mir.Val.{vstruct, vnil}
-use base.Fml.{ftrue}
-use types.Kit.{‵, raw, ◌$◌, ◌∵◌, !, qed, drop, suffices, done}
-use types.Run.{no_more, returns, enter}
-use types.Part.{agg}
-use types.ByLocal.{alloc_all, pass_all, free_all, look_at, sets}
-use denote.Shadow.{pure_i}
-use denote.Steps.{nothing}
-use denote.Triple.Entry.{on_entry}
-use denote.Triple.Walked.{says, ends_at}
-use Rattle.std.proofs.raw_atomic.Walks.{proved}
+use Rattle.ring_slots.proofs.Walk.{refl, [], ◌∷◌, vstruct, vnil, ftrue, ‵, raw, ◌$◌, ◌∵◌, !, qed, drop, suffices, done, no_more, returns, enter, agg, alloc_all, pass_all, free_all, look_at, sets, pure_i, nothing, on_entry, says, ends_at, proved}
 use Rattle.ring_slots.specs.contracts.tally.Tally.{the_row}
 use Rattle.ring_slots.specs.contracts.tally.Tally.new as contract
 use Rattle.ring_slots.proofs.tally.Tally.new.Statement.{statement}

@@ -1,22 +1,5 @@
 -- The count that a proof gives the new struct is one more than that of the struct behind the reference.
-use mathlib.Core.Path.{refl}
-use mathlib.Core.List.{[], ◌∷◌}
-use Prim.Native.Nat.{◌+◌}
-use mir.Syntax.{named}
-use mir.Val.{vstruct, vnil}
-use base.Fml.{ftrue}
-use types.Kit.{‵, raw, ◌⊛◌, ◌$◌, ◌∵◌, !, qed, move, keep, split, suffices, done}
-use types.Run.{no_more, returns, enter}
-use types.Part.{agg}
-use types.ByLocal.{alloc_all, pass_all, free_all, look_at, sets}
-use denote.Exit.{yes}
-use denote.RattleType.{owns}
-use denote.Ref.{shr_vals, shr_Tells}
-use denote.Shadow.{pure_i}
-use denote.Signature.{plain, types_at}
-use denote.Triple.Entry.{alive}
-use denote.Triple.Walked.{says, ends_at, Stays, stay_none_ref, Goes-none_ref}
-use Rattle.std.proofs.raw_atomic.Walks.{proved}
+use Rattle.ring_slots.proofs.Walk.{refl, [], ◌∷◌, ◌+◌, named, vstruct, vnil, ftrue, ‵, raw, ◌⊛◌, ◌$◌, ◌∵◌, !, qed, move, keep, split, suffices, done, no_more, returns, enter, agg, alloc_all, pass_all, free_all, look_at, sets, yes, owns, shr_vals, shr_Tells, pure_i, plain, types_at, alive, says, ends_at, Stays, stay_none_ref, Goes-none_ref, proved}
 use Rattle.ring_slots.specs.contracts.tally.Tally.{the_row}
 use Rattle.ring_slots.specs.contracts.tally.Tally.next as contract
 use Rattle.ring_slots.proofs.tally.Tally.next.Statement.{statement}
