@@ -1,18 +1,14 @@
 -- What stands while a ring is filled with clones: all items are clones, with a limit as many as turns were taken.
-use Rattle.std.proofs.Common.{◌≡◌, ℕ, ◌+◌, ◌-◌, ◌<◌, All, List, [], ◌∷◌, ◌++◌, length, Option, Some, None, IfSome, IsSome, refl, ap, ◌∙◌, arith, length-append}
+use Rattle.std.proofs.Common.{◌≡◌, ℕ, ◌+◌, ◌<◌, All, List, [], ◌∷◌, ◌++◌, length, Option, Some, None, IfSome, IsSome, ap, ◌∙◌, arith, length-append}
 use Rattle.std.proofs.lemmas.List.Elements.{All-push}
 use Rattle.ring_core.specs.Contents.{ChangesSlots, keep_last}
+use Rattle.ring_core.proofs.Limits.{keep_last_within}
 
 -- xs came from old, and the count of slot changes with it from a to b, by so many turns
 pub record IsFilled {A : Type 0} (P : A → Type 0) (limit : Option ℕ) (old xs : List A) (a b turns : ℕ) : Type 0 where
   pub items : All P xs
   pub long : IfSome limit (λ _. length xs ≡ turns)
   pub changes : IsSome limit → ChangesSlots a old b xs (length xs)
-
--- a list below its limit keeps all its items at a push
-pub keep_last-below : {A : Type 0} (n : ℕ) (xs : List A) (x : A) → length xs < n → keep_last (Some n) (xs ++ x ∷ []) ≡ xs ++ x ∷ []
-keep_last-below n xs x below =
-    let none_over : length (xs ++ x ∷ []) - n ≡ 0 = omega (arith, length-append xs (x ∷ [])) in rw none_over refl
 
 -- one more turn
 pub fill_turn : {A : Type 0} (P : A → Type 0) (limit : Option ℕ) (old xs new : List A) (a b c turns : ℕ) (x : A)
@@ -22,7 +18,7 @@ fill_turn P None old xs new a b c turns x filled below is_one pushed changes =
     record { items = rw pushed (All-push P xs x filled.items is_one); long = tt; changes = λ h. cc }
 fill_turn P (Some n) old xs new a b c turns x filled below is_one pushed changes =
     let room : length xs < n = omega (arith, filled.long) in
-    let grown : new ≡ xs ++ x ∷ [] = pushed ∙ keep_last-below n xs x room in
+    let grown : new ≡ xs ++ x ∷ [] = pushed ∙ keep_last_within (Some n) (xs ++ x ∷ []) (omega arith, omega (arith, length-append xs (x ∷ []))) in
     let one_more : length new ≡ length xs + 1 = rw grown (length-append xs (x ∷ [])) in
     record {
       items = rw grown (All-push P xs x filled.items is_one);

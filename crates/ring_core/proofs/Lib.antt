@@ -1,6 +1,9 @@
+pub mod Drained
 pub mod Filling
 pub mod HistoryLemmas
+pub mod Items
 pub mod Lending
+pub mod Limits
 pub mod LoopLemmas
 pub mod MatchLemmas
 pub mod MeaningLemmas

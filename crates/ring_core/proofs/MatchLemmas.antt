@@ -1,6 +1,6 @@
 -- What a run means by item numbers is what it means by lists: after k steps the contents are the items so far from the
 -- first held number on.
-use Rattle.std.proofs.Common.{◌≡◌, ℕ, zero, suc, ◌+◌, ◌-◌, ◌*◌, ◌<◌, ◌≤◌, ◌==◌, ◌&&◌, max, true, false, nat_lt, if◌then◌else◌, List, [], ◌∷◌, ◌++◌, length, take, drop, map, slice_get, Option, Some, None, refl, inl, inr, sym, ap, ◌∙◌, add-zero, zero-add, append-nil, append_assoc, arith, length-append, length-drop}
+use Rattle.std.proofs.Common.{◌≡◌, ℕ, suc, ◌+◌, ◌-◌, ◌*◌, ◌≤◌, ◌==◌, ◌&&◌, max, true, false, nat_lt, if◌then◌else◌, List, [], ◌∷◌, ◌++◌, length, take, drop, map, slice_get, Option, Some, None, refl, inl, inr, sym, ap, ◌∙◌, add-zero, zero-add, append-nil, append_assoc, arith, length-append, length-drop}
 use Rattle.std.specs.List.{enumerate_from, filter_map, range_with_len}
 use Rattle.std.proofs.lemmas.Bool.{cases_lt}
 use Rattle.std.proofs.lemmas.Bool.Decides.{nat_tests}
@@ -9,31 +9,15 @@ use Rattle.std.proofs.lemmas.Option.{slice_get_past}
 use Rattle.std.proofs.lemmas.List.{drop-append-le, drop-drop, drop_all, drop_min, length_push, length-take-le, take-append-drop, take_all, take_at}
 use Rattle.ring_core.specs.declared.runs.Command.{Command}
 use Rattle.ring_core.specs.declared.runs.Command.TheVariants.{Push, Extend, Dequeue, Skip, Clear}
-use Rattle.ring_core.specs.declared.runs.Reply.TheVariants.{Dequeued, Pushed}
 use Rattle.ring_core.specs.Contents.{ChangesSlots, IsWithin, keep_last, overwritten, rest}
 use Rattle.ring_core.specs.Meaning.{after_all, after_one, puts, replies_to, reply_to}
 use Rattle.ring_core.specs.History.{ChangesFewSlots, Step, pushes, takes, clears, all_items, contents_after, number, oldest, overwrites, overwritten_after, pushed, replies_of, reply_after, steps, steps_of}
-use Rattle.ring_core.proofs.MeaningLemmas.{after_all-append, slice_get-at}
+use Rattle.ring_core.proofs.Items.{slice_get-append_left, slice_get-at, slice_get-drop, slice_get-take_one}
+use Rattle.ring_core.proofs.Limits.{keep_last-keep_last, keep_last_within}
+use Rattle.ring_core.proofs.MeaningLemmas.{after_all-append}
 use Rattle.ring_core.proofs.HistoryLemmas.{IsRoom, IsWindow-held, first, first_next, head-first, held_numbers-window, pushed-take_more, pushed_by, removed-first, window}
 
 -- ---- lists
-
--- The first item that is left is the one at that place.
-slice_get-drop : {A : Type 0} (n : ℕ) (xs : List A) → slice_get (drop n xs) 0 ≡ slice_get xs n
-slice_get-drop zero xs = refl
-slice_get-drop (suc n) [] = refl
-slice_get-drop (suc n) (x ∷ xs) = slice_get-drop n xs
-
--- The first item of the first one.
-slice_get-take_one : {A : Type 0} (xs : List A) → slice_get (take 1 xs) 0 ≡ slice_get xs 0
-slice_get-take_one [] = refl
-slice_get-take_one (x ∷ xs) = refl
-
--- The first list's items stay at their places.
-slice_get-append_left : {A : Type 0} (n : ℕ) (xs ys : List A) → n < length xs → slice_get (xs ++ ys) n ≡ slice_get xs n
-slice_get-append_left n [] ys within = absurd (omega arith)
-slice_get-append_left zero (x ∷ xs) ys within = refl
-slice_get-append_left (suc n) (x ∷ xs) ys within = slice_get-append_left n xs ys (omega arith)
 
 -- The items whose numbers begin where xs ends, by induction on ys.
 items-range : {A : Type 0} (xs ys : List A) → filter_map (slice_get (xs ++ ys)) (range_with_len (length xs) (length ys)) ≡ ys
@@ -82,25 +66,11 @@ rest-drop : {T : Type 0} (l : List T) → rest l ≡ drop 1 l
 rest-drop [] = refl
 rest-drop (x ∷ l) = refl
 
--- A list within the limit is kept whole.
-keep_last-within : {T : Type 0} (limit : Option ℕ) (l : List T) → IsWithin l limit → keep_last limit l ≡ l
-keep_last-within None l within = refl
-keep_last-within (Some c) l within = let none : length l - c ≡ 0 = omega (arith, within.1) in rw none refl
-
--- What is kept of a part that was kept, and more, is what is kept of the whole.
-keep_last-append : {T : Type 0} (limit : Option ℕ) (xs ys : List T) → keep_last limit (keep_last limit xs ++ ys) ≡ keep_last limit (xs ++ ys)
-keep_last-append None xs ys = refl
-keep_last-append (Some c) xs ys =
-    let cut = length xs - c in
-    let whole : drop cut xs ++ ys ≡ drop cut (xs ++ ys) = sym (drop-append-le cut xs ys (omega arith)) in
-    let at : cut + (length (drop cut (xs ++ ys)) - c) ≡ length (xs ++ ys) - c = rw (length-drop, length-append) (omega arith) in
-    rw (whole, drop-drop, at) refl
-
 -- An extension pushes item by item, by induction on the items.
 after_steps-pushes : {T : Type 0} (limit : Option ℕ) (l xs : List T) → IsWithin l limit → after_steps limit l (map pushes xs) ≡ keep_last limit (l ++ xs)
-after_steps-pushes limit l [] within = rw append-nil (sym (keep_last-within limit l within))
+after_steps-pushes limit l [] within = rw append-nil (sym (keep_last_within limit l within))
 after_steps-pushes limit l (x ∷ xs) within =
-    after_steps-pushes limit (keep_last limit (l ++ x ∷ [])) xs (IsWithin-keep_last limit l _ within) ∙ keep_last-append limit (l ++ x ∷ []) xs ∙ ap (keep_last limit) (append_assoc l (x ∷ []) xs)
+    after_steps-pushes limit (keep_last limit (l ++ x ∷ [])) xs (IsWithin-keep_last limit l _ within) ∙ keep_last-keep_last limit (l ++ x ∷ []) xs ∙ ap (keep_last limit) (append_assoc l (x ∷ []) xs)
 
 -- A command leaves a list within the limit.
 IsWithin-after_one : {T : Type 0} (limit : Option ℕ) (l : List T) (c : Command T) → IsWithin l limit → IsWithin (after_one limit l c) limit

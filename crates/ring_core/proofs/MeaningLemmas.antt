@@ -1,11 +1,12 @@
 -- Runs of commands in parts, and the places of their replies.
-use Rattle.std.proofs.Common.{◌≡◌, ℕ, ◌-◌, ◌<◌, List, [], ◌∷◌, ◌++◌, length, map, set, replicate, slice_get, Option, Some, None, refl, ap, arith, append-nil, append_assoc, suc}
+use Rattle.std.proofs.Common.{◌≡◌, ℕ, ◌-◌, ◌<◌, List, [], ◌∷◌, ◌++◌, length, map, set, replicate, Option, Some, None, refl, ap, arith, append-nil, append_assoc, suc}
 use Rattle.std.proofs.lemmas.List.{length-map, map-append, set_at, take_at}
 use Rattle.std.proofs.lemmas.List.{length_push}
 use Rattle.ring_core.specs.declared.runs.Command.{Command}
 use Rattle.ring_core.specs.declared.runs.Reply.{Reply}
 use Rattle.ring_core.specs.declared.runs.Refused.{Refused}
 use Rattle.ring_core.specs.declared.runs.Refused.TheVariants as refused
+use Rattle.ring_core.proofs.Items.{slice_get-at}
 use Rattle.ring_core.specs.Meaning.{after_one, after_all, reply_to, replies_to, places, IsRefused, LeavesPart, StopsAt}
 
 module _ {T : Type 0} (limit : Option ℕ) where
@@ -35,11 +36,6 @@ pub places_all : {T : Type 0} (limit : Option ℕ) (l : List T) (cs : List (Comm
 places_all limit l cs =
     let none : length cs - length (replies_to limit l cs) ≡ 0 = omega (arith, length-replies_to limit l cs) in
     rw (none, append-nil) refl
-
--- The item at a place after so many others.
-pub slice_get-at : {A : Type 0} (xs : List A) (y : A) (ys : List A) → slice_get (xs ++ y ∷ ys) (length xs) ≡ Some y
-slice_get-at [] y ys = refl
-slice_get-at (x ∷ xs) y ys = slice_get-at xs y ys
 
 -- A push that was refused took none of its one item.
 LeavesPart-refused : {T : Type 0} (c : Command T) (old new : List T) (r : Refused T) → IsRefused c old new r → LeavesPart old c new

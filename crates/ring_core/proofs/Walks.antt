@@ -1,12 +1,13 @@
 -- How a step of a walk shortens what is still to come.
-use Rattle.std.proofs.Common.{◌≡◌, ℕ, ◌+◌, ◌-◌, ◌<◌, ◌≤◌, ◌↔◌, min, List, [], ◌∷◌, ◌++◌, length, take, drop, get_or, Option, Some, None, MatchOption, refl, sym, ap, ◌∙◌, Bor, add-one, arith, inl, inr, length-append, length-drop}
+use Rattle.std.proofs.Common.{append_assoc, ◌≡◌, ℕ, ◌+◌, ◌-◌, ◌<◌, ◌≤◌, ◌↔◌, min, List, [], ◌∷◌, ◌++◌, length, take, drop, get_or, Option, Some, None, MatchOption, map, refl, slice_set, suc, sym, ap, ◌∙◌, Bor, add-one, arith, inl, inr, length-append, length-drop}
 use Rattle.std.specs.List.{slice_get}
 use Rattle.std.specs.Option.{option_copied}
-use Rattle.std.proofs.Math.Seq.{drop-cons, take-suc}
-use Rattle.std.proofs.lemmas.List.{drop-append-le, get_or-take, length-take, length-take-le, take_min}
-use Rattle.std.proofs.lemmas.Option.{slice_get-get_or, slice_get_cases}
+use Rattle.std.proofs.Math.Seq.{drop-cons, take-length, take-suc, take-suc-set}
+use Rattle.std.proofs.lemmas.List.{drop-append-le, drop-set-lt, get_or-take, length-take, length-take-le, take_min}
+use Rattle.std.proofs.lemmas.Option.{slice_get-get_or, slice_get_cases, slice_get_within}
 use Rattle.ring_core.specs.Contents.{place}
 use Rattle.ring_core.specs.Walk.{to_come}
+use Rattle.ring_core.proofs.Items.{slice_get-at}
 use Rattle.ring_core.proofs.Reading.{get_answers, get_or_read, slice_get-place}
 
 -- the first item to come, and then the others
@@ -24,11 +25,6 @@ to_come-last xs front back last d ends before =
     let kept : front ≤ length (take last xs) = omega (arith, length-take-le last xs (omega arith)) in
     let cut : take back xs ≡ take last xs ++ get_or xs last d ∷ [] = sym (take_min back xs) ∙ sym (ap (λ n. take n xs) ends) ∙ rw add-one (take-suc xs last d inside) in
     ap (drop front) cut ∙ drop-append-le front (take last xs) (get_or xs last d ∷ []) kept
-
--- the item behind a list
-slice_get_seam : {A : Type 0} (xs : List A) (x : A) → slice_get (xs ++ x ∷ []) (length xs) ≡ Some x
-slice_get_seam [] x = refl
-slice_get_seam (y ∷ ys) x = slice_get_seam ys x
 
 module _ {A : Type 0} (xs : List A) (front back : ℕ) where
   -- `next` by `get`
@@ -61,7 +57,7 @@ module _ {A : Type 0} (xs : List A) (front back : ℕ) where
             let others = to_come xs front last in
             let cut : to_come xs front back ≡ others ++ get_or xs last x ∷ [] = to_come-last xs front back last x ends before in
             let behind : length (others ++ get_or xs last x ∷ []) - 1 ≡ length others = omega (arith, length-append others (get_or xs last x ∷ [])) in
-            let at_end : slice_get (to_come xs front back) (length (to_come xs front back) - 1) ≡ Some (get_or xs last x) = rw (cut, behind) (slice_get_seam others (get_or xs last x)) in
+            let at_end : slice_get (to_come xs front back) (length (to_come xs front back) - 1) ≡ Some (get_or xs last x) = rw (cut, behind) (slice_get-at others (get_or xs last x) []) in
             read ∙ slice_get-place xs last within ∙ slice_get-get_or xs last x within ∙ sym at_end)
         | inr past ↦ (let beyond : length xs ≤ last = past.0 in absurd (omega arith))
       ]
@@ -71,3 +67,14 @@ module _ {A : Type 0} (xs : List A) (front back : ℕ) where
   none-to_come found before =
       let long : length (to_come xs front back) ≡ min back (length xs) - front = length-drop front (take back xs) ∙ ap (λ n. n - front) (length-take back xs) in
       (λ p. absurd (found p), λ none. absurd (omega (arith, long, ap length none)))
+
+-- A cursor that puts f of each item in its place: the items before the cursor, and f of the others, are the same
+-- before a step and after it.
+pub map-step : {A : Type 0} (f : A → A) (xs : List A) (front : ℕ) (x : A) → Some x ≡ slice_get (to_come xs front (length xs)) 0
+    → take (front + 1) (slice_set xs front (f x)) ++ map f (drop (front + 1) (slice_set xs front (f x))) ≡ take front xs ++ map f (drop front xs)
+map-step f xs front x lent =
+    let first : slice_get (drop front xs) 0 ≡ Some x = sym (lent ∙ ap (λ l. slice_get (drop front l) 0) (take-length xs)) in
+    let within : front < length xs = omega (arith, slice_get_within (drop front xs) 0 x first, length-drop front xs) in
+    let behind : drop front xs ≡ get_or xs front x ∷ drop (suc front) xs = drop-cons xs front x within in
+    let is : get_or xs front x ≡ x = let e : Some (get_or xs front x) ≡ Some x = sym (ap (λ l. slice_get l 0) behind) ∙ first in cc in
+    rw (add-one, take-suc-set xs front (f x) within, drop-set-lt (suc front) xs front (f x) (omega arith), append_assoc, behind, is) refl

@@ -4,3 +4,7 @@ pub mod Over
 pub mod Repeated
 pub mod Sources
 pub mod Steps
+pub use Rattle.ring_core.proofs.Drained
+pub use Rattle.ring_core.proofs.Items
+pub use Rattle.ring_core.proofs.Limits
+pub use Rattle.ring_core.proofs.Walks

@@ -7,7 +7,8 @@ use Rattle.std.proofs.lemmas.List.Elements.{All-head, All-tail, filter_map-appen
 use Rattle.std.proofs.lemmas.Str.{encodes-chars, length-le-encodes}
 use Rattle.std.proofs.Math.Seq.{take-suc}
 use Rattle.ring_core.specs.Contents.{keep_last}
-use Rattle.ring_core.specs.Facts.{keep_last-keep_last, shown_drained}
+use Rattle.ring_core.proofs.Drained.{shown_drained}
+use Rattle.ring_core.proofs.Limits.{keep_last-keep_last}
 use Rattle.ringbuffer.specs.Conversion.{HoldsAll, somes}
 use Rattle.ringbuffer.specs.HeldWithin.{HeldWithin}
 

@@ -1,6 +1,6 @@
 use Rattle.std.proofs.Common.{◌+◌, ◌%◌, ◌^◌, ◌∙◌}
 use Rattle.std.proofs.lemmas.List.{length-set}
-use Rattle.ringbuffer.specs.Facts.{map-step}
+use Rattle.ringbuffer.proofs.Walks.{map-step}
 use Rattle.ring_bench.proofs.callers.increment_each.Goals as goal
 
 pub loop-item-preserved : goal.loop-item-preserved

@@ -1,5 +1,5 @@
 use Rattle.std.proofs.Common.{◌∙◌, rules}
-use Rattle.ringbuffer.specs.Facts.{newest_replaced}
+use Rattle.ringbuffer.proofs.Limits.{newest_replaced}
 use Rattle.ring_bench.proofs.callers.push_then_replace.Goals as goal
 
 pub returns-in-Some-clause-contents : goal.returns-in-Some-clause-contents

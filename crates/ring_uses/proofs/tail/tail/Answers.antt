@@ -4,7 +4,8 @@ use Rattle.std.proofs.lemmas.Iterator.Consumers.{YieldsList-from_first}
 use Rattle.std.proofs.lemmas.Iterator.Splits.{YieldsList-from_lines}
 use Rattle.std.proofs.lemmas.Result.{IfOk-weaker}
 use Rattle.ringbuffer.specs.Contents.{keep_last}
-use Rattle.ringbuffer.specs.Facts.{map-keep_last, shown_extended}
+use Rattle.ringbuffer.proofs.Drained.{shown_extended}
+use Rattle.ringbuffer.proofs.Limits.{map-keep_last}
 use Rattle.ringbuffer.specs.Walk.{unmoved}
 use Rattle.ring_uses.proofs.tail.tail.Goals as goal
 

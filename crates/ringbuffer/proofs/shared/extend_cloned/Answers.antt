@@ -1,7 +1,8 @@
 use Rattle.std.proofs.Common.{[], ◌∷◌, ◌++◌, refl, sym, ap, ◌∙◌, append_assoc, append-nil}
 use Rattle.std.proofs.lemmas.List.{map-append}
 use Rattle.ring_core.specs.Contents.{keep_last}
-use Rattle.ring_core.specs.Facts.{AllZip-append, keep_last-keep_last, keep_last_within}
+use Rattle.ring_core.proofs.Items.{AllZip-append}
+use Rattle.ring_core.proofs.Limits.{keep_last-keep_last, keep_last_within}
 use Rattle.ringbuffer.proofs.shared.extend_cloned.Goals as goal
 
 pub loop-item-init : goal.loop-item-init

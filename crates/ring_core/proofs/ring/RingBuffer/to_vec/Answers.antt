@@ -1,5 +1,5 @@
 use Rattle.std.proofs.Common.{arith}
-use Rattle.ring_core.specs.Facts.{AllZip-append}
+use Rattle.ring_core.proofs.Items.{AllZip-append}
 use Rattle.ring_core.proofs.Reading.{take_read}
 use Rattle.ring_core.proofs.ring.RingBuffer.to_vec.Goals as goal
 

@@ -2,7 +2,8 @@ use Rattle.std.proofs.Common.{◌≤◌, ◌∙◌, ◌++◌, Some, ap, arith, l
 use Rattle.std.proofs.lemmas.Iterator.{YieldsList-from_slice}
 use Rattle.std.proofs.lemmas.Iterator.Consumers.{YieldsList-from_copied}
 use Rattle.std.proofs.lemmas.List.{length-take, map-id}
-use Rattle.ringbuffer.specs.Facts.{keep_last_within, shown_extended}
+use Rattle.ringbuffer.proofs.Drained.{shown_extended}
+use Rattle.ringbuffer.proofs.Limits.{keep_last_within}
 use Rattle.ring_uses.proofs.pipe.Pipe.receive.Goals as goal
 
 pub returns-clause-bytes : goal.returns-clause-bytes

@@ -1,5 +1,5 @@
 use Rattle.std.proofs.lemmas.List.{map-append}
-use Rattle.ringbuffer.specs.Facts.{map-keep_last}
+use Rattle.ringbuffer.proofs.Limits.{map-keep_last}
 use Rattle.ring_uses.proofs.tail.LogTail.feed.Goals as goal
 
 pub returns : goal.returns

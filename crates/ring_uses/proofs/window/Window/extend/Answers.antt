@@ -2,7 +2,7 @@ use Rattle.std.proofs.Common.{◌∙◌, sym, refl, rules}
 use Rattle.std.proofs.lemmas.Iterator.{YieldsList-from_slice}
 use Rattle.std.proofs.lemmas.Iterator.Consumers.{YieldsList-from_copied}
 use Rattle.std.proofs.lemmas.List.{map-id}
-use Rattle.ringbuffer.specs.Facts.{shown_extended}
+use Rattle.ringbuffer.proofs.Drained.{shown_extended}
 use Rattle.ring_uses.proofs.window.Window.extend.Goals as goal
 
 pub returns : goal.returns

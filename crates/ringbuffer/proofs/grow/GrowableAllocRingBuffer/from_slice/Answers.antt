@@ -1,6 +1,6 @@
 use Rattle.std.proofs.Common.{◌≡◌, [], rules}
 use Rattle.std.proofs.lemmas.Iterator.{YieldsList-from_slice}
-use Rattle.ring_core.specs.Facts.{shown_drained}
+use Rattle.ring_core.proofs.Drained.{shown_drained}
 use Rattle.ringbuffer.proofs.grow.GrowableAllocRingBuffer.from_slice.Goals as goal
 
 pub returns : goal.returns

@@ -2,7 +2,7 @@ use Rattle.std.proofs.Common.{◌≡◌, ◌++◌, Some, length, refl, ap, sym, 
 use Rattle.std.proofs.lemmas.Iterator.{YieldsList-from_slice}
 use Rattle.std.proofs.lemmas.Slice.Zip.{AllZip-long}
 use Rattle.ring_core.specs.Contents.{keep_last}
-use Rattle.ring_core.specs.Facts.{shown_drained}
+use Rattle.ring_core.proofs.Drained.{shown_drained}
 use Rattle.ringbuffer.specs.HeldWithin.{HeldWithin}
 use Rattle.ringbuffer.proofs.Sources.{all_held}
 use Rattle.ringbuffer.proofs.heap.AllocRingBuffer.from_slice.Goals as goal

@@ -1,0 +1,50 @@
+-- What follows of a limit on a list.
+use Rattle.std.specs.Prelude.{◌≡◌, ℕ, zero, suc, ◌+◌, ◌-◌, ◌<◌, List, [], ◌∷◌, ◌++◌, length, map, drop, Option, None, Some, IfSome, refl, slice_set, negsuc}
+use Rattle.std.proofs.Common.{◌∙◌, ap, sym, arith, length-append, length-drop}
+use Rattle.std.proofs.Math.Nat.{zero-mod}
+use Rattle.std.proofs.Math.Seq.{set-append_seam}
+use Rattle.std.proofs.lemmas.List.{drop-append-le, drop-drop, drop-map, drop_all, length-map}
+use Rattle.ring_core.specs.Contents.{IsWithin, keep_last, signed_place}
+
+-- a list within its limit loses nothing
+pub keep_last_within : {A : Type 0} (limit : Option ℕ) (xs : List A) → IsWithin xs limit → keep_last limit xs ≡ xs
+keep_last_within None xs within = refl
+keep_last_within (Some n) xs within = let none_over : length xs - n ≡ 0 = omega arith in rw none_over refl
+
+-- what a limit leaves does not depend on how often it was applied before
+pub keep_last-keep_last : {A : Type 0} (limit : Option ℕ) (xs ys : List A) → keep_last limit (keep_last limit xs ++ ys) ≡ keep_last limit (xs ++ ys)
+keep_last-keep_last None xs ys = refl
+keep_last-keep_last (Some n) xs ys =
+    let cut = length xs - n in
+    let joined : drop cut xs ++ ys ≡ drop cut (xs ++ ys) = sym (drop-append-le cut xs ys (omega arith)) in
+    let all_cut : cut + (length (drop cut (xs ++ ys)) - n) ≡ length (xs ++ ys) - n = omega (arith, length-drop cut (xs ++ ys), length-append xs ys) in
+    rw (joined, drop-drop, all_cut) refl
+
+-- a limit leaves of the answers of a function what the function answers to what it leaves of the list
+pub map-keep_last : {A B : Type 0} (f : A → B) (n : ℕ) (xs : List A) → map f (keep_last (Some n) xs) ≡ keep_last (Some n) (map f xs)
+map-keep_last f n xs = rw length-map (sym (drop-map f (length xs - n) xs))
+
+-- what stays before a pushed item does not depend on the item
+pub keep_last_before : {A : Type 0} (limit : Option ℕ) (xs : List A) → IfSome limit (λ n. 0 < n)
+    → (before : List A) × ((x : A) → keep_last limit (xs ++ x ∷ []) ≡ before ++ x ∷ [])
+keep_last_before None xs above = (xs, λ x. refl)
+keep_last_before (Some n) xs above =
+    (drop (length xs + 1 - n) xs, λ x. ap (λ k. drop (k - n) (xs ++ x ∷ [])) (length-append xs (x ∷ [])) ∙ drop-append-le (length xs + 1 - n) xs (x ∷ []) (omega arith))
+
+-- position -1 names the last of some items
+pub signed_place-newest : {A : Type 0} (before : List A) (x : A) → signed_place (length (before ++ x ∷ [])) (negsuc 0) ≡ length before
+signed_place-newest before x = rw (zero-mod (length (before ++ x ∷ []))) (omega (arith, length-append before (x ∷ [])))
+
+-- a limit that leaves an item is above zero
+above_zero : {A : Type 0} (limit : Option ℕ) (xs : List A) → (keep_last limit xs ≡ [] → ⊥) → IfSome limit (λ n. 0 < n)
+above_zero None xs some = tt
+above_zero (Some zero) xs some = absurd (some (drop_all (length xs - 0) xs (omega arith)))
+above_zero (Some (suc n)) xs some = omega arith
+
+-- a write to the newest item after a push is as if the other item had been pushed
+pub newest_replaced : {A : Type 0} (limit : Option ℕ) (xs now : List A) (x y : A) → now ≡ keep_last limit (xs ++ x ∷ []) → (now ≡ [] → ⊥)
+    → slice_set now (signed_place (length now) (negsuc 0)) y ≡ keep_last limit (xs ++ y ∷ [])
+newest_replaced limit xs now x y pushed some =
+    let above : IfSome limit (λ n. 0 < n) = above_zero limit (xs ++ x ∷ []) (λ none. some (pushed ∙ none)) in
+    let (before, ends) = keep_last_before limit xs above in
+    rw (pushed, ends x, signed_place-newest before x, ends y) (set-append_seam before x [] y)
