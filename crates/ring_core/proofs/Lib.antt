@@ -1,12 +1,12 @@
+pub mod BothMeanings
+pub mod CommandLoop
 pub mod Drained
 pub mod Filling
-pub mod HistoryLemmas
+pub mod HeldWindow
 pub mod Items
 pub mod Lending
 pub mod Limits
-pub mod LoopLemmas
-pub mod MatchLemmas
-pub mod MeaningLemmas
 pub mod Reading
+pub mod RunParts
 pub mod Walks
 pub mod WorkedRuns

@@ -1,9 +1,9 @@
 -- One turn of the loop, its end, its stop at a refusal, and what holds where no command was done.
 use Rattle.std.proofs.Common.{◌<◌, length, arith}
 use Rattle.ring_core.specs.History.{steps}
-use Rattle.ring_core.proofs.HistoryLemmas.{KeepsToNumbers-held}
-use Rattle.ring_core.proofs.MatchLemmas.{ChangesFewSlots-twice, contents_after-all, replies_of-all}
-use Rattle.ring_core.proofs.LoopLemmas.{HasDone-few, HasDone-stops, HasDone-turn, HasDone-whole, length-replies_so_far, replies_to-turn}
+use Rattle.ring_core.proofs.HeldWindow.{KeepsToNumbers-held}
+use Rattle.ring_core.proofs.BothMeanings.{ChangesFewSlots-twice, contents_after-all, replies_of-all}
+use Rattle.ring_core.proofs.CommandLoop.{HasDone-few, HasDone-stops, HasDone-turn, HasDone-whole, length-replies_so_far, replies_to-turn}
 use Rattle.ring_core.proofs.runs.run.Goals as goal
 
 pub store-requires : goal.store-requires

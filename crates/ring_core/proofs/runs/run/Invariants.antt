@@ -1,6 +1,6 @@
 use Rattle.std.proofs.Common.{◌≡◌, ◌≤◌, length, vec_capacity}
 use Rattle.ring_core.specs.Meaning.{replies_to}
-use Rattle.ring_core.proofs.LoopLemmas.{HasDone}
+use Rattle.ring_core.proofs.CommandLoop.{HasDone}
 use Rattle.ring_core.proofs.runs.run.Given as goal
 
 -- the commands so far are done and answered, and there is room for the replies to all

@@ -1,9 +1,9 @@
 -- One turn of the loop, its end, and its stop at a refusal.
 use Rattle.ring_core.specs.History.{steps}
-use Rattle.ring_core.proofs.MeaningLemmas.{places_all}
-use Rattle.ring_core.proofs.HistoryLemmas.{KeepsToNumbers-held}
-use Rattle.ring_core.proofs.MatchLemmas.{ChangesFewSlots-twice, contents_after-all, replies_of-all}
-use Rattle.ring_core.proofs.LoopLemmas.{HasDone-few, HasDone-stops, HasDone-turn, HasDone-whole, places-turn}
+use Rattle.ring_core.proofs.RunParts.{places_all}
+use Rattle.ring_core.proofs.HeldWindow.{KeepsToNumbers-held}
+use Rattle.ring_core.proofs.BothMeanings.{ChangesFewSlots-twice, contents_after-all, replies_of-all}
+use Rattle.ring_core.proofs.CommandLoop.{HasDone-few, HasDone-stops, HasDone-turn, HasDone-whole, places-turn}
 use Rattle.ring_core.proofs.runs.run_into.Goals as goal
 
 pub loop-command-preserved : goal.loop-command-preserved

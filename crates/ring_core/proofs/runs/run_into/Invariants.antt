@@ -1,6 +1,6 @@
 use Rattle.std.proofs.Common.{◌≡◌, length}
 use Rattle.ring_core.specs.Meaning.{places, replies_to}
-use Rattle.ring_core.proofs.LoopLemmas.{HasDone}
+use Rattle.ring_core.proofs.CommandLoop.{HasDone}
 use Rattle.ring_core.proofs.runs.run_into.Given as goal
 
 -- the commands so far are done and answered

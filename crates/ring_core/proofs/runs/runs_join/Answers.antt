@@ -1,5 +1,5 @@
 -- Both facts go by induction on the first list.
-use Rattle.ring_core.proofs.MeaningLemmas.{after_all-append, replies_to-append}
+use Rattle.ring_core.proofs.RunParts.{after_all-append, replies_to-append}
 use Rattle.ring_core.proofs.runs.runs_join.Goals as goal
 
 pub returns : goal.returns

@@ -8,8 +8,8 @@ use Rattle.ring_core.specs.declared.runs.Reply.{Reply}
 use Rattle.ring_core.specs.Contents.{ChangesSlots, IsWithin}
 use Rattle.ring_core.specs.Meaning.{IsRefused, StopsAt, after_all, after_one, places, puts, replies_to, reply_to}
 use Rattle.ring_core.specs.History.{ChangesFewSlots, pushed, steps, steps_of}
-use Rattle.ring_core.proofs.MeaningLemmas.{StopsAt-refused, after_all-append, length-replies_to, places-more, replies_to-append}
-use Rattle.ring_core.proofs.MatchLemmas.{ChangesFewSlots-run, pushed-append, pushed-steps_of}
+use Rattle.ring_core.proofs.RunParts.{StopsAt-refused, after_all-append, length-replies_to, places-more, replies_to-append}
+use Rattle.ring_core.proofs.BothMeanings.{ChangesFewSlots-run, pushed-append, pushed-steps_of}
 
 -- of all the commands some are done and the others to do, and the ring holds what those that are done leave
 pub record HasDone {T : Type 0} (limit : Option ℕ) (start : List T) (all done todo : List (Command T)) (at : ℕ) (limit' : Option ℕ) (now : List T) (before after : ℕ) : Type 0 where

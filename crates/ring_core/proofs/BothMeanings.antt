@@ -14,8 +14,8 @@ use Rattle.ring_core.specs.Meaning.{after_all, after_one, puts, replies_to, repl
 use Rattle.ring_core.specs.History.{ChangesFewSlots, Step, pushes, takes, clears, all_items, contents_after, number, oldest, overwrites, overwritten_after, pushed, replies_of, reply_after, steps, steps_of}
 use Rattle.ring_core.proofs.Items.{slice_get-append_left, slice_get-at, slice_get-drop, slice_get-take_one}
 use Rattle.ring_core.proofs.Limits.{keep_last-keep_last, keep_last_within}
-use Rattle.ring_core.proofs.MeaningLemmas.{after_all-append}
-use Rattle.ring_core.proofs.HistoryLemmas.{IsRoom, IsWindow-held, first, first_next, head-first, held_numbers-window, pushed-take_more, pushed_by, removed-first, window}
+use Rattle.ring_core.proofs.RunParts.{after_all-append}
+use Rattle.ring_core.proofs.HeldWindow.{IsRoom, IsWindow-held, first, first_next, head-first, held_numbers-window, pushed-take_more, pushed_by, removed-first, window}
 
 -- ---- lists
 
