@@ -1,5 +1,5 @@
-mod Blocks
-mod Opened
-mod Rows
-mod Sharing
+mod BlockCalls
+mod Parts
+mod SharedSlots
+mod SlotsInMemory
 mod Walk

@@ -11,5 +11,4 @@ mod tests;
 
 pub use array::ArraySlots;
 pub use heap::HeapSlots;
-pub use place::{masked, wrapped, wrapped_after, wrapped_next};
 pub use row::SlotRow;

@@ -2,9 +2,9 @@
 ghost use Rattle.std.specs.Prelude.{◌≡◌, ◌+◌, ◌%◌, ◌^◌, ◌<◌, ◌≤◌, IsTrue};
 ghost use Rattle.std.specs.Int.{IsPowerOfTwo};
 
-/// The place `k` after `start`, counted round `size` places. No sum wraps, however large the size.
+// The place `k` after `start`, counted round `size` places. No sum wraps, however large the size.
 #[inline]
-pub fn wrapped(start: usize, k: usize, size: usize) -> usize
+pub(crate) fn wrapped(start: usize, k: usize, size: usize) -> usize
     requires start { start < size }
     requires count { k ≤ size }
     ensures { result ≡ (start + k) % size }
@@ -21,10 +21,10 @@ pub fn wrapped(start: usize, k: usize, size: usize) -> usize
     if k < room { start + k } else { k - room }
 }
 
-/// The place after `len` items that begin at `start`, counted round `size` places. It is `start` at `size` items, where
-/// the program has no sum left to find.
+// The place after `len` items that begin at `start`, counted round `size` places. It is `start` at `size` items, where
+// the program has no sum left to find.
 #[inline]
-pub fn wrapped_after(start: usize, len: usize, size: usize) -> usize
+pub(crate) fn wrapped_after(start: usize, len: usize, size: usize) -> usize
     requires start { start < size }
     requires len { len ≤ size }
     ensures { result ≡ (start + len) % size }
@@ -36,9 +36,9 @@ pub fn wrapped_after(start: usize, len: usize, size: usize) -> usize
     }
 }
 
-/// The place after a place, counted round `size` places.
+// The place after a place, counted round `size` places.
 #[inline]
-pub fn wrapped_next(place: usize, size: usize) -> usize
+pub(crate) fn wrapped_next(place: usize, size: usize) -> usize
     requires { place < size }
     ensures { result ≡ (place + 1) % size }
 {
@@ -48,9 +48,9 @@ pub fn wrapped_next(place: usize, size: usize) -> usize
     if place < size - 1 { place + 1 } else { 0 }
 }
 
-/// The place `k` after `start`, counted round `mask + 1` places, whose number is a power of two.
+// The place `k` after `start`, counted round `mask + 1` places, whose number is a power of two.
 #[inline]
-pub fn masked(start: usize, k: usize, mask: usize) -> usize
+pub(crate) fn masked(start: usize, k: usize, mask: usize) -> usize
     requires size { IsPowerOfTwo (mask + 1) }
     requires word { mask + 1 < 2 ^ 64 }
     requires start { start ≤ mask }

@@ -12,7 +12,7 @@ use denote.Struct.Members.{Member}
 use denote.Struct.Recorded.{Recorded-part}
 use denote.Triple.Clauses.{Ended}
 use borrow.Table.Elements.{at, at_mul, focus_any}
-use Rattle.ring_slots.proofs.Rows.{product_is}
+use Rattle.ring_slots.proofs.SlotsInMemory.{product_is}
 use Rattle.ring_slots.specs.contracts.array.Cells.{the_row, the_type}
 use Rattle.ring_slots.specs.contracts.array.Cells.at_mut as contract
 use Rattle.ring_slots.proofs.array.Cells.at_mut.Statement.{statement}

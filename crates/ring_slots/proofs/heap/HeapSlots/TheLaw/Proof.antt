@@ -7,7 +7,7 @@ use Rattle.std.specs.contracts.alloc.Global as heap
 use Rattle.std.proofs.alloc.Global.TheLaws as heap_laws
 use Rattle.ring_slots.specs.contracts.heap.HeapSlots.TheInside as C
 use Rattle.ring_slots.proofs.heap.HeapSlots.TheLaw.Statement.{statement}
-use Rattle.ring_slots.proofs.Sharing.{lent_laws, lends}
+use Rattle.ring_slots.proofs.SharedSlots.{lent_laws, lends}
 
 pub shares : (R : RattleType) (L : Laws R) → statement R L
 shares R L = of_Lends (C.struct R) (C.the_codes R.Denot R.coded heap.the_row.coded) (C.the_heap R) (C.the_lent R)

@@ -3,9 +3,9 @@ use Rattle.ring_slots.proofs.Walk.{◌≡◌, refl, sym, ap, subst, ◌∙◌, B
 use Rattle.std.proofs.impls.GlobalAllocator.deallocate.Met.{met}
 use Rattle.ring_slots.specs.Slots.{Slots}
 use Rattle.ring_slots.specs.heap.Memory.{right_if}
-use Rattle.ring_slots.proofs.Blocks.{Give, give, gives, gave, block_type, block_laid, handle_lent, handle_back}
-use Rattle.ring_slots.proofs.Rows.{has_size, product_is, to_room}
-use Rattle.ring_slots.proofs.Opened.{R, Seen, slots_had}
+use Rattle.ring_slots.proofs.BlockCalls.{Give, give, gives, gave, block_type, block_laid, handle_lent, handle_back}
+use Rattle.ring_slots.proofs.SlotsInMemory.{has_size, product_is, to_room}
+use Rattle.ring_slots.proofs.Parts.{R, Seen, slots_had}
 use Rattle.ring_slots.specs.contracts.heap.HeapSlots.free_block as contract
 use Rattle.ring_slots.proofs.heap.HeapSlots.free_block.Statement.{statement}
 use Rattle.ring_slots.proofs.heap.HeapSlots.free_block.Code as code

@@ -4,8 +4,8 @@ use denote.Opens.{shr_dup, hide, unhide}
 use Rattle.std.proofs.Words.{pointer_in, pointer_out}
 use Rattle.ring_slots.specs.Slots.{Slots, IsFullAt}
 use Rattle.ring_slots.specs.heap.Memory.{lent, slot_shown}
-use Rattle.ring_slots.proofs.Rows.{item_of, full_within, place_fits, slot_seen}
-use Rattle.ring_slots.proofs.Opened.{R, Seen}
+use Rattle.ring_slots.proofs.SlotsInMemory.{item_of, full_within, place_fits, slot_seen}
+use Rattle.ring_slots.proofs.Parts.{R, Seen}
 use Rattle.ring_slots.specs.contracts.heap.HeapSlots.get as contract
 use Rattle.ring_slots.proofs.heap.HeapSlots.get.Statement.{statement}
 use Rattle.ring_slots.proofs.heap.HeapSlots.get.Code as code

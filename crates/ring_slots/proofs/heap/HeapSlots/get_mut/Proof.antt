@@ -2,8 +2,8 @@
 use Rattle.ring_slots.proofs.Walk.{◌≡◌, refl, sym, ap, subst, List, [], ◌∷◌, ◌++◌, ℕ, ◌+◌, ◌*◌, ◌<◌, length, get_or, set, length-set, Fn, Dict, a_type, named, dcons, dnil, inst_fn, Val, vptr, Ura, full_share, SProp, ent, sep, Fml, GName, ftrue, fsep, flft, WpFn, Logic, sem, ‵, raw, ◌⊛◌, some, later, prop, at_ret, ◌$◌, ◌∵◌, !, qed, move, keep, drop, use1, use2, use3, pick, split, split3, join, fsplit, fsplit3, fjoin, fjoin3, fpack, feq_l, flt_l, rewrite, regoal, suffices, frame, group, await, done, whole, sub, look_in, stop, fld, load, addr, of_opd, bin, size_lit, first, blocks, exec, returns, enter, alloc_all, pass_all, free_all, look_at, get, through, sets, sets_last, env, ◌⊑◌, fact, tables, usize, yes, no, follows, lends_Part, mem, cell_at, part_of, bounded, RattleType, block_ptr, MutRef, plain, mut_ref_to, nothing, heard, says, Stays, stay_dropped, Goes-dropped, Goes-spent_ref, walk_of, ends_at, Option, Some, None, type_size, after, proved_at}
 use Rattle.ring_slots.specs.Slots.{Slots, IsFullAt, changed}
 use Rattle.ring_slots.specs.heap.Memory.{slot, row}
-use Rattle.ring_slots.proofs.Rows.{item_of, full_within, place_fits, others, slot_out, slot_in}
-use Rattle.ring_slots.proofs.Opened.{R, Seen, Inside, Fields, AreSmall, Right, fields, words, slots_made, slots_opened, Counted}
+use Rattle.ring_slots.proofs.SlotsInMemory.{item_of, full_within, place_fits, others, slot_out, slot_in}
+use Rattle.ring_slots.proofs.Parts.{R, Seen, Inside, Fields, AreSmall, Right, fields, words, slots_made, slots_opened, Counted}
 use Rattle.ring_slots.specs.contracts.heap.HeapSlots as H
 use Rattle.ring_slots.specs.contracts.heap.HeapSlots.get_mut as contract
 use Rattle.ring_slots.proofs.heap.HeapSlots.get_mut.Statement.{statement}

@@ -11,9 +11,9 @@ use Rattle.std.proofs.ResultValues.{ok_of, err_of}
 use Rattle.std.proofs.alloc.Global.TheLaws as heap_laws
 use Rattle.std.proofs.impls.GlobalAllocator.allocate.Met.{met}
 use Rattle.ring_slots.specs.heap.Memory.{row, right, right_if}
-use Rattle.ring_slots.proofs.Blocks.{Handle, Ask, ask, asks, asked, block_type, block_laid, handle_lent, handle_back}
-use Rattle.ring_slots.proofs.Rows.{has_size, product_is, of_room}
-use Rattle.ring_slots.proofs.Opened.{R, Seen, AreSmall, words, begun, fields_made, slots_made}
+use Rattle.ring_slots.proofs.BlockCalls.{Handle, Ask, ask, asks, asked, block_type, block_laid, handle_lent, handle_back}
+use Rattle.ring_slots.proofs.SlotsInMemory.{has_size, product_is, of_room}
+use Rattle.ring_slots.proofs.Parts.{R, Seen, AreSmall, words, begun, fields_made, slots_made}
 use Rattle.ring_slots.specs.contracts.heap.HeapSlots.in_block as contract
 use Rattle.ring_slots.proofs.heap.HeapSlots.in_block.Statement.{statement}
 use Rattle.ring_slots.proofs.heap.HeapSlots.in_block.Code as code

@@ -2,8 +2,8 @@
 use Rattle.ring_slots.proofs.Walk.{◌≡◌, refl, sym, ap, subst, List, [], ◌∷◌, ◌++◌, ℕ, ◌+◌, ◌*◌, ◌<◌, length, get_or, set, length-set, Fn, Dict, a_type, named, dcons, dnil, inst_fn, Val, vptr, vunit, full_share, SProp, ftrue, flft, WpFn, ‵, raw, ◌⊛◌, prop, at_ret, ◌$◌, ◌∵◌, !, qed, move, keep, drop, use1, use2, split, split3, join, fsplit, fsplit3, fjoin, fjoin3, feq_i, feq_l, flt_l, rewrite, regoal, suffices, frame, done, whole, sub, look_in, init, stop, fld, load, unit_lit, of_opd, bin, size_lit, assigns_last, first, blocks, exec, returns, enter, alloc_all, pass_all, free_all, look_at, get, through, sets, env, ◌⊑◌, fact, tables, part_in, usize, yes, no, Is, shows, bounded, layout, param_laws, RattleType, MutRef, plain, nothing, heard, peeks, says, Stays, stay_dropped, stay_ref, Goes-dropped, Goes-ref, walk_of, ends_at, Option, Some, None, type_size, as_written, after, proved_at}
 use Rattle.ring_slots.specs.Slots.{Slots, IsEmptyAt, changed}
 use Rattle.ring_slots.specs.heap.Memory.{slot, row}
-use Rattle.ring_slots.proofs.Rows.{place_fits, one_value, others, slot_out, slot_in}
-use Rattle.ring_slots.proofs.Opened.{R, Seen, slots_opened, slots_closed}
+use Rattle.ring_slots.proofs.SlotsInMemory.{place_fits, one_value, others, slot_out, slot_in}
+use Rattle.ring_slots.proofs.Parts.{R, Seen, slots_opened, slots_closed}
 use Rattle.ring_slots.specs.contracts.heap.HeapSlots.put as contract
 use Rattle.ring_slots.proofs.heap.HeapSlots.put.Statement.{statement}
 use Rattle.ring_slots.proofs.heap.HeapSlots.put.Code as code

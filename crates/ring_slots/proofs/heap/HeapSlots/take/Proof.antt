@@ -2,8 +2,8 @@
 use Rattle.ring_slots.proofs.Walk.{◌≡◌, refl, sym, ap, subst, List, [], ◌∷◌, ◌++◌, ℕ, ◌+◌, ◌*◌, length, get_or, set, length-set, Fn, Dict, a_type, named, dcons, dnil, inst_fn, Val, vptr, full_share, SProp, ftrue, fat, froom, flft, WpFn, ‵, raw, ◌⊛◌, some, prop, at_ret, ◌$◌, ◌∵◌, !, qed, move, keep, drop, use1, use2, pick, split, split3, join, fsplit, fsplit3, fjoin, fjoin3, feq_i, feq_l, flt_l, rewrite, regoal, suffices, frame, done, whole, sub, look_in, stop, fld, load, look, of_opd, bin, size_lit, first, blocks, exec, returns, enter, alloc_all, pass_all, free_all, look_at, get, through, sets, sets_last, env, ◌⊑◌, fact, tables, part_out, usize, yes, Is, shows, bounded, layout, param_laws, RattleType, MutRef, plain, nothing, heard, peeks, Stays, stay_dropped, stay_ref, Goes-dropped, Goes-ref, walk_of, ends_at, Option, Some, None, type_size, after, proved_at}
 use Rattle.ring_slots.specs.Slots.{Slots, IsFullAt, changed}
 use Rattle.ring_slots.specs.heap.Memory.{slot, row}
-use Rattle.ring_slots.proofs.Rows.{item_of, full_within, place_fits, says_both, others, slot_out, slot_in}
-use Rattle.ring_slots.proofs.Opened.{R, Seen, slots_opened, slots_closed}
+use Rattle.ring_slots.proofs.SlotsInMemory.{item_of, full_within, place_fits, says_both, others, slot_out, slot_in}
+use Rattle.ring_slots.proofs.Parts.{R, Seen, slots_opened, slots_closed}
 use Rattle.ring_slots.specs.contracts.heap.HeapSlots.take as contract
 use Rattle.ring_slots.proofs.heap.HeapSlots.take.Statement.{statement}
 use Rattle.ring_slots.proofs.heap.HeapSlots.take.Code as code

@@ -4,8 +4,8 @@ use prog.Align.{dv_self}
 use Rattle.std.specs.contracts.alloc.Global as heap
 use Rattle.std.proofs.alloc.Global.TheLaws as heap_laws
 use Rattle.ring_slots.specs.heap.Memory.{row, right, right_if}
-use Rattle.ring_slots.proofs.Rows.{of_room}
-use Rattle.ring_slots.proofs.Opened.{R, Seen, words, begun, fields_made, slots_made}
+use Rattle.ring_slots.proofs.SlotsInMemory.{of_room}
+use Rattle.ring_slots.proofs.Parts.{R, Seen, words, begun, fields_made, slots_made}
 use Rattle.ring_slots.specs.contracts.heap.HeapSlots.without_memory as contract
 use Rattle.ring_slots.proofs.heap.HeapSlots.without_memory.Statement.{statement}
 use Rattle.ring_slots.proofs.heap.HeapSlots.without_memory.Code as code
