@@ -1,6 +1,1 @@
-pub mod Laid
-pub mod Lent
-pub mod Over
-pub mod Repeated
 pub mod Sources
-pub mod Steps

@@ -1,15 +1,11 @@
 -- What rings hold that were made of other collections.
-use Rattle.std.specs.Prelude.{◌≡◌, ℕ, List, Option, Some, length}
-use Rattle.std.specs.List.{AllZip, filter_map}
+use Rattle.std.specs.Prelude.{◌≡◌, ℕ, List, Some, length}
+use Rattle.std.specs.List.{AllZip}
 use Rattle.ring_core.specs.Contents.{keep_last}
-use Rattle.ringbuffer.specs.Held.{Held}
+use Rattle.ring_fixed.specs.Held.{Held}
 use Rattle.ringbuffer.specs.HeldWithin.{HeldWithin}
 
 module _ {X : Type 0} where
-  -- the items of options that hold one
-  abbrev pub somes : List (Option X) → List X
-  somes options = filter_map (λ o. o) options
-
   -- an array ring holds the last of the items, at most as many as its capacity
   abbrev pub HoldsLast : ℕ → List X → Held X → Type 0
   HoldsLast capacity xs ring = ring.items ≡ keep_last (Some capacity) xs

@@ -1,9 +1,6 @@
 pub mod Conversion
-pub mod Held
 pub mod HeldWithin
-pub mod Layout
 pub mod array
-pub mod fixed
 pub mod grow
 pub mod heap
 pub use Rattle.ring_core.specs.Contents
@@ -12,3 +9,5 @@ pub use Rattle.ring_core.specs.Facts
 pub use Rattle.ring_core.specs.History
 pub use Rattle.ring_core.specs.Meaning
 pub use Rattle.ring_core.specs.Walk
+pub use Rattle.ring_fixed.specs.Held
+pub use Rattle.ring_fixed.specs.Somes

@@ -7,11 +7,11 @@ ghost use Rattle.std.specs.List.{AllZip};
 ghost use Rattle.std.proofs.lemmas.Cmp.{lists_equiv, on_equiv};
 ghost use Rattle.ring_core.specs.Contents.{ChangesSlots, keep_last, overwritten, place};
 ghost use Rattle.ring_core.specs.Walk.{ReadsInOrder, ReadsInReverse, StartsOver, unmoved, unread};
-ghost use Rattle.ringbuffer.specs.Held.{pushed, written};
+ghost use Rattle.ring_fixed.specs.Held.{pushed, written};
 
-use crate::fixed::Fixed;
-use crate::position::{position, signed_position};
-use crate::shared::{extend_cloned, same_items};
+use ring_fixed::fixed::Fixed;
+use ring_fixed::position::{position, signed_position};
+use ring_fixed::shared::{extend_cloned, same_items};
 use ring_core::{
     RingBuffer, RingBufferDrainingIterator, RingBufferIntoIterator, RingBufferIterator,
     RingBufferMutIterator,
@@ -31,8 +31,8 @@ pub struct ConstGenericRingBuffer<T, const CAP: usize> {
 
 impl<T, const CAP: usize> Model for ConstGenericRingBuffer<T, CAP> {
     ghost use Rattle.std.specs.Prelude.{◌≡◌};
-    ghost use Rattle.ringbuffer.specs.Held.{Held};
-    ghost use Rattle.ringbuffer.specs.fixed.Sound.{held, size_of, IsSound};
+    ghost use Rattle.ring_fixed.specs.Held.{Held};
+    ghost use Rattle.ring_fixed.specs.fixed.Sound.{held, size_of, IsSound};
 
     ghost Value = { Held T };
 

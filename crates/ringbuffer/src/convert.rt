@@ -4,12 +4,13 @@ ghost use Rattle.std.specs.Prelude.{◌≡◌, ◌<◌, All, IfOk, IsSome, List,
 ghost use Rattle.std.specs.Iterator.{Drains, IsFiniteIterable};
 ghost use Rattle.std.specs.List.{AllZip};
 ghost use Rattle.ring_core.specs.Contents.{keep_last};
-ghost use Rattle.ringbuffer.specs.Conversion.{ClonesMeet, HoldsAll, HoldsLast, somes};
+ghost use Rattle.ring_fixed.specs.Somes.{somes};
+ghost use Rattle.ringbuffer.specs.Conversion.{ClonesMeet, HoldsAll, HoldsLast};
 
 use crate::array::ConstGenericRingBuffer;
 use crate::grow::GrowableAllocRingBuffer;
 use crate::heap::AllocRingBuffer;
-use crate::shared::{extend_cloned, extend_somes};
+use ring_fixed::shared::{extend_cloned, extend_somes};
 use ring_core::RingBuffer;
 use std::alloc::{AllocError, Global};
 use std::collections::{LinkedList, VecDeque};

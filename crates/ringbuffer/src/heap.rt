@@ -8,11 +8,11 @@ ghost use Rattle.std.specs.List.{AllZip};
 ghost use Rattle.std.proofs.lemmas.Cmp.{and_equiv, lists_equiv, nat_eq_equiv, on_equiv};
 ghost use Rattle.ring_core.specs.Contents.{overwritten, place};
 ghost use Rattle.ring_core.specs.Walk.{ReadsInOrder, ReadsInReverse, StartsOver, unmoved, unread};
-ghost use Rattle.ringbuffer.specs.Held.{pushed, written};
+ghost use Rattle.ring_fixed.specs.Held.{pushed, written};
 
-use crate::fixed::Fixed;
-use crate::position::{position, signed_position};
-use crate::shared::{extend_cloned, same_items};
+use ring_fixed::fixed::Fixed;
+use ring_fixed::position::{position, signed_position};
+use ring_fixed::shared::{extend_cloned, same_items};
 use ring_core::{
     RingBuffer, RingBufferDrainingIterator, RingBufferIntoIterator, RingBufferIterator,
     RingBufferMutIterator,
@@ -38,7 +38,7 @@ impl<T> Model for AllocRingBuffer<T> {
     ghost use Rattle.std.specs.Prelude.{◌<◌, ◌≤◌};
     ghost use Rattle.std.specs.Int.{IsNextPowerOfTwo, IsPowerOfTwo};
     ghost use Rattle.ringbuffer.specs.HeldWithin.{HeldWithin};
-    ghost use Rattle.ringbuffer.specs.fixed.Sound.{IsSound, held, size_of};
+    ghost use Rattle.ring_fixed.specs.fixed.Sound.{IsSound, held, size_of};
 
     ghost Value = { HeldWithin T };
 

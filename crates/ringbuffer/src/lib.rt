@@ -4,11 +4,8 @@
 
 mod array;
 mod convert;
-mod fixed;
 mod grow;
 mod heap;
-mod position;
-mod shared;
 
 pub use array::ConstGenericRingBuffer;
 pub use grow::GrowableAllocRingBuffer;

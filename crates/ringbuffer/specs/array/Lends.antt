@@ -2,7 +2,7 @@
 use Rattle.std.specs.Prelude.{ℕ, length}
 use Rattle.std.specs.Borrow.{Lends, Fml, RattleType, MutBor}
 use Rattle.ring_core.specs.Contents.{place}
-use Rattle.ringbuffer.specs.Held.{Held, written}
+use Rattle.ring_fixed.specs.Held.{Held, written}
 use Rattle.ringbuffer.specs.contracts.array.ConstGenericRingBuffer.{the_row}
 
 -- once the borrow r ends, the item at the position is the last value behind r, and every other is as it was

@@ -2,7 +2,7 @@
 use Rattle.std.specs.Prelude.{ℕ, length}
 use Rattle.std.specs.Borrow.{Fml, Lends, MutBor, RattleType}
 use Rattle.ring_core.specs.Contents.{place}
-use Rattle.ringbuffer.specs.Held.{written}
+use Rattle.ring_fixed.specs.Held.{written}
 use Rattle.ringbuffer.specs.HeldWithin.{HeldWithin}
 use Rattle.ringbuffer.specs.contracts.heap.AllocRingBuffer.{the_row}
 

@@ -3,7 +3,7 @@ use Rattle.std.proofs.lemmas.Iterator.Consumers.{YieldsList-from_first}
 use Rattle.std.proofs.lemmas.Slice.Zip.{AllZip-long}
 use Rattle.ring_core.specs.Contents.{keep_last}
 use Rattle.ring_core.specs.Facts.{shown_drained}
-use Rattle.ringbuffer.specs.Held.{Held}
+use Rattle.ring_fixed.specs.Held.{Held}
 use Rattle.ringbuffer.proofs.array.ConstGenericRingBuffer.clone.Goals as goal
 
 pub returns : goal.returns

@@ -1,7 +1,7 @@
 use Rattle.std.proofs.Common.{◌≡◌, ◌-◌, ◌++◌, Some, ap, arith, length, refl, ◌∙◌}
 use Rattle.ring_core.specs.Contents.{keep_last}
-use Rattle.ringbuffer.specs.Conversion.{somes}
-use Rattle.ringbuffer.specs.Held.{Held}
+use Rattle.ring_fixed.specs.Somes.{somes}
+use Rattle.ring_fixed.specs.Held.{Held}
 use Rattle.ringbuffer.proofs.Sources.{held_on_ok, length-somes}
 use Rattle.ringbuffer.proofs.array.ConstGenericRingBuffer.from_array.Goals as goal
 

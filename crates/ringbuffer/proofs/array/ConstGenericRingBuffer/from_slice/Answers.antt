@@ -2,7 +2,7 @@ use Rattle.std.proofs.Common.{Some, ◌++◌, ap, ◌∙◌}
 use Rattle.std.proofs.lemmas.Iterator.{YieldsList-from_slice}
 use Rattle.ring_core.specs.Contents.{keep_last}
 use Rattle.ring_core.specs.Facts.{shown_drained}
-use Rattle.ringbuffer.specs.Held.{Held}
+use Rattle.ring_fixed.specs.Held.{Held}
 use Rattle.ringbuffer.proofs.array.ConstGenericRingBuffer.from_slice.Goals as goal
 
 pub returns : goal.returns

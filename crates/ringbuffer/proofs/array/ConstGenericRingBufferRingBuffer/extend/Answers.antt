@@ -1,6 +1,6 @@
 use Rattle.std.proofs.Common.{ap, ◌∙◌}
-use Rattle.ringbuffer.specs.Held.{Held, extended}
-use Rattle.ringbuffer.proofs.Repeated.{extended-changes}
+use Rattle.ring_fixed.specs.Held.{Held, extended}
+use Rattle.ring_fixed.proofs.Repeated.{extended-changes}
 use Rattle.ringbuffer.proofs.array.ConstGenericRingBufferRingBuffer.extend.Goals as goal
 
 -- The inner ring says which items the source gave.

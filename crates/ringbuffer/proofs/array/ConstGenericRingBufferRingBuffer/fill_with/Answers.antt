@@ -1,5 +1,5 @@
 use Rattle.std.proofs.Common.{ap}
-use Rattle.ringbuffer.specs.Held.{Held}
+use Rattle.ring_fixed.specs.Held.{Held}
 use Rattle.ringbuffer.proofs.array.ConstGenericRingBufferRingBuffer.fill_with.Goals as goal
 
 -- What the ring holds is what the closure answered.

@@ -1,6 +1,6 @@
 use Rattle.std.proofs.Common.{◌∙◌, inl}
 use Rattle.ring_core.specs.Contents.{place}
-use Rattle.ringbuffer.proofs.Lent.{is_found, stays_sound, stays_long, shows_written, value_there, not_empty}
+use Rattle.ring_fixed.proofs.Lent.{is_found, stays_sound, stays_long, shows_written, value_there, not_empty}
 use Rattle.ringbuffer.proofs.array.ConstGenericRingBufferRingBuffer.get_mut.Goals as goal
 
 -- A write leaves the layout.

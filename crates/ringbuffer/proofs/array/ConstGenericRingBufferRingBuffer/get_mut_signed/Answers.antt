@@ -1,7 +1,7 @@
 use Rattle.std.proofs.Common.{◌∙◌, inl}
 use Rattle.std.proofs.lemmas.Int.{to_z-of_z}
 use Rattle.ring_core.specs.Contents.{signed_place}
-use Rattle.ringbuffer.proofs.Lent.{is_found, stays_sound, stays_long, shows_written, value_there, not_empty}
+use Rattle.ring_fixed.proofs.Lent.{is_found, stays_sound, stays_long, shows_written, value_there, not_empty}
 use Rattle.ringbuffer.proofs.array.ConstGenericRingBufferRingBuffer.get_mut_signed.Goals as goal
 
 -- A write leaves the layout.

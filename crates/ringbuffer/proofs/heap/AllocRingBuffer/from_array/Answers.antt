@@ -1,6 +1,6 @@
 use Rattle.std.proofs.Common.{◌≡◌, ◌++◌, Some, refl, rules, ap, sym, ◌∙◌}
 use Rattle.ring_core.specs.Contents.{keep_last}
-use Rattle.ringbuffer.specs.Conversion.{somes}
+use Rattle.ring_fixed.specs.Somes.{somes}
 use Rattle.ringbuffer.specs.HeldWithin.{HeldWithin}
 use Rattle.ringbuffer.proofs.Sources.{all_held, length-somes}
 use Rattle.ringbuffer.proofs.heap.AllocRingBuffer.from_array.Goals as goal

@@ -2,7 +2,7 @@ use Rattle.std.proofs.Common.{ap, inl, subst, sym}
 use Rattle.std.specs.Int.{IsNextPowerOfTwo}
 use Rattle.ring_core.specs.Contents.{place}
 use Rattle.ringbuffer.specs.HeldWithin.{HeldWithin}
-use Rattle.ringbuffer.proofs.Lent.{is_found, stays_sound, stays_long, shows_written, value_there, not_empty}
+use Rattle.ring_fixed.proofs.Lent.{is_found, stays_sound, stays_long, shows_written, value_there, not_empty}
 use Rattle.ringbuffer.proofs.heap.AllocRingBufferRingBuffer.get_mut.Goals as goal
 
 -- A write leaves the layout.

@@ -3,7 +3,7 @@ use Rattle.std.specs.Int.{IsNextPowerOfTwo}
 use Rattle.std.proofs.lemmas.Int.{to_z-of_z}
 use Rattle.ring_core.specs.Contents.{signed_place}
 use Rattle.ringbuffer.specs.HeldWithin.{HeldWithin}
-use Rattle.ringbuffer.proofs.Lent.{is_found, stays_sound, stays_long, shows_written, value_there, not_empty}
+use Rattle.ring_fixed.proofs.Lent.{is_found, stays_sound, stays_long, shows_written, value_there, not_empty}
 use Rattle.ringbuffer.proofs.heap.AllocRingBufferRingBuffer.get_mut_signed.Goals as goal
 
 -- A write leaves the layout.

@@ -1,0 +1,4 @@
+pub mod Held
+pub mod Layout
+pub mod Somes
+pub mod fixed
