@@ -1,6 +1,6 @@
-pub mod Laid
-pub mod Lent
-pub mod Over
-pub mod Repeated
-pub mod Sources
-pub mod Steps
+pub mod LaysOut
+pub mod LentItem
+pub mod PutOver
+pub mod RepeatedSteps
+pub mod SlotsHold
+pub mod SomesTaken

@@ -1,4 +1,4 @@
-pub mod Held
 pub mod Layout
 pub mod Somes
+pub mod View
 pub mod fixed

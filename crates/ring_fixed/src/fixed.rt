@@ -1,12 +1,12 @@
 //! What the two rings of a fixed capacity share: items that lie in slots, counted round from a start.
-ghost use Rattle.std.specs.Prelude.{◌≡◌, ◌+◌, ◌-◌, ◌%◌, ◌<◌, ◌≤◌, ℕ, List, [], length, None, Some, replicate, slice_get};
-ghost use Rattle.std.specs.Borrow.{sem};
+ghost use Rattle.std.specs.Prelude.{◌≡◌, ◌+◌, ◌%◌, ◌<◌, ◌≤◌, ◌↔◌, List, [], length, IfSome, IsNone, None, Some, replicate, slice_get};
+ghost use Rattle.std.specs.Borrow.{Lends, LendsIf, sem};
 ghost use Rattle.std.specs.Iterator.{Drains, IsFiniteIterable};
 ghost use Rattle.std.specs.List.{FoldsTo};
-ghost use Rattle.std.specs.Option.{option_copied};
+ghost use Rattle.std.specs.Option.{option_copied, option_copied_mut};
 ghost use Rattle.ring_core.specs.Contents.{overwritten, place, signed_place};
-ghost use Rattle.ring_fixed.specs.Held.{put_last, taken_first, pushed, extended, emptied, refilled};
-ghost use Rattle.ring_fixed.specs.Layout.{Lies, Becomes, shown};
+ghost use Rattle.ring_fixed.specs.View.{after_put, after_take, after_push, after_extend, after_clear, after_fill};
+ghost use Rattle.ring_fixed.specs.Layout.{IsLaidOut, LaysOut, view_from};
 
 use crate::position::{position, signed_position};
 use ring_slots::SlotRow;
@@ -15,15 +15,15 @@ use std::marker::PhantomData;
 /// `len` items in the slots from `start` on. All other slots are empty.
 #[derive(Drop)]
 pub struct Fixed<T, S> {
-    pub slots: S,
-    pub start: usize,
-    pub len: usize,
+    slots: S,
+    start: usize,
+    len: usize,
     item: PhantomData<T>,
 }
 
 impl<T: Drop, S: SlotRow<T>> Fixed<T, S> {
-    ghost use Rattle.ring_fixed.specs.fixed.Lends.{lends_place};
-    ghost use Rattle.ring_fixed.specs.fixed.Sound.{held, size_of, IsSound, Turns};
+    ghost use Rattle.ring_fixed.specs.contracts.fixed.Fixed.{the_row};
+    ghost use Rattle.ring_fixed.specs.fixed.Sound.{view_of, with_item, IsSound, ChangesTo};
 
     /// An empty ring over empty slots.
     pub fn over(slots: S) -> Self
@@ -32,7 +32,7 @@ impl<T: Drop, S: SlotRow<T>> Fixed<T, S> {
         requires empty { (S.seen slots).slots ≡ replicate (length (S.seen slots).slots) None }
         ensures slots { result.slots ≡ slots }
         ensures sound { IsSound S.seen S.is_size result }
-        ensures empty { (held S.seen result).items ≡ [] }
+        ensures empty { (view_of S.seen result).items ≡ [] }
     {
         Fixed {
             slots,
@@ -42,15 +42,32 @@ impl<T: Drop, S: SlotRow<T>> Fixed<T, S> {
         }
     }
 
+    /// How many items the ring holds.
+    #[inline]
+    pub fn len(&self) -> usize
+        requires { IsSound S.seen S.is_size self.now }
+        ensures { result ≡ length (view_of S.seen self.now).items }
+    {
+        self.len
+    }
+
+    /// How many slots the ring has.
+    #[inline]
+    pub fn size(&self) -> usize
+        ensures { result ≡ (view_of S.seen self.now).capacity }
+    {
+        self.slots.size()
+    }
+
     /// Pushes an item. At the capacity the first item gives way, and is handed back.
     #[inline]
     pub fn push(&mut self, item: T, capacity: usize) -> Option<T>
         requires sound { IsSound S.seen S.is_size self.old }
         requires some { 0 < capacity }
         requires within { self.old.len ≤ capacity }
-        requires room { capacity ≤ size_of S.seen self.old }
-        ensures value { result ≡ overwritten (Some capacity) (held S.seen self.old).items }
-        ensures after { Turns S.seen S.is_size self.old self.new (pushed capacity (held S.seen self.old) item) }
+        requires room { capacity ≤ (view_of S.seen self.old).capacity }
+        ensures value { result ≡ overwritten (Some capacity) (view_of S.seen self.old).items }
+        ensures after { ChangesTo S.seen S.is_size self.old self.new (after_push capacity (view_of S.seen self.old) item) }
     {
         let before = self.len;
         let (start, len, old) = Self::push_from(
@@ -72,8 +89,8 @@ impl<T: Drop, S: SlotRow<T>> Fixed<T, S> {
     #[inline]
     pub fn dequeue(&mut self) -> Option<T>
         requires { IsSound S.seen S.is_size self.old }
-        ensures value { result ≡ slice_get (held S.seen self.old).items 0 }
-        ensures after { Turns S.seen S.is_size self.old self.new (taken_first (held S.seen self.old)) }
+        ensures value { result ≡ slice_get (view_of S.seen self.old).items 0 }
+        ensures after { ChangesTo S.seen S.is_size self.old self.new (after_take (view_of S.seen self.old)) }
     {
         let len = self.len;
         if len == 0 {
@@ -88,7 +105,7 @@ impl<T: Drop, S: SlotRow<T>> Fixed<T, S> {
     /// Drops all items.
     pub fn clear(&mut self)
         requires { IsSound S.seen S.is_size self.old }
-        ensures { Turns S.seen S.is_size self.old self.new (emptied (held S.seen self.old)) }
+        ensures { ChangesTo S.seen S.is_size self.old self.new (after_clear (view_of S.seen self.old)) }
     {
         let mut start = self.start;
         for _ in 0..self.len {
@@ -107,8 +124,8 @@ impl<T: Drop, S: SlotRow<T>> Fixed<T, S> {
         requires sound { IsSound S.seen S.is_size self.old }
         requires some { 0 < capacity }
         requires within { self.old.len ≤ capacity }
-        requires room { capacity ≤ size_of S.seen self.old }
-        ensures { (it : I.IntoIter) × (xs : List T) × I.into_iter_gives items it × Drains I.IntoIter.next_gives it xs × Turns S.seen S.is_size self.old self.new (extended capacity (held S.seen self.old) xs) }
+        requires room { capacity ≤ (view_of S.seen self.old).capacity }
+        ensures { (it : I.IntoIter) × (xs : List T) × I.into_iter_gives items it × Drains I.IntoIter.next_gives it xs × ChangesTo S.seen S.is_size self.old self.new (after_extend capacity (view_of S.seen self.old) xs) }
     {
         let mut start = self.start;
         let mut len = self.len;
@@ -125,8 +142,8 @@ impl<T: Drop, S: SlotRow<T>> Fixed<T, S> {
     pub fn fill_with<F: FnMut() -> T + Drop>(&mut self, mut make: F, capacity: usize)
         requires callable { F.IsAlwaysCallable make }
         requires sound { IsSound S.seen S.is_size self.old }
-        requires room { capacity ≤ size_of S.seen self.old }
-        ensures { (xs : List T) × (last : F) × FoldsTo F.step make xs last × (length xs ≡ capacity) × Turns S.seen S.is_size self.old self.new (refilled (held S.seen self.old) xs) }
+        requires room { capacity ≤ (view_of S.seen self.old).capacity }
+        ensures { (xs : List T) × (last : F) × FoldsTo F.step make xs last × (length xs ≡ capacity) × ChangesTo S.seen S.is_size self.old self.new (after_fill (view_of S.seen self.old) xs) }
     {
         self.clear();
         let start = self.start;
@@ -140,7 +157,7 @@ impl<T: Drop, S: SlotRow<T>> Fixed<T, S> {
     #[inline]
     pub fn get(&self, index: usize) -> Option<&T>
         requires { IsSound S.seen S.is_size self.now }
-        ensures { option_copied result ≡ slice_get (held S.seen self.now).items (place (length (held S.seen self.now).items) index) }
+        ensures { option_copied result ≡ slice_get (view_of S.seen self.now).items (place (length (view_of S.seen self.now).items) index) }
     {
         let index = position(index, self.len)?;
         Some(self.at(index))
@@ -150,7 +167,7 @@ impl<T: Drop, S: SlotRow<T>> Fixed<T, S> {
     #[inline]
     pub fn get_signed(&self, index: isize) -> Option<&T>
         requires { IsSound S.seen S.is_size self.now }
-        ensures { option_copied result ≡ slice_get (held S.seen self.now).items (signed_place (length (held S.seen self.now).items) index) }
+        ensures { option_copied result ≡ slice_get (view_of S.seen self.now).items (signed_place (length (view_of S.seen self.now).items) index) }
     {
         let index = signed_position(index, self.len)?;
         Some(self.at(index))
@@ -161,18 +178,44 @@ impl<T: Drop, S: SlotRow<T>> Fixed<T, S> {
     fn at(&self, index: usize) -> &T
         requires sound { IsSound S.seen S.is_size self.now }
         requires within { index < self.now.len }
-        ensures { slice_get (held S.seen self.now).items index ≡ Some result.now }
+        ensures { slice_get (view_of S.seen self.now).items index ≡ Some result.now }
     {
         self.slots.get(self.slots.place(self.start, index))
     }
 
-    /// The item at an index below the length, for writing.
+    /// The item that `get` answers, for writing.
     #[inline]
-    pub fn at_mut(&mut self, index: usize) -> &mut T
+    pub fn get_mut(&mut self, index: usize) -> Option<&mut T>
+        requires { IsSound S.seen S.is_size self.old }
+        ensures* writes_back { sem 𝓛 (LendsIf (the_row T.row S.row) T.row self.entry result (with_item S.seen S.with_slot self.old (place self.old.len index)) self.old) }
+        ensures value { option_copied_mut result ≡ slice_get (view_of S.seen self.old).items (place self.old.len index) }
+        ensures within { IfSome result (λ _. place self.old.len index < self.old.len) }
+        ensures none { IsNone result ↔ ((view_of S.seen self.old).items ≡ []) }
+    {
+        let index = position(index, self.len)?;
+        Some(self.at_mut(index))
+    }
+
+    /// The item that `get_signed` answers, for writing.
+    #[inline]
+    pub fn get_mut_signed(&mut self, index: isize) -> Option<&mut T>
+        requires { IsSound S.seen S.is_size self.old }
+        ensures* writes_back { sem 𝓛 (LendsIf (the_row T.row S.row) T.row self.entry result (with_item S.seen S.with_slot self.old (signed_place self.old.len index)) self.old) }
+        ensures value { option_copied_mut result ≡ slice_get (view_of S.seen self.old).items (signed_place self.old.len index) }
+        ensures within { IfSome result (λ _. signed_place self.old.len index < self.old.len) }
+        ensures none { IsNone result ↔ ((view_of S.seen self.old).items ≡ []) }
+    {
+        let index = signed_position(index, self.len)?;
+        Some(self.at_mut(index))
+    }
+
+    // The item at an index below the length, for writing.
+    #[inline]
+    fn at_mut(&mut self, index: usize) -> &mut T
         requires sound { IsSound S.seen S.is_size self.old }
         requires within { index < self.old.len }
-        ensures* writes_back { sem 𝓛 (lends_place T.row S.row S.seen S.with_slot self.entry index result) }
-        ensures value { slice_get (held S.seen self.old).items index ≡ Some result.now }
+        ensures* writes_back { sem 𝓛 (Lends (the_row T.row S.row) T.row self.entry result (with_item S.seen S.with_slot self.old index)) }
+        ensures value { slice_get (view_of S.seen self.old).items index ≡ Some result.now }
     {
         let place = self.slots.place(self.start, index);
         self.slots.get_mut(place)
@@ -187,14 +230,14 @@ impl<T: Drop, S: SlotRow<T>> Fixed<T, S> {
         item: T,
         capacity: usize,
     ) -> (usize, usize, Option<T>)
-        requires lies { Lies S.is_size (S.seen slots.old) start }
-        requires len { len ≡ length (shown (S.seen slots.old) start).items }
+        requires laid_out { IsLaidOut S.is_size (S.seen slots.old) start }
+        requires len { len ≡ length (view_from (S.seen slots.old) start).items }
         requires some { 0 < capacity }
         requires within { len ≤ capacity }
         requires room { capacity ≤ length (S.seen slots.old).slots }
-        ensures after { Becomes S.is_size (S.seen slots.old) (S.seen slots.new) result.0 (pushed capacity (shown (S.seen slots.old) start) item) }
-        ensures len { result.1 ≡ length (pushed capacity (shown (S.seen slots.old) start) item).items }
-        ensures value { result.2 ≡ overwritten (Some capacity) (shown (S.seen slots.old) start).items }
+        ensures after { LaysOut S.is_size (S.seen slots.old) (S.seen slots.new) result.0 (after_push capacity (view_from (S.seen slots.old) start) item) }
+        ensures len { result.1 ≡ length (after_push capacity (view_from (S.seen slots.old) start) item).items }
+        ensures value { result.2 ≡ overwritten (Some capacity) (view_from (S.seen slots.old) start).items }
     {
         if len == capacity {
             let (next, old) = Self::put_over(slots, start, len, item);
@@ -208,10 +251,10 @@ impl<T: Drop, S: SlotRow<T>> Fixed<T, S> {
     // Puts an item after the last.
     #[inline]
     fn put_after(slots: &mut S, start: usize, len: usize, item: T)
-        requires lies { Lies S.is_size (S.seen slots.old) start }
-        requires len { len ≡ length (shown (S.seen slots.old) start).items }
+        requires laid_out { IsLaidOut S.is_size (S.seen slots.old) start }
+        requires len { len ≡ length (view_from (S.seen slots.old) start).items }
         requires room { len < length (S.seen slots.old).slots }
-        ensures { Becomes S.is_size (S.seen slots.old) (S.seen slots.new) start (put_last (shown (S.seen slots.old) start) item) }
+        ensures { LaysOut S.is_size (S.seen slots.old) (S.seen slots.new) start (after_put (view_from (S.seen slots.old) start) item) }
     {
         let place = slots.place(start, len);
         slots.put(place, item);
@@ -220,11 +263,11 @@ impl<T: Drop, S: SlotRow<T>> Fixed<T, S> {
     // Puts an item after the last once the first has given way. Returns the next start and the item that was first.
     #[inline]
     fn put_over(slots: &mut S, start: usize, len: usize, item: T) -> (usize, T)
-        requires lies { Lies S.is_size (S.seen slots.old) start }
-        requires len { len ≡ length (shown (S.seen slots.old) start).items }
+        requires laid_out { IsLaidOut S.is_size (S.seen slots.old) start }
+        requires len { len ≡ length (view_from (S.seen slots.old) start).items }
         requires some { 0 < len }
-        ensures value { slice_get (shown (S.seen slots.old) start).items 0 ≡ Some result.1 }
-        ensures after { Becomes S.is_size (S.seen slots.old) (S.seen slots.new) result.0 (put_last (taken_first (shown (S.seen slots.old) start)) item) }
+        ensures value { slice_get (view_from (S.seen slots.old) start).items 0 ≡ Some result.1 }
+        ensures after { LaysOut S.is_size (S.seen slots.old) (S.seen slots.new) result.0 (after_put (after_take (view_from (S.seen slots.old) start)) item) }
     {
         let place = slots.place_after(start, len);
         let (next, old) = Self::take_from(slots, start);
@@ -235,11 +278,11 @@ impl<T: Drop, S: SlotRow<T>> Fixed<T, S> {
     // Takes the first item, and answers the next start before it.
     #[inline]
     fn take_from(slots: &mut S, start: usize) -> (usize, T)
-        requires lies { Lies S.is_size (S.seen slots.old) start }
-        requires some { 0 < length (shown (S.seen slots.old) start).items }
-        ensures value { slice_get (shown (S.seen slots.old) start).items 0 ≡ Some result.1 }
+        requires laid_out { IsLaidOut S.is_size (S.seen slots.old) start }
+        requires some { 0 < length (view_from (S.seen slots.old) start).items }
+        ensures value { slice_get (view_from (S.seen slots.old) start).items 0 ≡ Some result.1 }
         ensures next { result.0 ≡ (start + 1) % length (S.seen slots.old).slots }
-        ensures after { Becomes S.is_size (S.seen slots.old) (S.seen slots.new) result.0 (taken_first (shown (S.seen slots.old) start)) }
+        ensures after { LaysOut S.is_size (S.seen slots.old) (S.seen slots.new) result.0 (after_take (view_from (S.seen slots.old) start)) }
     {
         let next = slots.next(start);
         (next, slots.take(start))

@@ -9,14 +9,14 @@ use Rattle.ring_core.specs.Contents.{keep_last}
 use Rattle.ring_core.specs.Facts.{shown_drained}
 use Rattle.ring_fixed.specs.Somes.{somes}
 use Rattle.ringbuffer.specs.Conversion.{HoldsAll}
-use Rattle.ringbuffer.specs.HeldWithin.{HeldWithin}
+use Rattle.ring_fixed.specs.View.{View}
 
 -- its items are the list
 pub items_drained : {S A : Type 0} {steps : S → Option A → S → Type 0} {s : S} (xs all : List A) → Drains steps s xs → YieldsList steps (λ x. x) s all → xs ≡ all
 items_drained xs all drained yields = sym (map-id xs) ∙ shown_drained (λ x. x) xs all drained yields
 
 -- a heap ring of so many slots as the source had items holds them all
-pub all_held : {A : Type 0} (ring : HeldWithin A) (capacity : ℕ) (xs all : List A) → xs ≡ all → capacity ≡ length all → ring.held.items ≡ keep_last (Some capacity) xs
+pub all_held : {A : Type 0} (ring : View A) (capacity : ℕ) (xs all : List A) → xs ≡ all → capacity ≡ length all → ring.items ≡ keep_last (Some capacity) xs
     → ring.capacity ≡ capacity → HoldsAll all ring
 all_held ring capacity xs all same long kept room =
     let none_over : length xs - capacity ≡ 0 = omega (arith, ap length same) in (kept ∙ rw none_over same, room ∙ long)

@@ -1,13 +1,10 @@
 pub mod Conversion
-pub mod HeldWithin
-pub mod array
 pub mod grow
-pub mod heap
 pub use Rattle.ring_core.specs.Contents
 pub use Rattle.ring_core.specs.Extension
 pub use Rattle.ring_core.specs.Facts
 pub use Rattle.ring_core.specs.History
 pub use Rattle.ring_core.specs.Meaning
 pub use Rattle.ring_core.specs.Walk
-pub use Rattle.ring_fixed.specs.Held
 pub use Rattle.ring_fixed.specs.Somes
+pub use Rattle.ring_fixed.specs.View

@@ -75,7 +75,7 @@ impl<T: Drop, const CAP: usize> ConstGenericRingBuffer<T, CAP> {
     /// The last `CAP` items of a heap ring, or all where they are fewer. The others are dropped.
     pub fn from_alloc(ring: AllocRingBuffer<T>) -> Self
         requires { 0 < CAP }
-        ensures { HoldsLast CAP ring.held.items result }
+        ensures { HoldsLast CAP ring.items result }
     {
         Self::from_iter(ring)
     }
@@ -164,7 +164,7 @@ impl<T: Drop> AllocRingBuffer<T> {
         I::IntoIter: Drop,
         requires capacity { 0 < capacity }
         requires ends { IsFiniteIterable I.into_iter_gives I.IntoIter.can_next I.IntoIter.remaining items }
-        ensures { IfOk result (λ ring. (it : I.IntoIter) × (xs : List T) × I.into_iter_gives items it × Drains I.IntoIter.next_gives it xs × (ring.held.items ≡ keep_last (Some capacity) xs) × (ring.capacity ≡ capacity)) }
+        ensures { IfOk result (λ ring. (it : I.IntoIter) × (xs : List T) × I.into_iter_gives items it × Drains I.IntoIter.next_gives it xs × (ring.items ≡ keep_last (Some capacity) xs) × (ring.capacity ≡ capacity)) }
     {
         let mut ring = Self::new(alloc, capacity)?;
         let _ = ring.extend(items);
@@ -264,7 +264,7 @@ impl AllocRingBuffer<char> {
     /// Where memory was refused.
     pub fn from_text(alloc: Global, text: &str) -> Result<Self, AllocError>
         requires { 0 < length text.now }
-        ensures items { IfOk result (λ ring. ring.held.items ≡ chars text.now) }
+        ensures items { IfOk result (λ ring. ring.items ≡ chars text.now) }
         ensures capacity { IfOk result (λ ring. ring.capacity ≡ length text.now) }
     {
         Self::holding(alloc, text.len(), text.chars())
@@ -277,7 +277,7 @@ impl AllocRingBuffer<char> {
     /// Where memory was refused.
     pub fn from_string(alloc: Global, text: String) -> Result<Self, AllocError>
         requires { 0 < length (string_bytes text) }
-        ensures items { IfOk result (λ ring. ring.held.items ≡ chars (string_bytes text)) }
+        ensures items { IfOk result (λ ring. ring.items ≡ chars (string_bytes text)) }
         ensures capacity { IfOk result (λ ring. ring.capacity ≡ length (string_bytes text)) }
     {
         Self::from_text(alloc, text.as_str())
@@ -387,7 +387,7 @@ impl<T: Drop> GrowableAllocRingBuffer<T> {
     ///
     /// Where memory was refused. The items are dropped.
     pub fn from_alloc(alloc: Global, ring: AllocRingBuffer<T>) -> Result<Self, AllocError>
-        ensures { IfOk result (λ made. made ≡ ring.held.items) }
+        ensures { IfOk result (λ made. made ≡ ring.items) }
     {
         Self::from_iter(alloc, ring)
     }

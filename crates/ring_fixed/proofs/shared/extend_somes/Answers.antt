@@ -2,7 +2,7 @@ use Rattle.std.proofs.Common.{◌≡◌, ℕ, get_or, ◌+◌, ◌++◌, List, [
 use Rattle.std.proofs.lemmas.List.{drop-drop, drop-set-lt, length-set}
 use Rattle.std.proofs.lemmas.Grind.{common_steps}
 use Rattle.ring_core.specs.Contents.{keep_last}
-use Rattle.ring_fixed.proofs.Sources.{somes_turn}
+use Rattle.ring_fixed.proofs.SomesTaken.{somes_turn}
 use Rattle.ring_fixed.proofs.shared.extend_somes.Goals as goal
 use Rattle.ring_fixed.proofs.shared.extend_somes.Goals.{in-Some+in_ok-push_item, in_default}
 

@@ -3,13 +3,13 @@ use Rattle.std.proofs.lemmas.Iterator.Consumers.{YieldsList-from_first}
 use Rattle.std.proofs.lemmas.Slice.Zip.{AllZip-long}
 use Rattle.ring_core.specs.Contents.{keep_last}
 use Rattle.ring_core.specs.Facts.{shown_drained}
-use Rattle.ringbuffer.specs.HeldWithin.{HeldWithin}
+use Rattle.ring_fixed.specs.View.{View}
 use Rattle.ringbuffer.proofs.heap.AllocRingBuffer.clone.Goals as goal
 
 pub returns-clause-items : goal.returns-clause-items
 returns-clause-items g c =
     let (bs, ys, drained, clones, kept) = c.in_ok-extend_cloned.ensures.items in
-    let read = shown_drained (λ x. x.now) bs c.args.self.now.held.items drained (YieldsList-from_first (λ x. x.now) _ _ c.iter.ensures.left) in
+    let read = shown_drained (λ x. x.now) bs c.args.self.now.items drained (YieldsList-from_first (λ x. x.now) _ _ c.iter.ensures.left) in
     let cloned = rw read at clones in
-    let none_over : length ys - c.self.inside.capacity ≡ 0 = omega (arith, AllZip-long _ c.args.self.now.held.items ys cloned, c.len-held.ensures.within, ap (λ (r : HeldWithin _). r.capacity) c.self.view_is) in
-    rw (kept ∙ ap (λ (r : HeldWithin _). keep_last (Some r.capacity) (r.held.items ++ ys)) c.in_ok-ring.ensures.made, none_over) cloned
+    let none_over : length ys - c.self.inside.capacity ≡ 0 = omega (arith, AllZip-long _ c.args.self.now.items ys cloned, c.len-held.ensures.within, ap (λ (r : View _). r.capacity) c.self.view_is) in
+    rw (kept ∙ ap (λ (r : View _). keep_last (Some r.capacity) (r.items ++ ys)) c.in_ok-ring.ensures.made, none_over) cloned

@@ -3,7 +3,7 @@ use Rattle.std.proofs.lemmas.Iterator.{YieldsList-from_slice}
 use Rattle.std.proofs.lemmas.Slice.Zip.{AllZip-long}
 use Rattle.ring_core.specs.Contents.{keep_last}
 use Rattle.ring_core.specs.Facts.{shown_drained}
-use Rattle.ringbuffer.specs.HeldWithin.{HeldWithin}
+use Rattle.ring_fixed.specs.View.{View}
 use Rattle.ringbuffer.proofs.Sources.{all_held}
 use Rattle.ringbuffer.proofs.heap.AllocRingBuffer.from_slice.Goals as goal
 
@@ -17,6 +17,6 @@ returns g c =
       ys,
       cloned,
       all_held c.extend_cloned.new.ring (length c.args.items.now) ys ys refl (sym (AllZip-long _ c.args.items.now ys cloned))
-          (kept ∙ ap (λ (r : HeldWithin _). keep_last (Some r.capacity) (r.held.items ++ ys)) made)
-          (let same : c.extend_cloned.new.ring.capacity ≡ c.in_ok-ring.ring.capacity = cc in same ∙ ap (λ (r : HeldWithin _). r.capacity) made),
+          (kept ∙ ap (λ (r : View _). keep_last (Some r.capacity) (r.items ++ ys)) made)
+          (let same : c.extend_cloned.new.ring.capacity ≡ c.in_ok-ring.ring.capacity = cc in same ∙ ap (λ (r : View _). r.capacity) made),
     )

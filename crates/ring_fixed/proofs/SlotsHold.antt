@@ -6,7 +6,7 @@ use Rattle.std.proofs.Math.Decide.{dec_lt, ℕ_discrete}
 use Rattle.std.proofs.lemmas.Option.{slice_get_past}
 use Rattle.std.specs.Prelude.{slice_get}
 use Rattle.std.specs.List.{filter_map, range_with_len}
-use Rattle.ring_fixed.specs.Layout.{slot_after, LieFrom, items_from}
+use Rattle.ring_fixed.specs.Layout.{slot_after, SlotsHold, items_from}
 
 -- a place counted round is the sum, less the size where the sum reaches it
 wrap : (start k size : ℕ) → start < size → k ≤ size → ((start + k < size) × ((start + k) % size ≡ start + k)) ⊎ ((size ≤ start + k) × ((start + k) % size ≡ start + k - size))
@@ -80,8 +80,8 @@ module _ {X : Type 0} (slots : List (Option X)) (start : ℕ) (within : start < 
   last_place k low last = elim (wrap start (suc k) (length slots) within (omega arith)) [ inl a ↦ omega arith | inr a ↦ omega arith ]
 
   -- where no item lies from one start, none lies from another
-  pub LieFrom-none : LieFrom slots start [] → (other : ℕ) → LieFrom slots other []
-  LieFrom-none lie other k low =
+  pub SlotsHold-none : SlotsHold slots start [] → (other : ℕ) → SlotsHold slots other []
+  SlotsHold-none lie other k low =
       let size = length slots in let place = (other + k) % size in
       let here : place < size = mod-lt (other + k) (omega arith) in
       elim (dec_lt place start) [
@@ -94,19 +94,19 @@ module _ {X : Type 0} (slots : List (Option X)) (start : ℕ) (within : start < 
       ]
 
   -- an item put after the last
-  pub LieFrom-put : (xs : List X) (x : X) → LieFrom slots start xs → length xs < length slots
-      → LieFrom (set slots ((start + length xs) % length slots) (Some x)) start (xs ++ x ∷ [])
-  LieFrom-put xs x lie room k low =
+  pub SlotsHold-put : (xs : List X) (x : X) → SlotsHold slots start xs → length xs < length slots
+      → SlotsHold (set slots ((start + length xs) % length slots) (Some x)) start (xs ++ x ∷ [])
+  SlotsHold-put xs x lie room k low =
       let low' : k < length slots = rw (length-set slots ((start + length xs) % length slots) (Some x)) at low in
       elim (ℕ_discrete k (length xs)) [
         | yes last ↦ rw last (slot_after-set_same (length xs) (Some x) room ∙ sym (slice_get-push_last xs x))
         | no other ↦ slot_after-set_other k (length xs) (Some x) low' room other ∙ lie k low' ∙ sym (slice_get-push_other xs x k other)
       ]
 
-  -- an item written
-  pub LieFrom-write : (xs : List X) (i : ℕ) (x : X) → LieFrom slots start xs → i < length xs → length xs ≤ length slots
-      → LieFrom (set slots ((start + i) % length slots) (Some x)) start (set xs i x)
-  LieFrom-write xs i x lie there fit k low =
+  -- an item after_write
+  pub SlotsHold-write : (xs : List X) (i : ℕ) (x : X) → SlotsHold slots start xs → i < length xs → length xs ≤ length slots
+      → SlotsHold (set slots ((start + i) % length slots) (Some x)) start (set xs i x)
+  SlotsHold-write xs i x lie there fit k low =
       let low' : k < length slots = rw (length-set slots ((start + i) % length slots) (Some x)) at low in
       elim (ℕ_discrete k i) [
         | yes same ↦ rw same (slot_after-set_same i (Some x) (omega arith) ∙ sym (slice_get-set_same xs i x there))
@@ -114,9 +114,9 @@ module _ {X : Type 0} (slots : List (Option X)) (start : ℕ) (within : start < 
       ]
 
   -- the first item taken
-  pub LieFrom-take : (x : X) (xs : List X) → LieFrom slots start (x ∷ xs) → length xs < length slots
-      → LieFrom (set slots start None) ((start + 1) % length slots) xs
-  LieFrom-take x xs lie fit k low =
+  pub SlotsHold-take : (x : X) (xs : List X) → SlotsHold slots start (x ∷ xs) → length xs < length slots
+      → SlotsHold (set slots start None) ((start + 1) % length slots) xs
+  SlotsHold-take x xs lie fit k low =
       let low' : k < length slots = rw (length-set slots start None) at low in
       let turned = ap (λ place. get_or (set slots start None) place None) (from_next start k (length slots) within low') in
       rw (length-set slots start None) (turned ∙ elim (dec_lt (suc k) (length slots)) [
@@ -136,6 +136,6 @@ items_until f (x ∷ xs) from (suc count) fit reads =
     let later = λ (k : ℕ) (low : k < count). ap f {x = from + 1 + k} {y = from + suc k} (omega arith) ∙ reads (suc k) (omega arith) in
     rw (ap f {x = from} {y = from + 0} (omega arith) ∙ reads 0 (omega arith)) (ap (λ ys. x ∷ ys) (items_until f xs (from + 1) count (omega arith) later))
 
-pub items_from-lying : {X : Type 0} (slots : List (Option X)) (start : ℕ) (xs : List X) → LieFrom slots start xs → length xs ≤ length slots → items_from slots start ≡ xs
+pub items_from-SlotsHold : {X : Type 0} (slots : List (Option X)) (start : ℕ) (xs : List X) → SlotsHold slots start xs → length xs ≤ length slots → items_from slots start ≡ xs
 unfolding items_from
-items_from-lying slots start xs lie fit = items_until (slot_after slots start) xs 0 (length slots) fit (λ k low. ap (slot_after slots start) {y = k} (omega arith) ∙ lie k low)
+items_from-SlotsHold slots start xs lie fit = items_until (slot_after slots start) xs 0 (length slots) fit (λ k low. ap (slot_after slots start) {y = k} (omega arith) ∙ lie k low)

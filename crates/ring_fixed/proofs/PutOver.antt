@@ -2,9 +2,9 @@
 use Rattle.std.proofs.Common.{◌≡◌, ℕ, ◌+◌, ◌-◌, ◌%◌, ◌<◌, List, [], ◌∷◌, length, Some, refl, sym, ap, ◌∙◌, arith}
 use Rattle.ring_core.specs.Contents.{rest}
 use Rattle.ring_slots.specs.Slots.{Slots, IsEmptyAt, changed}
-use Rattle.ring_fixed.specs.Held.{Held, put_last, taken_first}
-use Rattle.ring_fixed.specs.Layout.{items_from, shown, Lies, Becomes}
-use Rattle.ring_fixed.proofs.Steps.{becomes_then, put_becomes, past_empty, same_place}
+use Rattle.ring_fixed.specs.View.{View, after_put, after_take}
+use Rattle.ring_fixed.specs.Layout.{items_from, view_from, IsLaidOut, LaysOut}
+use Rattle.ring_fixed.proofs.LaysOut.{LaysOut-then, LaysOut-put, past_empty, same_place}
 
 -- taking the first item leaves one less
 length-rest : {A : Type 0} (xs : List A) → length (rest xs) ≡ length xs - 1
@@ -13,28 +13,28 @@ length-rest (x ∷ xs) = omega arith
 
 -- the first of some items is taken
 pub record HasTaken {X : Type 0} (P : ℕ → Type 0) (s taken : Slots X) (start next place len : ℕ) : Type 0 where
-  pub lies : Lies P s start
+  pub laid_out : IsLaidOut P s start
   pub counted : len ≡ length (items_from s.slots start)
   pub some : 0 < len
   pub found : place ≡ (start + len) % length s.slots
   pub turned : next ≡ (start + 1) % length s.slots
-  pub after : Becomes P s taken next (taken_first (shown s start))
+  pub after : LaysOut P s taken next (after_take (view_from s start))
 
 module _ {X : Type 0} {P : ℕ → Type 0} {s taken : Slots X} {start next place len : ℕ} (t : HasTaken P s taken start next place len) where
   count : length (items_from taken.slots next) ≡ len - 1
-  count = ap (λ (v : Held X). length v.items) t.after.shows ∙ length-rest (items_from s.slots start) ∙ ap (λ n. n - 1) (sym t.counted)
+  count = ap (λ (v : View X). length v.items) t.after.shows ∙ length-rest (items_from s.slots start) ∙ ap (λ n. n - 1) (sym t.counted)
 
   room : length (items_from taken.slots next) < length taken.slots
-  room = let fit = t.lies.fit in let same = t.after.same_size in let counted = t.counted in let some = t.some in omega (arith, count)
+  room = let fit = t.laid_out.fit in let same = t.after.same_size in let counted = t.counted in let some = t.some in omega (arith, count)
 
   -- the place after the last is the same from the next start
   found_again : place ≡ (next + length (items_from taken.slots next)) % length taken.slots
-  found_again = rw (t.after.same_size, count, t.turned) (t.found ∙ same_place s start t.lies len t.some (rw t.counted t.lies.fit))
+  found_again = rw (t.after.same_size, count, t.turned) (t.found ∙ same_place s start t.laid_out len t.some (rw t.counted t.laid_out.fit))
 
   pub over_empty : IsEmptyAt taken place
-  over_empty = past_empty taken next t.after.lies place room found_again
+  over_empty = past_empty taken next t.after.laid_out place room found_again
 
-  pub over_becomes : (new : Slots X) (x : X) → new ≡ changed taken place (Some x) → Becomes P s new next (put_last (taken_first (shown s start)) x)
+  pub over_becomes : (new : Slots X) (x : X) → new ≡ changed taken place (Some x) → LaysOut P s new next (after_put (after_take (view_from s start)) x)
   over_becomes new x is =
-      let put = put_becomes taken next t.after.lies new place (length (items_from taken.slots next)) x refl room found_again is in
-      becomes_then (λ v. put_last v x) t.after put
+      let put = LaysOut-put taken next t.after.laid_out new place (length (items_from taken.slots next)) x refl room found_again is in
+      LaysOut-then (λ v. after_put v x) t.after put
