@@ -9,12 +9,14 @@ ghost use Rattle.ring_core.specs.Contents.{ChangesSlots, keep_last, overwritten,
 ghost use Rattle.ring_core.specs.Walk.{ReadsInOrder, ReadsInReverse, StartsOver, unmoved, unread};
 ghost use Rattle.ring_fixed.specs.View.{after_push, after_write};
 
-use ring_fixed::fixed::Fixed;
-use ring_fixed::shared::{extend_cloned, same_items};
+mod convert;
+
 use ring_core::{
     RingBuffer, RingBufferDrainingIterator, RingBufferIntoIterator, RingBufferIterator,
     RingBufferMutIterator,
 };
+use ring_fixed::fixed::Fixed;
+use ring_fixed::shared::{extend_cloned, same_items};
 use ring_slots::{ArraySlots, SlotRow};
 use std::alloc::AllocError;
 use std::marker::Model;

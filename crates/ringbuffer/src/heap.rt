@@ -10,12 +10,14 @@ ghost use Rattle.ring_core.specs.Contents.{overwritten, place};
 ghost use Rattle.ring_core.specs.Walk.{ReadsInOrder, ReadsInReverse, StartsOver, unmoved, unread};
 ghost use Rattle.ring_fixed.specs.View.{after_push, after_write};
 
-use ring_fixed::fixed::Fixed;
-use ring_fixed::shared::{extend_cloned, same_items};
+mod convert;
+
 use ring_core::{
     RingBuffer, RingBufferDrainingIterator, RingBufferIntoIterator, RingBufferIterator,
     RingBufferMutIterator,
 };
+use ring_fixed::fixed::Fixed;
+use ring_fixed::shared::{extend_cloned, same_items};
 use ring_slots::{HeapSlots, SlotRow};
 use std::alloc::{AllocError, Global};
 use std::marker::Model;

@@ -3,7 +3,6 @@
 #![tactic(auto)]
 
 mod array;
-mod convert;
 mod grow;
 mod heap;
 
