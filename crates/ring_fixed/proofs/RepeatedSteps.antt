@@ -1,35 +1,27 @@
 -- What steps repeated come to.
-use Rattle.std.proofs.Common.{◌≡◌, ℕ, zero, suc, ◌+◌, ◌-◌, ◌<◌, List, [], ◌∷◌, ◌++◌, length, drop, refl, ap, ◌∙◌, arith, append_assoc, length-append, length-drop}
+use Rattle.std.proofs.Common.{◌≡◌, ℕ, ◌+◌, ◌<◌, List, [], ◌∷◌, ◌++◌, length, drop, refl, arith, append_assoc, length-append, length-drop}
 use Rattle.std.specs.Prelude.{min}
 use Rattle.std.proofs.Math.Seq.{drop-length}
-use Rattle.ring_core.specs.Contents.{rest, ChangesSlots}
-use Rattle.ring_fixed.specs.View.{View, after_put, after_take, after_extend, after_clear}
+use Rattle.std.proofs.lemmas.List.{drop-drop}
+use Rattle.ring_core.specs.Contents.{rest}
+use Rattle.ring_fixed.specs.View.{View, after_put, after_take, after_clear}
 
 module _ {X : Type 0} where
   -- so many items taken
   abbrev pub after_takes : ℕ → View X → View X
   after_takes k v = record v { items = drop k v.items; changes = v.changes + k }
 
-  rest-drop : (k : ℕ) (xs : List X) → rest (drop k xs) ≡ drop (suc k) xs
-  rest-drop zero [] = refl
-  rest-drop zero (x ∷ xs) = refl
-  rest-drop (suc k) [] = refl
-  rest-drop (suc k) (x ∷ xs) = rest-drop k xs
+  pub rest-drop : (xs : List X) → rest xs ≡ drop 1 xs
+  rest-drop [] = refl
+  rest-drop (x ∷ xs) = refl
 
   pub after_takes-more : (k : ℕ) (v : View X) → k < length v.items → after_take (after_takes k v) ≡ after_takes (k + 1) v
   after_takes-more k v more =
       let one : v.changes + k + min (length (drop k v.items)) 1 ≡ v.changes + (k + 1) = omega (arith, length-drop k v.items) in
-      rw (rest-drop k v.items ∙ ap (λ n. drop n v.items) {x = suc k} {y = k + 1} (omega arith), one) refl
+      rw (rest-drop (drop k v.items), drop-drop, one) refl
 
   pub after_takes-all : (k : ℕ) (v : View X) → k ≡ length v.items → after_takes k v ≡ after_clear v
   after_takes-all k v all = rw (all, drop-length v.items) refl
-
-  -- an extension changes as many slots as it puts items and removes items
-  pub after_extend-changes : (capacity : ℕ) (v : View X) (xs : List X)
-      → ChangesSlots v.changes v.items (after_extend capacity v xs).changes (after_extend capacity v xs).items (length xs)
-  after_extend-changes capacity v xs =
-      let all = v.items ++ xs in
-      (omega arith, omega (arith, length-drop (length all - capacity) all, length-append v.items xs))
 
   -- items put last in order
   abbrev pub after_puts : List X → View X → View X

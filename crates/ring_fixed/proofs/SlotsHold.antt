@@ -3,7 +3,8 @@ use Rattle.std.proofs.Common.{◌≡◌, ◌≢◌, ℕ, zero, suc, ◌+◌, ◌
 use Rattle.std.proofs.Math.ListN.{set}
 use Rattle.std.proofs.Math.Nat.{mod-eq_of_lt, mod-eq-sub-mod, mod-lt}
 use Rattle.std.proofs.Math.Decide.{dec_lt, ℕ_discrete}
-use Rattle.std.proofs.lemmas.Option.{slice_get_past}
+use Rattle.std.proofs.lemmas.Grind.{common_steps}
+use Rattle.std.proofs.lemmas.Option.{slice_get_cases, slice_get_past}
 use Rattle.std.specs.Prelude.{slice_get}
 use Rattle.std.specs.List.{filter_map, range_with_len}
 use Rattle.ring_fixed.specs.Layout.{slot_after, SlotsHold, items_from}
@@ -34,28 +35,13 @@ from_next start k size within low =
           elim (wrap start (suc k) size within (omega arith)) [ inl b ↦ omega arith | inr b ↦ omega arith ]
     ]
 
-module _ {A : Type 0} where
-  slice_get-push_last : (xs : List A) (x : A) → slice_get (xs ++ x ∷ []) (length xs) ≡ Some x
-  slice_get-push_last [] x = refl
-  slice_get-push_last (y ∷ xs) x = slice_get-push_last xs x
+-- a list with an item more, or with one written, is the same at every other index
+module _ {A : Type 0} (xs : List A) (x : A) where
+  slice_get-push_other : (k : ℕ) → k ≢ length xs → slice_get (xs ++ x ∷ []) k ≡ slice_get xs k
+  slice_get-push_other k other = grind (arith, common_steps, slice_get_cases)
 
-  slice_get-push_other : (xs : List A) (x : A) (k : ℕ) → k ≢ length xs → slice_get (xs ++ x ∷ []) k ≡ slice_get xs k
-  slice_get-push_other [] x zero other = absurd (other refl)
-  slice_get-push_other [] x (suc k) other = refl
-  slice_get-push_other (y ∷ xs) x zero other = refl
-  slice_get-push_other (y ∷ xs) x (suc k) other = slice_get-push_other xs x k (λ e. other (ap suc e))
-
-  slice_get-set_same : (xs : List A) (k : ℕ) (y : A) → k < length xs → slice_get (set xs k y) k ≡ Some y
-  slice_get-set_same [] k y within = absurd (omega arith)
-  slice_get-set_same (x ∷ xs) zero y within = refl
-  slice_get-set_same (x ∷ xs) (suc k) y within = slice_get-set_same xs k y (omega arith)
-
-  slice_get-set_other : (xs : List A) (k j : ℕ) (y : A) → j ≢ k → slice_get (set xs k y) j ≡ slice_get xs j
-  slice_get-set_other [] k j y other = refl
-  slice_get-set_other (x ∷ xs) zero zero y other = absurd (other refl)
-  slice_get-set_other (x ∷ xs) zero (suc j) y other = refl
-  slice_get-set_other (x ∷ xs) (suc k) zero y other = refl
-  slice_get-set_other (x ∷ xs) (suc k) (suc j) y other = slice_get-set_other xs k j y (λ e. other (ap suc e))
+  slice_get-set_other : (k j : ℕ) → j ≢ k → slice_get (set xs k x) j ≡ slice_get xs j
+  slice_get-set_other k j other = grind (arith, common_steps, slice_get_cases)
 
 module _ {X : Type 0} (slots : List (Option X)) (start : ℕ) (within : start < length slots) where
   -- a change of the slot at a count changes what lies there ..
@@ -93,25 +79,25 @@ module _ {X : Type 0} (slots : List (Option X)) (start : ℕ) (within : start < 
             ap (λ n. get_or slots n None) (sym found) ∙ lie count (omega arith)
       ]
 
+  -- a change of the slot at a count, to what another list has there that is the same elsewhere
+  SlotsHold-set : (xs ys : List X) (k : ℕ) (slot : Option X) → SlotsHold slots start xs → k < length slots → slice_get ys k ≡ slot → ((j : ℕ) → j ≢ k → slice_get ys j ≡ slice_get xs j)
+      → SlotsHold (set slots ((start + k) % length slots) slot) start ys
+  SlotsHold-set xs ys k slot hold low here others j within' =
+      let low' : j < length slots = rw (length-set slots ((start + k) % length slots) slot) at within' in
+      elim (ℕ_discrete j k) [
+        | yes same ↦ rw same (slot_after-set_same k slot low ∙ sym here)
+        | no other ↦ slot_after-set_other j k slot low' low other ∙ hold j low' ∙ sym (others j other)
+      ]
+
   -- an item put after the last
   pub SlotsHold-put : (xs : List X) (x : X) → SlotsHold slots start xs → length xs < length slots
       → SlotsHold (set slots ((start + length xs) % length slots) (Some x)) start (xs ++ x ∷ [])
-  SlotsHold-put xs x lie room k low =
-      let low' : k < length slots = rw (length-set slots ((start + length xs) % length slots) (Some x)) at low in
-      elim (ℕ_discrete k (length xs)) [
-        | yes last ↦ rw last (slot_after-set_same (length xs) (Some x) room ∙ sym (slice_get-push_last xs x))
-        | no other ↦ slot_after-set_other k (length xs) (Some x) low' room other ∙ lie k low' ∙ sym (slice_get-push_other xs x k other)
-      ]
+  SlotsHold-put xs x hold room = SlotsHold-set xs (xs ++ x ∷ []) (length xs) (Some x) hold room (grind (arith, common_steps, slice_get_cases)) (λ j other. slice_get-push_other xs x j other)
 
-  -- an item after_write
+  -- an item written
   pub SlotsHold-write : (xs : List X) (i : ℕ) (x : X) → SlotsHold slots start xs → i < length xs → length xs ≤ length slots
       → SlotsHold (set slots ((start + i) % length slots) (Some x)) start (set xs i x)
-  SlotsHold-write xs i x lie there fit k low =
-      let low' : k < length slots = rw (length-set slots ((start + i) % length slots) (Some x)) at low in
-      elim (ℕ_discrete k i) [
-        | yes same ↦ rw same (slot_after-set_same i (Some x) (omega arith) ∙ sym (slice_get-set_same xs i x there))
-        | no other ↦ slot_after-set_other k i (Some x) low' (omega arith) other ∙ lie k low' ∙ sym (slice_get-set_other xs i k x other)
-      ]
+  SlotsHold-write xs i x hold there fit = SlotsHold-set xs (set xs i x) i (Some x) hold (omega arith) (grind (arith, common_steps, slice_get_cases)) (λ j other. slice_get-set_other xs x i j other)
 
   -- the first item taken
   pub SlotsHold-take : (x : X) (xs : List X) → SlotsHold slots start (x ∷ xs) → length xs < length slots

@@ -151,10 +151,9 @@ impl<T: Drop> RingBuffer<T> for AllocRingBuffer<T> {
         let len = self.ring.len();
         let capacity = self.capacity;
         let old = self.ring.push(item, capacity);
-        // A full ring keeps its length, so this never happens. It is there for the compiler, which can't tell the item's
-        // slot from the ring's own fields: a length that is compared again stays in a register in a loop of pushes.
-        if len == capacity && self.ring.len() != len {
-            None.unwrap()
+        // A full ring keeps its length.
+        if len == capacity {
+            keep_in_register(len, self.ring.len());
         }
         Ok(old)
     }
@@ -201,6 +200,18 @@ impl<T: Drop> RingBuffer<T> for AllocRingBuffer<T> {
     fn get_mut_signed(&mut self, index: isize) -> Option<&mut T> {
         let item = self.ring.get_mut_signed(index)?;
         Some(item)
+    }
+}
+
+// Compares a number with the one in memory, which is the same, so the branch is never taken. It is there for the
+// compiler, which can't tell an item's slot from the ring's own fields: a number that is compared again stays in a
+// register in a loop of pushes.
+#[inline]
+fn keep_in_register(number: usize, stored: usize)
+    requires { stored ≡ number }
+{
+    if stored != number {
+        None.unwrap()
     }
 }
 

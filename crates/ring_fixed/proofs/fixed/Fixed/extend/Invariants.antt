@@ -10,7 +10,7 @@ invariant-loop-item g l =
     record {
       can_next : (goal.iterator-loop-item g).can_next l.item-iterator;
       ends : (goal.iterator-loop-item g).is_finite l.item-iterator;
-      becomes : LaysOut g.S.SlotRow.is_size (g.S.SlotRow.seen l.initial.self.slots) (g.S.SlotRow.seen l.self.slots) l.start now;
+      LaysOut-items : LaysOut g.S.SlotRow.is_size (g.S.SlotRow.seen l.initial.self.slots) (g.S.SlotRow.seen l.self.slots) l.start now;
       len : l.len ≡ length now.items;
       within : l.len ≤ l.fn.capacity;
     }

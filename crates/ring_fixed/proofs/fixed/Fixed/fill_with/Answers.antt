@@ -8,9 +8,9 @@ use Rattle.ring_fixed.proofs.fixed.Fixed.fill_with.Goals as goal
 -- One more answer is put.
 pub loop-len-preserved : goal.loop-len-preserved
 loop-len-preserved g c =
-    let (xs, calls, long, becomes) = c.loop-len.invariant.put in
+    let (xs, calls, long, LaysOut-items) = c.loop-len.invariant.put in
     let x = c.make.result in
-    let more = LaysOut-then (λ v. after_put v x) becomes c.put_after.ensures in
+    let more = LaysOut-then (λ v. after_put v x) LaysOut-items c.put_after.ensures in
     record {
       callable = search of_calls;
       start = c.loop-len.invariant.start;
@@ -20,6 +20,6 @@ loop-len-preserved g c =
 -- The items of before are dropped, and then the answers put.
 pub returns : goal.returns
 returns g c =
-    let (xs, calls, long, becomes) = c.loop-len.invariant.put in
-    let after = LaysOut-then (after_puts xs) c.clear.ensures.0 becomes in
+    let (xs, calls, long, LaysOut-items) = c.loop-len.invariant.put in
+    let after = LaysOut-then (after_puts xs) c.clear.ensures.0 LaysOut-items in
     (xs, c.loop-len.make, calls, omega arith, (rw c.loop-len.invariant.start after, omega arith))
