@@ -20,7 +20,7 @@ impl Model for SampleBuffer {
 
     ghost Value = { Signal };
 
-    ghost view = { λ b. record { samples = b.samples.held.items; rate = b.rate; limit = b.samples.capacity } };
+    ghost view = { λ b. record { samples = b.samples.items; rate = b.rate; limit = b.samples.capacity } };
 }
 
 impl SampleBuffer {

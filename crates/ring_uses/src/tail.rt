@@ -21,7 +21,7 @@ impl Model for LogTail {
 
     ghost Value = { Log };
 
-    ghost view = { λ t. record { lines = map string_bytes t.lines.held.items; limit = t.lines.capacity } };
+    ghost view = { λ t. record { lines = map string_bytes t.lines.items; limit = t.lines.capacity } };
 }
 
 impl LogTail {

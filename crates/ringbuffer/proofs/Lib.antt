@@ -1,9 +1,4 @@
-pub mod Laid
-pub mod Lent
-pub mod Over
-pub mod Repeated
-pub mod Sources
-pub mod Steps
+pub mod Conversions
 pub use Rattle.ring_core.proofs.Drained
 pub use Rattle.ring_core.proofs.Items
 pub use Rattle.ring_core.proofs.Limits

@@ -1,13 +1,9 @@
 pub mod Conversion
-pub mod Held
-pub mod HeldWithin
-pub mod Layout
-pub mod array
-pub mod fixed
 pub mod grow
-pub mod heap
 pub use Rattle.ring_core.specs.Contents
 pub use Rattle.ring_core.specs.Extension
 pub use Rattle.ring_core.specs.History
 pub use Rattle.ring_core.specs.Meaning
 pub use Rattle.ring_core.specs.Walk
+pub use Rattle.ring_fixed.specs.Somes
+pub use Rattle.ring_fixed.specs.View

@@ -1,21 +1,22 @@
 //! The ring in an array.
 ghost use Rattle.std.specs.Prelude.{◌≡◌, ◌+◌, ◌<◌, ◌≤◌, [], ◌∷◌, ◌++◌, length, refl, IfErr, IfOk, IfSome, IsOk, IsSome, OnOk, Some, slice_get};
-ghost use Rattle.std.specs.Borrow.{sem};
+ghost use Rattle.std.specs.Borrow.{Lends, sem};
 ghost use Rattle.std.specs.Cmp.{on_per};
 ghost use Rattle.std.specs.Cmp.Lexicographic.{lists_per, pointwise};
 ghost use Rattle.std.specs.List.{AllZip};
 ghost use Rattle.std.proofs.lemmas.Cmp.{lists_equiv, on_equiv};
 ghost use Rattle.ring_core.specs.Contents.{ChangesSlots, keep_last, overwritten, place};
 ghost use Rattle.ring_core.specs.Walk.{ReadsInOrder, ReadsInReverse, StartsOver, unmoved, unread};
-ghost use Rattle.ringbuffer.specs.Held.{pushed, written};
+ghost use Rattle.ring_fixed.specs.View.{after_push, after_write};
 
-use crate::fixed::Fixed;
-use crate::position::{position, signed_position};
-use crate::shared::{extend_cloned, same_items};
+mod convert;
+
 use ring_core::{
     RingBuffer, RingBufferDrainingIterator, RingBufferIntoIterator, RingBufferIterator,
     RingBufferMutIterator,
 };
+use ring_fixed::fixed::Fixed;
+use ring_fixed::shared::{extend_cloned, same_items};
 use ring_slots::{ArraySlots, SlotRow};
 use std::alloc::AllocError;
 use std::marker::Model;
@@ -23,7 +24,7 @@ use std::ops::{Index, IndexMut};
 
 /// A ring of at most `CAP` items, which lie in the value itself. It takes no memory of its own.
 ///
-/// A contract sees its items, oldest first, and how often its slots were changed.
+/// A contract sees its items, oldest first, how often its slots were changed, and its capacity, which is `CAP`.
 #[derive(Drop)]
 pub struct ConstGenericRingBuffer<T, const CAP: usize> {
     ring: Fixed<T, ArraySlots<T, CAP>>,
@@ -31,21 +32,21 @@ pub struct ConstGenericRingBuffer<T, const CAP: usize> {
 
 impl<T, const CAP: usize> Model for ConstGenericRingBuffer<T, CAP> {
     ghost use Rattle.std.specs.Prelude.{◌≡◌};
-    ghost use Rattle.ringbuffer.specs.Held.{Held};
-    ghost use Rattle.ringbuffer.specs.fixed.Sound.{held, size_of, IsSound};
+    ghost use Rattle.ring_fixed.specs.View.{View};
+    ghost use Rattle.ring_fixed.specs.fixed.Sound.{view_of, IsSound};
 
-    ghost Value = { Held T };
+    ghost Value = { View T };
 
-    ghost view = { λ r. held (λ s. s) r.ring };
+    ghost view = { λ r. record (view_of (λ s. s) r.ring) { capacity = CAP } };
 
-    ghost invariant = { λ r. IsSound (λ s. s) (λ _. Unit {0}) r.ring × (size_of (λ s. s) r.ring ≡ CAP) };
+    ghost invariant = { λ r. IsSound (λ s. s) (λ _. Unit {0}) r.ring × ((view_of (λ s. s) r.ring).capacity ≡ CAP) };
 }
 
 impl<T: Drop, const CAP: usize> ConstGenericRingBuffer<T, CAP> {
     /// An empty ring.
     pub fn new() -> Self
         requires { 0 < CAP }
-        ensures { result ≡ record { items = []; changes = 0 } }
+        ensures { result ≡ record { items = []; changes = 0; capacity = CAP } }
     {
         ConstGenericRingBuffer {
             ring: Fixed::over(ArraySlots::new()),
@@ -55,7 +56,7 @@ impl<T: Drop, const CAP: usize> ConstGenericRingBuffer<T, CAP> {
     /// An empty ring.
     pub fn default() -> Self
         requires { 0 < CAP }
-        ensures { result ≡ record { items = []; changes = 0 } }
+        ensures { result ≡ record { items = []; changes = 0; capacity = CAP } }
     {
         Self::new()
     }
@@ -66,7 +67,7 @@ impl<T: Drop, const CAP: usize> RingBuffer<T> for ConstGenericRingBuffer<T, CAP>
 
     ghost limit = { λ _. Some CAP };
 
-    ghost with_item = { written };
+    ghost with_item = { after_write };
 
     ghost slot_changes = { λ s. s.changes };
 
@@ -76,21 +77,22 @@ impl<T: Drop, const CAP: usize> RingBuffer<T> for ConstGenericRingBuffer<T, CAP>
 
     #[inline]
     fn len(&self) -> usize {
-        self.ring.len
+        self.ring.len()
     }
 
     #[inline]
     fn capacity(&self) -> usize {
-        self.ring.slots.size()
+        self.ring.size()
     }
 
     #[inline]
     fn buffer_size(&self) -> usize
         ensures value { result ≡ CAP }
+        ensures capacity { self.now.capacity ≡ CAP }
         ensures room { IfSome (Some CAP) (λ n. n ≤ result) }
         ensures holds { length self.now.items ≤ result }
     {
-        self.ring.slots.size()
+        self.ring.size()
     }
 
     #[inline]
@@ -100,7 +102,7 @@ impl<T: Drop, const CAP: usize> RingBuffer<T> for ConstGenericRingBuffer<T, CAP>
         ensures err { IfErr result (λ x. (x ≡ item) × (self.new.items ≡ self.old.items)) }
         ensures changes { IsSome (Some CAP) → ChangesSlots self.old.changes self.old.items self.new.changes self.new.items 1 }
         ensures succeeds { IsSome (Some CAP) → IsOk result }
-        ensures pushes { self.new ≡ pushed CAP self.old item }
+        ensures pushes { self.new ≡ after_push CAP self.old item }
 
         // The count that the trait shows is the count of the slots themselves.
         ensures counts { ⟦<ConstGenericRingBuffer<T, CAP> as RingBuffer<T>>⟧.slot_changes self.new ≡ self.new.changes }
@@ -142,14 +144,14 @@ impl<T: Drop, const CAP: usize> RingBuffer<T> for ConstGenericRingBuffer<T, CAP>
 
     #[inline]
     fn get_mut(&mut self, index: usize) -> Option<&mut T> {
-        let index = position(index, self.ring.len)?;
-        Some(self.ring.at_mut(index))
+        let item = self.ring.get_mut(index)?;
+        Some(item)
     }
 
     #[inline]
     fn get_mut_signed(&mut self, index: isize) -> Option<&mut T> {
-        let index = signed_position(index, self.ring.len)?;
-        Some(self.ring.at_mut(index))
+        let item = self.ring.get_mut_signed(index)?;
+        Some(item)
     }
 }
 
@@ -167,12 +169,12 @@ impl<T: Drop, const CAP: usize> Index<usize> for ConstGenericRingBuffer<T, CAP> 
 }
 
 impl<T: Drop, const CAP: usize> IndexMut<usize> for ConstGenericRingBuffer<T, CAP> {
-    ghost use Rattle.ringbuffer.specs.array.Lends.{lends_position};
+    ghost use Rattle.ringbuffer.specs.contracts.array.ConstGenericRingBuffer.{the_row};
 
     #[inline]
     fn index_mut(&mut self, index: usize) -> &mut T
         requires { 0 < length self.old.items }
-        ensures* writes_back { sem 𝓛 (lends_position T.row CAP.row self.entry index result) }
+        ensures* writes_back { sem 𝓛 (Lends (the_row T.row CAP.row) T.row self.entry result (after_write self.old (place (length self.old.items) index))) }
         ensures value { slice_get self.old.items (place (length self.old.items) index) ≡ Some result.now }
     {
         self.get_mut(index).unwrap()

@@ -3,16 +3,17 @@
 ghost use Rattle.std.specs.Prelude.{◌≡◌, ◌%◌, ◌<◌, [], ◌∷◌, IfOk, None, Some, length, refl, slice_get, slice_set};
 ghost use Rattle.std.specs.Borrow.{sem};
 ghost use Rattle.std.specs.Cmp.Lexicographic.{lists_per, pointwise};
-ghost use Rattle.std.specs.Iterator.{Drains, IsFiniteIterable};
 ghost use Rattle.std.specs.List.{AllZip};
 ghost use Rattle.std.proofs.lemmas.Cmp.{lists_equiv};
 ghost use Rattle.ring_core.specs.Walk.{ReadsInOrder, ReadsInReverse, StartsOver, unmoved, unread};
 
-use crate::position::{position, signed_position};
+mod convert;
+
 use ring_core::{
     RingBuffer, RingBufferDrainingIterator, RingBufferIntoIterator, RingBufferIterator,
     RingBufferMutIterator,
 };
+use ring_fixed::position::{position, signed_position};
 use std::alloc::{AllocError, Global};
 use std::collections::VecDeque;
 use std::marker::Model;
@@ -82,22 +83,6 @@ impl<T: Drop> GrowableAllocRingBuffer<T> {
         ensures value { result.now.items ≡ self.old }
     {
         &mut self.deque
-    }
-
-    /// A ring of a source's items, in order.
-    ///
-    /// # Errors
-    ///
-    /// Where memory was refused. The items are dropped.
-    pub fn from_iter<I: IntoIterator<Item = T>>(alloc: Global, items: I) -> Result<Self, AllocError>
-    where
-        I::IntoIter: Drop,
-        requires { IsFiniteIterable I.into_iter_gives I.IntoIter.can_next I.IntoIter.remaining items }
-        ensures { IfOk result (λ ring. (it : I.IntoIter) × I.into_iter_gives items it × Drains I.IntoIter.next_gives it ring) }
-    {
-        let mut ring = Self::new(alloc);
-        ring.extend(items)?;
-        Ok(ring)
     }
 }
 
@@ -269,15 +254,6 @@ impl<T: Drop> IndexMut<usize> for GrowableAllocRingBuffer<T> {
         ensures value { Some result.now ≡ slice_get self.old (index % length self.old) }
     {
         self.get_mut(index).unwrap()
-    }
-}
-
-impl<T: Drop> From<VecDeque<T>> for GrowableAllocRingBuffer<T> {
-    ghost from_gives = { λ deque ring. ring ≡ deque.items };
-
-    /// The ring over a deque, which asks for no memory.
-    fn from(deque: VecDeque<T>) -> Self {
-        GrowableAllocRingBuffer { deque }
     }
 }
 

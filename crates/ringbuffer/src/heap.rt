@@ -1,6 +1,6 @@
 //! The ring on the heap.
 ghost use Rattle.std.specs.Prelude.{◌≡◌, ◌^◌, ◌<◌, ◌≤◌, [], ◌∷◌, ◌++◌, length, refl, ◌&&◌, nat_eq, IfOk, IsErr, IsOk, Some, slice_get};
-ghost use Rattle.std.specs.Borrow.{sem};
+ghost use Rattle.std.specs.Borrow.{Lends, sem};
 ghost use Rattle.std.specs.Int.{IsNextPowerOfTwo};
 ghost use Rattle.std.specs.Cmp.{and_per, on_per, partial_equiv_from_equiv};
 ghost use Rattle.std.specs.Cmp.Lexicographic.{lists_per, pointwise};
@@ -8,15 +8,16 @@ ghost use Rattle.std.specs.List.{AllZip};
 ghost use Rattle.std.proofs.lemmas.Cmp.{and_equiv, lists_equiv, nat_eq_equiv, on_equiv};
 ghost use Rattle.ring_core.specs.Contents.{overwritten, place};
 ghost use Rattle.ring_core.specs.Walk.{ReadsInOrder, ReadsInReverse, StartsOver, unmoved, unread};
-ghost use Rattle.ringbuffer.specs.Held.{pushed, written};
+ghost use Rattle.ring_fixed.specs.View.{after_push, after_write};
 
-use crate::fixed::Fixed;
-use crate::position::{position, signed_position};
-use crate::shared::{extend_cloned, same_items};
+mod convert;
+
 use ring_core::{
     RingBuffer, RingBufferDrainingIterator, RingBufferIntoIterator, RingBufferIterator,
     RingBufferMutIterator,
 };
+use ring_fixed::fixed::Fixed;
+use ring_fixed::shared::{extend_cloned, same_items};
 use ring_slots::{HeapSlots, SlotRow};
 use std::alloc::{AllocError, Global};
 use std::marker::Model;
@@ -35,16 +36,16 @@ pub struct AllocRingBuffer<T> {
 }
 
 impl<T> Model for AllocRingBuffer<T> {
-    ghost use Rattle.std.specs.Prelude.{◌<◌, ◌≤◌};
+    ghost use Rattle.std.specs.Prelude.{◌<◌, ◌≤◌, length};
     ghost use Rattle.std.specs.Int.{IsNextPowerOfTwo, IsPowerOfTwo};
-    ghost use Rattle.ringbuffer.specs.HeldWithin.{HeldWithin};
-    ghost use Rattle.ringbuffer.specs.fixed.Sound.{IsSound, held, size_of};
+    ghost use Rattle.ring_fixed.specs.View.{View};
+    ghost use Rattle.ring_fixed.specs.fixed.Sound.{view_of, IsSound};
 
-    ghost Value = { HeldWithin T };
+    ghost Value = { View T };
 
-    ghost view = { λ r. record { held = held (λ s. s) r.ring; capacity = r.capacity } };
+    ghost view = { λ r. record (view_of (λ s. s) r.ring) { capacity = r.capacity } };
 
-    ghost invariant = { λ r. IsSound (λ s. s) IsPowerOfTwo r.ring × (0 < r.capacity) × (r.ring.len ≤ r.capacity) × IsNextPowerOfTwo r.capacity (size_of (λ s. s) r.ring) };
+    ghost invariant = { λ r. IsSound (λ s. s) IsPowerOfTwo r.ring × (0 < r.capacity) × (length (view_of (λ s. s) r.ring).items ≤ r.capacity) × IsNextPowerOfTwo r.capacity (view_of (λ s. s) r.ring).capacity };
 }
 
 impl<T: Drop> AllocRingBuffer<T> {
@@ -55,7 +56,7 @@ impl<T: Drop> AllocRingBuffer<T> {
     /// Where memory was refused or the bytes can't be asked for, and for every capacity above the greatest power of two.
     pub fn new(alloc: Global, capacity: usize) -> Result<Self, AllocError>
         requires { 0 < capacity }
-        ensures made { IfOk result (λ ring. ring ≡ record { held = record { items = []; changes = 0 }; capacity = capacity }) }
+        ensures made { IfOk result (λ ring. ring ≡ record { items = []; changes = 0; capacity = capacity }) }
         ensures too_large { 2 ^ 63 < capacity → IsErr result }
     {
         if capacity > GREATEST_POWER_OF_TWO {
@@ -77,7 +78,7 @@ impl<T: Drop> AllocRingBuffer<T> {
     /// As `new`.
     pub fn with_capacity(alloc: Global, capacity: usize) -> Result<Self, AllocError>
         requires { 0 < capacity }
-        ensures made { IfOk result (λ ring. ring ≡ record { held = record { items = []; changes = 0 }; capacity = capacity }) }
+        ensures made { IfOk result (λ ring. ring ≡ record { items = []; changes = 0; capacity = capacity }) }
         ensures too_large { 2 ^ 63 < capacity → IsErr result }
     {
         Self::new(alloc, capacity)
@@ -90,7 +91,7 @@ impl<T: Drop> AllocRingBuffer<T> {
     /// As `new`.
     pub fn with_capacity_power_of_2(alloc: Global, exponent: usize) -> Result<Self, AllocError>
         requires { exponent < 64 }
-        ensures { IfOk result (λ ring. ring ≡ record { held = record { items = []; changes = 0 }; capacity = 2 ^ exponent }) }
+        ensures { IfOk result (λ ring. ring ≡ record { items = []; changes = 0; capacity = 2 ^ exponent }) }
     {
         Self::new(alloc, 1 << exponent)
     }
@@ -108,13 +109,13 @@ impl<T: Drop> Drop for AllocRingBuffer<T> {
 }
 
 impl<T: Drop> RingBuffer<T> for AllocRingBuffer<T> {
-    ghost contents = { λ r. r.held.items };
+    ghost contents = { λ r. r.items };
 
     ghost limit = { λ r. Some r.capacity };
 
-    ghost with_item = { λ r i x. record r { held = written r.held i x } };
+    ghost with_item = { after_write };
 
-    ghost slot_changes = { λ r. r.held.changes };
+    ghost slot_changes = { λ r. r.changes };
 
     ghost sets_item = { λ _ _ _. refl };
 
@@ -122,7 +123,7 @@ impl<T: Drop> RingBuffer<T> for AllocRingBuffer<T> {
 
     #[inline]
     fn len(&self) -> usize {
-        self.ring.len
+        self.ring.len()
     }
 
     #[inline]
@@ -133,27 +134,26 @@ impl<T: Drop> RingBuffer<T> for AllocRingBuffer<T> {
     #[inline]
     fn buffer_size(&self) -> usize
         ensures size { IsNextPowerOfTwo self.now.capacity result }
-        ensures holds { length self.now.held.items ≤ result }
+        ensures holds { length self.now.items ≤ result }
     {
-        self.ring.slots.size()
+        self.ring.size()
     }
 
     #[inline]
     fn push(&mut self, item: T) -> Result<Option<T>, T>
-        ensures overwrites { IfOk result (λ old. old ≡ overwritten (Some self.old.capacity) self.old.held.items) }
-        ensures pushes { self.new ≡ record self.old { held = pushed self.old.capacity self.old.held item } }
+        ensures overwrites { IfOk result (λ old. old ≡ overwritten (Some self.old.capacity) self.old.items) }
+        ensures pushes { self.new ≡ after_push self.old.capacity self.old item }
         ensures ok { IsOk result }
 
         // The count that the trait shows is the count of the slots themselves.
-        ensures counts { ⟦<AllocRingBuffer<T> as RingBuffer<T>>⟧.slot_changes self.new ≡ self.new.held.changes }
+        ensures counts { ⟦<AllocRingBuffer<T> as RingBuffer<T>>⟧.slot_changes self.new ≡ self.new.changes }
     {
-        let len = self.ring.len;
+        let len = self.ring.len();
         let capacity = self.capacity;
         let old = self.ring.push(item, capacity);
-        // A full ring keeps its length, so this never happens. It is there for the compiler, which can't tell the item's
-        // slot from the ring's own fields: a length that is compared again stays in a register in a loop of pushes.
-        if len == capacity && self.ring.len != len {
-            None.unwrap()
+        // A full ring keeps its length.
+        if len == capacity {
+            keep_in_register(len, self.ring.len());
         }
         Ok(old)
     }
@@ -192,23 +192,35 @@ impl<T: Drop> RingBuffer<T> for AllocRingBuffer<T> {
 
     #[inline]
     fn get_mut(&mut self, index: usize) -> Option<&mut T> {
-        let index = position(index, self.ring.len)?;
-        Some(self.ring.at_mut(index))
+        let item = self.ring.get_mut(index)?;
+        Some(item)
     }
 
     #[inline]
     fn get_mut_signed(&mut self, index: isize) -> Option<&mut T> {
-        let index = signed_position(index, self.ring.len)?;
-        Some(self.ring.at_mut(index))
+        let item = self.ring.get_mut_signed(index)?;
+        Some(item)
+    }
+}
+
+// Compares a number with the one in memory, which is the same, so the branch is never taken. It is there for the
+// compiler, which can't tell an item's slot from the ring's own fields: a number that is compared again stays in a
+// register in a loop of pushes.
+#[inline]
+fn keep_in_register(number: usize, stored: usize)
+    requires { stored ≡ number }
+{
+    if stored != number {
+        None.unwrap()
     }
 }
 
 impl<T: Drop> Index<usize> for AllocRingBuffer<T> {
     type Output = T;
 
-    ghost can_index = { λ s _. 0 < length s.held.items };
+    ghost can_index = { λ s _. 0 < length s.items };
 
-    ghost index_gives = { λ s i x. slice_get s.held.items (place (length s.held.items) i) ≡ Some x };
+    ghost index_gives = { λ s i x. slice_get s.items (place (length s.items) i) ≡ Some x };
 
     /// The item at a position. The ring must hold one.
     #[inline]
@@ -218,14 +230,14 @@ impl<T: Drop> Index<usize> for AllocRingBuffer<T> {
 }
 
 impl<T: Drop> IndexMut<usize> for AllocRingBuffer<T> {
-    ghost use Rattle.ringbuffer.specs.heap.Lends.{lends_position};
+    ghost use Rattle.ringbuffer.specs.contracts.heap.AllocRingBuffer.{the_row};
 
     /// The item at a position, for writing. The ring must hold one.
     #[inline]
     fn index_mut(&mut self, index: usize) -> &mut T
-        requires { 0 < length self.old.held.items }
-        ensures* writes_back { sem 𝓛 (lends_position T.row self.entry index result) }
-        ensures value { slice_get self.old.held.items (place (length self.old.held.items) index) ≡ Some result.now }
+        requires { 0 < length self.old.items }
+        ensures* writes_back { sem 𝓛 (Lends (the_row T.row) T.row self.entry result (after_write self.old (place (length self.old.items) index))) }
+        ensures value { slice_get self.old.items (place (length self.old.items) index) ≡ Some result.now }
     {
         self.get_mut(index).unwrap()
     }
@@ -235,7 +247,7 @@ impl<T: Drop> AllocRingBuffer<T> {
     /// A walk over the items, oldest first, from either end.
     #[inline]
     pub fn iter(&self) -> RingBufferIterator<'_, T, Self>
-        ensures left { unread ⟦<AllocRingBuffer<T> as RingBuffer<T>>⟧.contents result ≡ self.now.held.items }
+        ensures left { unread ⟦<AllocRingBuffer<T> as RingBuffer<T>>⟧.contents result ≡ self.now.items }
         ensures runs { ReadsInOrder ⟦<AllocRingBuffer<T> as RingBuffer<T>>⟧.contents }
         ensures runs_back { ReadsInReverse ⟦<AllocRingBuffer<T> as RingBuffer<T>>⟧.contents }
     {
@@ -264,7 +276,7 @@ impl<T: Drop> AllocRingBuffer<T> {
     /// A walk that owns the ring, oldest item first.
     #[inline]
     pub fn into_iter(self) -> RingBufferIntoIterator<T, Self>
-        ensures { unmoved ⟦<AllocRingBuffer<T> as RingBuffer<T>>⟧.contents result ≡ self.held.items }
+        ensures { unmoved ⟦<AllocRingBuffer<T> as RingBuffer<T>>⟧.contents result ≡ self.items }
     {
         RingBufferIntoIterator::new(self)
     }
@@ -275,7 +287,7 @@ impl<T: Drop> IntoIterator for AllocRingBuffer<T> {
 
     type IntoIter = RingBufferIntoIterator<T, AllocRingBuffer<T>>;
 
-    ghost into_iter_gives = { λ ring r. unmoved ⟦<AllocRingBuffer<T> as RingBuffer<T>>⟧.contents r ≡ ring.held.items };
+    ghost into_iter_gives = { λ ring r. unmoved ⟦<AllocRingBuffer<T> as RingBuffer<T>>⟧.contents r ≡ ring.items };
 
     #[inline]
     fn into_iter(self) -> RingBufferIntoIterator<T, AllocRingBuffer<T>> {
@@ -288,7 +300,7 @@ impl<'a, T: Drop> IntoIterator for &'a AllocRingBuffer<T> {
 
     type IntoIter = RingBufferIterator<'a, T, AllocRingBuffer<T>>;
 
-    ghost into_iter_gives = { λ ring r. (unread ⟦<AllocRingBuffer<T> as RingBuffer<T>>⟧.contents r ≡ ring.now.held.items) × ReadsInOrder ⟦<AllocRingBuffer<T> as RingBuffer<T>>⟧.contents };
+    ghost into_iter_gives = { λ ring r. (unread ⟦<AllocRingBuffer<T> as RingBuffer<T>>⟧.contents r ≡ ring.now.items) × ReadsInOrder ⟦<AllocRingBuffer<T> as RingBuffer<T>>⟧.contents };
 
     #[inline]
     fn into_iter(self) -> RingBufferIterator<'a, T, AllocRingBuffer<T>> {
@@ -303,7 +315,7 @@ impl<T: Clone + Drop> AllocRingBuffer<T> {
     ///
     /// Where memory or a clone was refused.
     pub fn clone(&self) -> Result<Self, AllocError>
-        ensures items { IfOk result (λ ring. AllZip T.is_clone self.now.held.items ring.held.items) }
+        ensures items { IfOk result (λ ring. AllZip T.is_clone self.now.items ring.items) }
         ensures capacity { IfOk result (λ ring. ring.capacity ≡ self.now.capacity) }
     {
         let _held = self.len();
@@ -314,9 +326,9 @@ impl<T: Clone + Drop> AllocRingBuffer<T> {
 }
 
 impl<T: PartialEq + Drop> PartialEq for AllocRingBuffer<T> {
-    ghost eq = { λ a b. nat_eq a.capacity b.capacity && pointwise T.eq a.held.items b.held.items };
+    ghost eq = { λ a b. nat_eq a.capacity b.capacity && pointwise T.eq a.items b.items };
 
-    ghost laws = { and_per (on_per (λ ring. ring.capacity) (partial_equiv_from_equiv nat_eq_equiv)) (on_per (λ ring. ring.held.items) (lists_per T.laws)) };
+    ghost laws = { and_per (on_per (λ ring. ring.capacity) (partial_equiv_from_equiv nat_eq_equiv)) (on_per (λ ring. ring.items) (lists_per T.laws)) };
 
     fn eq(&self, other: &Self) -> bool {
         self.capacity == other.capacity && same_items(self, other)
@@ -324,5 +336,5 @@ impl<T: PartialEq + Drop> PartialEq for AllocRingBuffer<T> {
 }
 
 impl<T: Eq + Drop> Eq for AllocRingBuffer<T> {
-    ghost laws = { and_equiv (on_equiv (λ ring. ring.capacity) nat_eq_equiv) (on_equiv (λ ring. ring.held.items) (lists_equiv T.Eq.laws)) };
+    ghost laws = { and_equiv (on_equiv (λ ring. ring.capacity) nat_eq_equiv) (on_equiv (λ ring. ring.items) (lists_equiv T.Eq.laws)) };
 }

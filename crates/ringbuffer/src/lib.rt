@@ -3,12 +3,8 @@
 #![tactic(auto)]
 
 mod array;
-mod convert;
-mod fixed;
 mod grow;
 mod heap;
-mod position;
-mod shared;
 
 pub use array::ConstGenericRingBuffer;
 pub use grow::GrowableAllocRingBuffer;

@@ -3,7 +3,7 @@ use Rattle.std.specs.declared.array.IntoIter.{IntoIter}
 use Rattle.std.specs.Array.Iter.{array_into_iter_items, array_steps}
 use Rattle.std.specs.Iterator.{Drains}
 use Rattle.std.proofs.lemmas.Iterator.Consumers.{YieldsList-from_shown}
-use Rattle.ringbuffer.proofs.Sources.{items_drained}
+use Rattle.ringbuffer.proofs.Conversions.{items_drained}
 use Rattle.ring_bench.proofs.counts.extend_one_place.Goals as goal
 
 -- what a match says of Ok holds where the result is Ok

@@ -7,4 +7,4 @@ use Rattle.ring_uses.proofs.samples.SampleBuffer.last.Goals as goal
 
 pub returns : goal.returns
 returns c = rw (← c.self.view_is, ← c.len.ensures.value, ← c.saturating_sub-older.ensures)
-    (items_from_collect c.collect.result c.collect.ensures.ran (YieldsList-from_copied (YieldsList-from_skip c.saturating_sub-older.result (YieldsList-from_first (λ y. y.now) (unread (λ r. r.held.items)) c.self.inside.samples.held.items (search rules)) (search rules))))
+    (items_from_collect c.collect.result c.collect.ensures.ran (YieldsList-from_copied (YieldsList-from_skip c.saturating_sub-older.result (YieldsList-from_first (λ y. y.now) (unread (λ r. r.items)) c.self.inside.samples.items (search rules)) (search rules))))

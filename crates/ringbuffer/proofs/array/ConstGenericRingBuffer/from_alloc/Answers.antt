@@ -1,10 +1,7 @@
-use Rattle.std.proofs.Common.{Some, ap, ◌∙◌}
 use Rattle.std.proofs.lemmas.Iterator.Consumers.{YieldsList-from_first}
-use Rattle.ring_core.specs.Contents.{keep_last}
-use Rattle.ringbuffer.proofs.Sources.{items_drained}
+use Rattle.ring_core.specs.Walk.{unmoved}
+use Rattle.ringbuffer.proofs.Conversions.{last_made}
 use Rattle.ringbuffer.proofs.array.ConstGenericRingBuffer.from_alloc.Goals as goal
 
 pub returns : goal.returns
-returns g c =
-    let (it, xs, from, drained, is) = c.from_iter.ensures in
-    is ∙ ap (λ l. keep_last (Some _) l) (items_drained xs _ drained (YieldsList-from_first (λ x. x) _ _ from))
+returns g c = last_made _ c.from_iter.ensures (λ it from. YieldsList-from_first (λ x. x) (unmoved (λ r. r.items)) _ from)

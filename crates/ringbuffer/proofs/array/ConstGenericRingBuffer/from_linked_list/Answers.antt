@@ -1,10 +1,6 @@
-use Rattle.std.proofs.Common.{Some, ap, ◌∙◌}
 use Rattle.std.proofs.lemmas.Iterator.Consumers.{YieldsList-from_rest}
-use Rattle.ring_core.specs.Contents.{keep_last}
-use Rattle.ringbuffer.proofs.Sources.{items_drained}
+use Rattle.ringbuffer.proofs.Conversions.{last_made}
 use Rattle.ringbuffer.proofs.array.ConstGenericRingBuffer.from_linked_list.Goals as goal
 
 pub returns : goal.returns
-returns g c =
-    let (it, xs, from, drained, is) = c.from_iter.ensures in
-    is ∙ ap (λ l. keep_last (Some _) l) (items_drained xs _ drained (YieldsList-from_rest _ from.0))
+returns g c = last_made _ c.from_iter.ensures (λ it from. YieldsList-from_rest _ from.0)

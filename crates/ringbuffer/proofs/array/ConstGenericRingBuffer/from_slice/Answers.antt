@@ -1,12 +1,11 @@
-use Rattle.std.proofs.Common.{Some, ◌++◌, ap, ◌∙◌}
+use Rattle.std.proofs.Common.{◌++◌, Some, ap, ◌∙◌}
 use Rattle.std.proofs.lemmas.Iterator.{YieldsList-from_slice}
 use Rattle.ring_core.specs.Contents.{keep_last}
-use Rattle.ring_core.proofs.Drained.{shown_drained}
-use Rattle.ringbuffer.specs.Held.{Held}
+use Rattle.ring_fixed.specs.View.{View}
+use Rattle.ringbuffer.proofs.Conversions.{ClonesMeet-drained}
 use Rattle.ringbuffer.proofs.array.ConstGenericRingBuffer.from_slice.Goals as goal
 
 pub returns : goal.returns
 returns g c =
-    let (bs, ys, drained, clones, kept) = c.in_ok-extend_cloned.ensures.items in
-    let read = shown_drained (λ x. x.now) bs c.args.items.now drained (YieldsList-from_slice _ c.iter.ensures.rest) in
-    (ys, rw read at clones, kept ∙ ap (λ (r : Held _). keep_last (Some _) (r.items ++ ys)) c.new-ring.ensures)
+    let (ys, clones, kept) = ClonesMeet-drained c.in_ok-extend_cloned.ensures.items (YieldsList-from_slice _ c.iter.ensures.rest) in
+    (ys, clones, kept ∙ ap (λ (r : View _). keep_last (Some _) (r.items ++ ys)) c.new-ring.ensures)

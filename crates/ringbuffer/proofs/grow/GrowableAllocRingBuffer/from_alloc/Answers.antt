@@ -1,8 +1,7 @@
 use Rattle.std.proofs.lemmas.Iterator.Consumers.{YieldsList-from_first}
-use Rattle.std.proofs.lemmas.Result.{IfOk-weaker}
-use Rattle.ringbuffer.proofs.Sources.{items_drained}
+use Rattle.ring_core.specs.Walk.{unmoved}
+use Rattle.ringbuffer.proofs.Conversions.{list_made}
 use Rattle.ringbuffer.proofs.grow.GrowableAllocRingBuffer.from_alloc.Goals as goal
 
 pub returns : goal.returns
-returns g c = IfOk-weaker c.from_iter.result _ _ (λ ring made.
-    let (it, from, drained) = made in items_drained ring _ drained (YieldsList-from_first (λ x. x) _ _ from)) c.from_iter.ensures
+returns g c = list_made c.from_iter.result c.from_iter.ensures (λ it from. YieldsList-from_first (λ x. x) (unmoved (λ r. r.items)) _ from)

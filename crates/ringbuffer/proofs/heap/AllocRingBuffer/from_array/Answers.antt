@@ -1,16 +1,14 @@
-use Rattle.std.proofs.Common.{◌≡◌, ◌++◌, Some, refl, rules, ap, sym, ◌∙◌}
-use Rattle.ring_core.specs.Contents.{keep_last}
-use Rattle.ringbuffer.specs.Conversion.{somes}
-use Rattle.ringbuffer.specs.HeldWithin.{HeldWithin}
-use Rattle.ringbuffer.proofs.Sources.{all_held, length-somes}
+use Rattle.std.proofs.Common.{◌≡◌, Some, ap, arith, refl, sym, ◌∙◌}
+use Rattle.ring_fixed.specs.View.{View}
+use Rattle.ringbuffer.proofs.Conversions.{all_kept, held_on_ok, length-somes}
 use Rattle.ringbuffer.proofs.heap.AllocRingBuffer.from_array.Goals as goal
 
 pub returns : goal.returns
 returns g c =
-    let xs = somes c.args.items in
     let made = c.in_ok-ring.ensures.made in
-    let kept : c.extend_somes.new.ring.held.items ≡ keep_last (Some c.in_ok-ring.ring.capacity) (c.in_ok-ring.ring.held.items ++ xs) = search rules in
-    let room : Some c.extend_somes.new.ring.capacity ≡ Some c.in_ok-ring.ring.capacity = c.extend_somes.ensures.limit in
-    let same : c.extend_somes.new.ring.capacity ≡ c.in_ok-ring.ring.capacity = cc in
-    all_held c.extend_somes.new.ring g.row.N xs xs refl (sym (length-somes c.args.items c.requires.some ∙ c.extend_somes.ensures.places))
-    (kept ∙ ap (λ (r : HeldWithin _). keep_last (Some r.capacity) (r.held.items ++ xs)) made) (same ∙ ap (λ (r : HeldWithin _). r.capacity) made)
+    let room = ap (λ (r : View _). r.capacity) made in
+    let same : c.extend_somes.new.ring.capacity ≡ c.in_ok-ring.ring.capacity = let limit : Some c.extend_somes.new.ring.capacity ≡ Some c.in_ok-ring.ring.capacity = c.extend_somes.ensures.limit in cc in
+    let long = length-somes c.args.items c.requires.some ∙ c.extend_somes.ensures.places in (
+      all_kept c.in_ok-ring.ring.capacity (ap (λ (r : View _). r.items) made) (held_on_ok c.extend_somes.result (c.extend_somes.ensures.succeeds refl) c.extend_somes.ensures.items) (omega (arith, long, room)),
+      same ∙ room ∙ sym long,
+    )

@@ -1,11 +1,7 @@
-use Rattle.std.proofs.Common.{rules}
+use Rattle.std.proofs.Common.{arith, rules}
 use Rattle.std.proofs.lemmas.Iterator.Adapters.{YieldsList-from_vec}
-use Rattle.std.proofs.lemmas.Result.{IfOk-weaker}
-use Rattle.ringbuffer.specs.Conversion.{HoldsAll}
-use Rattle.ringbuffer.proofs.Sources.{all_held, items_drained}
+use Rattle.ringbuffer.proofs.Conversions.{all_made}
 use Rattle.ringbuffer.proofs.heap.AllocRingBuffer.from_vec.Goals as goal
 
 pub returns : goal.returns
-returns g c = IfOk-weaker c.holding.result _ (HoldsAll c.args.items.items) (λ ring made.
-    let (it, xs, from, drained, kept, room) = made in
-    all_held ring _ xs c.args.items.items (items_drained xs _ drained (YieldsList-from_vec _ from.0 (search rules))) (search rules) kept room) c.holding.ensures
+returns g c = all_made c.holding.result _ c.holding.ensures (search rules) (omega arith) (λ it from. YieldsList-from_vec _ from.0 (search rules))

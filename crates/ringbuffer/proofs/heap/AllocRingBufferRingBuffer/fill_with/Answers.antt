@@ -1,9 +1,9 @@
 use Rattle.std.proofs.Common.{ap}
-use Rattle.ringbuffer.specs.Held.{Held}
+use Rattle.ring_fixed.specs.View.{View}
 use Rattle.ringbuffer.proofs.heap.AllocRingBufferRingBuffer.fill_with.Goals as goal
 
 -- What the ring holds is what the closure answered.
 pub returns-clause-made : goal.returns-clause-made
 returns-clause-made g c =
     let (xs, last, calls, long, turns) = c.fill_with.ensures in
-    (last, rw (ap (λ (v : Held _). v.items) turns.0.shows) calls)
+    (last, rw (ap (λ (v : View _). v.items) turns.0.shows) calls)

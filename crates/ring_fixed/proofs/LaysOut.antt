@@ -1,0 +1,112 @@
+-- What the inner steps of a ring do to what it shows.
+use Rattle.std.proofs.Common.{◌≡◌, ℕ, suc, ◌+◌, ◌-◌, ◌%◌, ◌<◌, ◌≤◌, List, [], ◌∷◌, ◌++◌, length, Option, None, Some, refl, sym, ap, ◌∙◌, arith, get_or, replicate, length-set, length-append}
+use Rattle.std.specs.Prelude.{slice_get, min, IsSome}
+use Rattle.std.proofs.Math.ListN.{set}
+use Rattle.std.proofs.Math.Nat.{mod-eq_of_lt, mod-lt}
+use Rattle.std.proofs.lemmas.Grind.{common_steps}
+use Rattle.std.proofs.lemmas.List.{get_or-replicate}
+use Rattle.std.proofs.lemmas.Option.{slice_get_cases, slice_get_past}
+use Rattle.ring_core.specs.Contents.{rest}
+use Rattle.ring_slots.specs.Slots.{Slots, slot_at, IsEmptyAt, IsFullAt, changed}
+use Rattle.ring_fixed.specs.View.{View, after_put, after_take, after_write}
+use Rattle.ring_fixed.specs.Layout.{SlotsHold, items_from, view_from, IsLaidOut, LaysOut}
+use Rattle.ring_fixed.proofs.SlotsHold.{items_from-SlotsHold, SlotsHold-put, SlotsHold-take, SlotsHold-write, SlotsHold-none, from_next}
+
+-- there is an item at an index below the length
+slice_get_some : {A : Type 0} (xs : List A) (k : ℕ) → k < length xs → IsSome (slice_get xs k)
+slice_get_some xs k low = grind (arith, common_steps, slice_get_cases)
+
+-- one step, and then another that works on what the first one shows
+pub LaysOut-then : {X : Type 0} {P : ℕ → Type 0} {a b c : Slots X} {start next : ℕ} {v : View X} (step : View X → View X) → LaysOut P a b start v → LaysOut P b c next (step (view_from b start)) → LaysOut P a c next (step v)
+LaysOut-then step first second =
+    record { laid_out = second.laid_out; same_size = second.same_size ∙ first.same_size; shows = second.shows ∙ ap step first.shows }
+
+module _ {X : Type 0} {P : ℕ → Type 0} (s : Slots X) (start : ℕ) (laid_out : IsLaidOut P s start) where
+  -- items that lie in as many slots are what the ring shows then
+  LaysOut-items : (new : Slots X) (next : ℕ) (xs : List X) → length new.slots ≡ length s.slots → next < length s.slots → length xs ≤ length s.slots
+      → SlotsHold new.slots next xs → LaysOut P s new next (record { items = xs; changes = new.changes; capacity = length s.slots })
+  LaysOut-items new next xs same within fit lie =
+      let is : items_from new.slots next ≡ xs = items_from-SlotsHold new.slots next xs lie (omega arith) in
+      record {
+        laid_out = record { size = rw same laid_out.size; start_within = omega arith; fit = rw is (omega arith); layout = rw is lie };
+        same_size = same;
+        shows = λ i. record { items = is i; changes = new.changes; capacity = same i };
+      }
+
+  -- the start holds the first item
+  pub first_held : slot_at s start ≡ slice_get (items_from s.slots start) 0
+  first_held =
+      let within = laid_out.start_within in
+      let here : (start + 0) % length s.slots ≡ start = ap (λ n. n % length s.slots) {x = start + 0} {y = start} (omega arith) ∙ mod-eq_of_lt within in
+      sym (ap (λ place. slot_at s place) here) ∙ laid_out.layout 0 (omega arith)
+
+  -- where there is an item, the start holds one
+  pub first_full : 0 < length (items_from s.slots start) → IsFullAt s start
+  first_full some = rw first_held (slice_get_some (items_from s.slots start) 0 some)
+
+  -- an item is put into the slot after the last
+  pub LaysOut-put : (new : Slots X) (place len : ℕ) (x : X) → len ≡ length (items_from s.slots start) → len < length s.slots
+      → place ≡ (start + len) % length s.slots → new ≡ changed s place (Some x) → LaysOut P s new start (after_put (view_from s start) x)
+  LaysOut-put new place len x counted room found is =
+      let items = items_from s.slots start in
+      let room' : length items < length s.slots = omega arith in
+      let lie = SlotsHold-put s.slots start laid_out.start_within items x laid_out.layout room' in
+      rw (is, found, counted)
+      (LaysOut-items (changed s ((start + length items) % length s.slots) (Some x)) start (items ++ x ∷ []) (length-set s.slots _ (Some x)) laid_out.start_within (omega (arith, length-append items (x ∷ []))) lie)
+
+  -- an item is after_write
+  pub LaysOut-write : (k : ℕ) (x : X) → k < length (items_from s.slots start)
+      → LaysOut P s (changed s ((start + k) % length s.slots) (Some x)) start (after_write (view_from s start) k x)
+  LaysOut-write k x there =
+      let items = items_from s.slots start in
+      LaysOut-items (changed s ((start + k) % length s.slots) (Some x)) start (set items k x) (length-set s.slots _ (Some x)) laid_out.start_within (rw (length-set items k x) laid_out.fit)
+      (SlotsHold-write s.slots start laid_out.start_within items k x laid_out.layout there laid_out.fit)
+
+  -- the first of some items is taken
+  first_taken : (xs : List X) → SlotsHold s.slots start xs → length xs ≤ length s.slots → 0 < length xs
+      → LaysOut P s (changed s start None) ((start + 1) % length s.slots) (record { items = rest xs; changes = s.changes + min (length xs) 1; capacity = length s.slots })
+  first_taken [] lie fit some = absurd (omega arith)
+  first_taken (x ∷ xs) lie fit some =
+      let one : s.changes + 1 ≡ s.changes + min (length (x ∷ xs)) 1 = omega arith in
+      rw (sym one) (LaysOut-items (changed s start None) ((start + 1) % length s.slots) xs (length-set s.slots start None) (mod-lt (start + 1) (omega arith)) (omega arith)
+      (SlotsHold-take s.slots start laid_out.start_within x xs lie (omega arith)))
+
+  pub LaysOut-take : (new : Slots X) (next : ℕ) → 0 < length (items_from s.slots start) → next ≡ (start + 1) % length s.slots → new ≡ changed s start None
+      → LaysOut P s new next (after_take (view_from s start))
+  LaysOut-take new next some found is = rw (is, found) (first_taken (items_from s.slots start) laid_out.layout laid_out.fit some)
+
+  -- the place after the last, seen from the start or from the next
+  pub same_place : (len : ℕ) → 0 < len → len ≤ length s.slots → (start + len) % length s.slots ≡ ((start + 1) % length s.slots + (len - 1)) % length s.slots
+  same_place len some fit =
+      ap (λ n. (start + n) % length s.slots) {x = len} {y = suc (len - 1)} (omega arith) ∙ sym (from_next start (len - 1) (length s.slots) laid_out.start_within (omega arith))
+
+  -- past the last item the slots are empty
+  pub past_empty : (place : ℕ) → length (items_from s.slots start) < length s.slots → place ≡ (start + length (items_from s.slots start)) % length s.slots → IsEmptyAt s place
+  past_empty place room found =
+      let items = items_from s.slots start in
+      rw found (mod-lt (start + length items) (omega arith), laid_out.layout (length items) room ∙ slice_get_past items (length items) (omega arith))
+
+module _ {X : Type 0} (slots : List (Option X)) (start : ℕ) (empty : slots ≡ replicate (length slots) None) where
+  -- in empty slots no item lies
+  none_held : SlotsHold slots start []
+  none_held k low =
+      let place = (start + k) % length slots in
+      ap (λ (places : List (Option X)). get_or places place None) empty ∙ get_or-replicate (length slots) place None None (mod-lt (start + k) (omega arith))
+
+  pub items_from-empty : items_from slots start ≡ []
+  items_from-empty = items_from-SlotsHold slots start [] none_held (omega arith)
+
+pub IsLaidOut-empty : {X : Type 0} {P : ℕ → Type 0} (s : Slots X) (start : ℕ) → P (length s.slots) → start < length s.slots → s.slots ≡ replicate (length s.slots) None → IsLaidOut P s start
+IsLaidOut-empty s start size within empty =
+    let none = items_from-empty s.slots start empty in
+    record { size = size; start_within = within; fit = rw none (omega arith); layout = rw none (none_held s.slots start empty) }
+
+-- an empty ring may start at the first slot
+pub restart : {X : Type 0} {P : ℕ → Type 0} (old new : Slots X) (start : ℕ) (v : View X) → LaysOut P old new start v → v.items ≡ [] → LaysOut P old new 0 v
+restart old new start v b none =
+    let laid_out = b.laid_out in
+    let nothing : items_from new.slots start ≡ [] = ap (λ (w : View _). w.items) b.shows ∙ none in
+    let lie : SlotsHold new.slots start [] = rw nothing at laid_out.layout in
+    let within : start < length new.slots = laid_out.start_within in
+    let again = LaysOut-items new start laid_out new 0 [] refl (omega arith) (omega arith) (SlotsHold-none new.slots start within lie 0) in
+    record { laid_out = again.laid_out; same_size = b.same_size; shows = again.shows ∙ ap (λ items. record { items = items; changes = new.changes; capacity = length new.slots }) (sym nothing) ∙ b.shows }

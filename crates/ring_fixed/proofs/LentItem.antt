@@ -1,0 +1,43 @@
+-- What a ring shows once an item that it lent was written.
+use Rattle.std.proofs.Common.{◌≡◌, ℕ, ◌+◌, ◌%◌, ◌<◌, [], length, Some, sym, ap, ◌∙◌, arith, length-set}
+use Rattle.std.specs.Prelude.{slice_get}
+use Rattle.ring_slots.specs.Slots.{Slots, changed}
+use Rattle.ring_fixed.specs.View.{View, after_write}
+use Rattle.ring_fixed.specs.Layout.{items_from, view_from, IsLaidOut, LaysOut}
+use Rattle.ring_fixed.proofs.LaysOut.{LaysOut-write}
+
+-- a ring of so many items in these slots shows this, and the index that a position names among them is lent
+pub record LendsItem {X : Type 0} (P : ℕ → Type 0) (s : Slots X) (start len capacity : ℕ) (named : ℕ → ℕ) (now : View X) : Type 0 where
+  pub sound : IsLaidOut P s start × (len ≡ length (items_from s.slots start))
+  pub shows : record (view_from s start) { capacity = capacity } ≡ now
+  pub within : named len < len
+
+module _ {X : Type 0} {P : ℕ → Type 0} {s : Slots X} {start len capacity : ℕ} {named : ℕ → ℕ} {now : View X} (lent : LendsItem P s start len capacity named now) where
+  -- the slots with the item at the index written
+  abbrev pub written : X → Slots X
+  written x = changed s ((start + named len) % length s.slots) (Some x)
+
+  after : (x : X) → LaysOut P s (written x) start (after_write (view_from s start) (named len) x)
+  after x = LaysOut-write s start lent.sound.0 (named len) x (rw (sym lent.sound.1) lent.within)
+
+  pub same_length : (x : X) → length (items_from (written x).slots start) ≡ length (items_from s.slots start)
+  same_length x = ap (λ (v : View X). length v.items) (after x).shows ∙ length-set (items_from s.slots start) (named len) x
+
+  pub same_size : (x : X) → length (written x).slots ≡ length s.slots
+  same_size x = (after x).same_size
+
+  pub stays_sound : (x : X) → IsLaidOut P (written x) start × (len ≡ length (items_from (written x).slots start))
+  stays_sound x = ((after x).laid_out, lent.sound.1 ∙ sym (same_length x))
+
+  counted : len ≡ length now.items
+  counted = lent.sound.1 ∙ ap (λ (v : View X). length v.items) lent.shows
+
+  pub shows_written : (x : X) → record (view_from (written x) start) { capacity = capacity } ≡ after_write now (named (length now.items)) x
+  shows_written x = ap (λ (v : View X). record v { capacity = capacity }) (after x).shows ∙ (λ i. after_write (lent.shows i) (named (counted i)) x)
+
+  -- the item that is lent is the one that the position names
+  pub names_item : (x : X) → Some x ≡ slice_get (items_from s.slots start) (named len) → Some x ≡ slice_get now.items (named (length now.items))
+  names_item x is = is ∙ (λ i. slice_get (lent.shows i).items (named (counted i)))
+
+  pub not_empty : now.items ≡ [] → ⊥
+  not_empty none = let within = lent.within in omega (arith, counted, ap length none)

@@ -1,0 +1,127 @@
+-- What a change of one slot does to the items that lie in the slots.
+use Rattle.std.proofs.Common.{◌≡◌, ◌≢◌, ℕ, zero, suc, ◌+◌, ◌-◌, ◌%◌, ◌<◌, ◌≤◌, ◌⊎◌, inl, inr, List, [], ◌∷◌, ◌++◌, length, get_or, Option, None, Some, refl, sym, ap, ◌∙◌, arith, length-set, get_or-set_same, get_or-set_other}
+use Rattle.std.proofs.Math.ListN.{set}
+use Rattle.std.proofs.Math.Nat.{mod-eq_of_lt, mod-eq-sub-mod, mod-lt}
+use Rattle.std.proofs.Math.Decide.{dec_lt, ℕ_discrete}
+use Rattle.std.proofs.lemmas.Grind.{common_steps}
+use Rattle.std.proofs.lemmas.Option.{slice_get_cases, slice_get_past}
+use Rattle.std.specs.Prelude.{slice_get}
+use Rattle.std.specs.List.{filter_map, range_with_len}
+use Rattle.ring_fixed.specs.Layout.{slot_after, SlotsHold, items_from}
+
+-- a place counted round is the sum, less the size where the sum reaches it
+wrap : (start k size : ℕ) → start < size → k ≤ size → ((start + k < size) × ((start + k) % size ≡ start + k)) ⊎ ((size ≤ start + k) × ((start + k) % size ≡ start + k - size))
+wrap start k size within low =
+    elim (dec_lt (start + k) size) [
+      | yes below ↦ inl (below, mod-eq_of_lt below)
+      | no above ↦ let reaches : size ≤ start + k = omega arith in
+          inr (reaches, mod-eq-sub-mod reaches ∙ mod-eq_of_lt (omega arith))
+    ]
+
+-- two counts below the size that reach the same place are the same
+same_count : (start j k size : ℕ) → start < size → j < size → k < size → (start + j) % size ≡ (start + k) % size → j ≡ k
+same_count start j k size within low low' same =
+    elim (wrap start j size within (omega arith)) [
+      | inl a ↦ elim (wrap start k size within (omega arith)) [ inl b ↦ omega arith | inr b ↦ omega arith ]
+      | inr a ↦ elim (wrap start k size within (omega arith)) [ inl b ↦ omega arith | inr b ↦ omega arith ]
+    ]
+
+-- a count from the next place is one more from this one
+pub from_next : (start k size : ℕ) → start < size → k < size → ((start + 1) % size + k) % size ≡ (start + suc k) % size
+from_next start k size within low =
+    elim (wrap start 1 size within (omega arith)) [
+      | inl a ↦ ap (λ n. (n + k) % size) a.1 ∙ ap (λ n. n % size) {x = start + 1 + k} {y = start + suc k} (omega arith)
+      | inr a ↦ let back : ((start + 1) % size + k) % size ≡ (start + 1) % size + k = mod-eq_of_lt (omega arith) in
+          elim (wrap start (suc k) size within (omega arith)) [ inl b ↦ omega arith | inr b ↦ omega arith ]
+    ]
+
+-- a list with an item more, or with one written, is the same at every other index
+module _ {A : Type 0} (xs : List A) (x : A) where
+  slice_get-push_other : (k : ℕ) → k ≢ length xs → slice_get (xs ++ x ∷ []) k ≡ slice_get xs k
+  slice_get-push_other k other = grind (arith, common_steps, slice_get_cases)
+
+  slice_get-set_other : (k j : ℕ) → j ≢ k → slice_get (set xs k x) j ≡ slice_get xs j
+  slice_get-set_other k j other = grind (arith, common_steps, slice_get_cases)
+
+module _ {X : Type 0} (slots : List (Option X)) (start : ℕ) (within : start < length slots) where
+  -- a change of the slot at a count changes what lies there ..
+  slot_after-set_same : (k : ℕ) (slot : Option X) → k < length slots → slot_after (set slots ((start + k) % length slots) slot) start k ≡ slot
+  slot_after-set_same k slot low =
+      let here : (start + k) % length slots < length slots = mod-lt (start + k) (omega arith) in
+      rw (length-set slots ((start + k) % length slots) slot) (get_or-set_same slots ((start + k) % length slots) slot None here)
+
+  -- .. and nothing else
+  slot_after-set_other : (j k : ℕ) (slot : Option X) → j < length slots → k < length slots → j ≢ k
+      → slot_after (set slots ((start + k) % length slots) slot) start j ≡ slot_after slots start j
+  slot_after-set_other j k slot low low' other =
+      rw (length-set slots ((start + k) % length slots) slot)
+      (get_or-set_other slots ((start + k) % length slots) ((start + j) % length slots) slot None (λ e. other (same_count start j k (length slots) within low low' e)))
+
+  -- no place after the start is the start ..
+  apart : (k : ℕ) → suc k < length slots → (start + suc k) % length slots ≢ start
+  apart k more e = elim (wrap start (suc k) (length slots) within (omega arith)) [ inl a ↦ omega arith | inr a ↦ omega arith ]
+
+  -- .. until the count is once round
+  last_place : (k : ℕ) → k < length slots → (suc k < length slots → ⊥) → (start + suc k) % length slots ≡ start
+  last_place k low last = elim (wrap start (suc k) (length slots) within (omega arith)) [ inl a ↦ omega arith | inr a ↦ omega arith ]
+
+  -- where no item lies from one start, none lies from another
+  pub SlotsHold-none : SlotsHold slots start [] → (other : ℕ) → SlotsHold slots other []
+  SlotsHold-none lie other k low =
+      let size = length slots in let place = (other + k) % size in
+      let here : place < size = mod-lt (other + k) (omega arith) in
+      elim (dec_lt place start) [
+        | yes before ↦ let count : ℕ = place + size - start in
+            let found : (start + count) % size ≡ place = elim (wrap start count size within (omega arith)) [ inl a ↦ omega arith | inr a ↦ omega arith ] in
+            ap (λ n. get_or slots n None) (sym found) ∙ lie count (omega arith)
+        | no after ↦ let count : ℕ = place - start in
+            let found : (start + count) % size ≡ place = elim (wrap start count size within (omega arith)) [ inl a ↦ omega arith | inr a ↦ omega arith ] in
+            ap (λ n. get_or slots n None) (sym found) ∙ lie count (omega arith)
+      ]
+
+  -- a change of the slot at a count, to what another list has there that is the same elsewhere
+  SlotsHold-set : (xs ys : List X) (k : ℕ) (slot : Option X) → SlotsHold slots start xs → k < length slots → slice_get ys k ≡ slot → ((j : ℕ) → j ≢ k → slice_get ys j ≡ slice_get xs j)
+      → SlotsHold (set slots ((start + k) % length slots) slot) start ys
+  SlotsHold-set xs ys k slot hold low here others j within' =
+      let low' : j < length slots = rw (length-set slots ((start + k) % length slots) slot) at within' in
+      elim (ℕ_discrete j k) [
+        | yes same ↦ rw same (slot_after-set_same k slot low ∙ sym here)
+        | no other ↦ slot_after-set_other j k slot low' low other ∙ hold j low' ∙ sym (others j other)
+      ]
+
+  -- an item put after the last
+  pub SlotsHold-put : (xs : List X) (x : X) → SlotsHold slots start xs → length xs < length slots
+      → SlotsHold (set slots ((start + length xs) % length slots) (Some x)) start (xs ++ x ∷ [])
+  SlotsHold-put xs x hold room = SlotsHold-set xs (xs ++ x ∷ []) (length xs) (Some x) hold room (grind (arith, common_steps, slice_get_cases)) (λ j other. slice_get-push_other xs x j other)
+
+  -- an item written
+  pub SlotsHold-write : (xs : List X) (i : ℕ) (x : X) → SlotsHold slots start xs → i < length xs → length xs ≤ length slots
+      → SlotsHold (set slots ((start + i) % length slots) (Some x)) start (set xs i x)
+  SlotsHold-write xs i x hold there fit = SlotsHold-set xs (set xs i x) i (Some x) hold (omega arith) (grind (arith, common_steps, slice_get_cases)) (λ j other. slice_get-set_other xs x i j other)
+
+  -- the first item taken
+  pub SlotsHold-take : (x : X) (xs : List X) → SlotsHold slots start (x ∷ xs) → length xs < length slots
+      → SlotsHold (set slots start None) ((start + 1) % length slots) xs
+  SlotsHold-take x xs lie fit k low =
+      let low' : k < length slots = rw (length-set slots start None) at low in
+      let turned = ap (λ place. get_or (set slots start None) place None) (from_next start k (length slots) within low') in
+      rw (length-set slots start None) (turned ∙ elim (dec_lt (suc k) (length slots)) [
+        | yes more ↦ get_or-set_other slots start ((start + suc k) % length slots) None None (apart k more) ∙ lie (suc k) more
+        | no last ↦ rw (last_place k low' last) (get_or-set_same slots start None None within ∙ sym (slice_get_past xs k (omega arith)))
+      ])
+
+-- reading once round gives the items that lie there
+items_until : {X : Type 0} (f : ℕ → Option X) (xs : List X) (from count : ℕ) → length xs ≤ count → ((k : ℕ) → k < count → f (from + k) ≡ slice_get xs k)
+    → filter_map f (range_with_len from count) ≡ xs
+items_until f [] from zero fit reads = refl
+items_until f (x ∷ xs) from zero fit reads = absurd (omega arith)
+items_until f [] from (suc count) fit reads =
+    let later = λ (k : ℕ) (low : k < count). ap f {x = from + 1 + k} {y = from + suc k} (omega arith) ∙ reads (suc k) (omega arith) in
+    rw (ap f {x = from} {y = from + 0} (omega arith) ∙ reads 0 (omega arith)) (items_until f [] (from + 1) count (omega arith) later)
+items_until f (x ∷ xs) from (suc count) fit reads =
+    let later = λ (k : ℕ) (low : k < count). ap f {x = from + 1 + k} {y = from + suc k} (omega arith) ∙ reads (suc k) (omega arith) in
+    rw (ap f {x = from} {y = from + 0} (omega arith) ∙ reads 0 (omega arith)) (ap (λ ys. x ∷ ys) (items_until f xs (from + 1) count (omega arith) later))
+
+pub items_from-SlotsHold : {X : Type 0} (slots : List (Option X)) (start : ℕ) (xs : List X) → SlotsHold slots start xs → length xs ≤ length slots → items_from slots start ≡ xs
+unfolding items_from
+items_from-SlotsHold slots start xs lie fit = items_until (slot_after slots start) xs 0 (length slots) fit (λ k low. ap (slot_after slots start) {y = k} (omega arith) ∙ lie k low)

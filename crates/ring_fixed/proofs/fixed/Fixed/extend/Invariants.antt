@@ -1,0 +1,16 @@
+-- So far the items that the source gave are after_push.
+use Rattle.std.proofs.Common.{◌≡◌, ◌≤◌, length}
+use Rattle.ring_fixed.specs.View.{after_extend}
+use Rattle.ring_fixed.specs.Layout.{view_from, LaysOut}
+use Rattle.ring_fixed.proofs.fixed.Fixed.extend.Given as goal
+
+abbrev pub invariant-loop-item : goal.invariant-loop-item
+invariant-loop-item g l =
+    let now = after_extend l.fn.capacity (view_from (g.S.SlotRow.seen l.initial.self.slots) l.initial.self.start) l.yielded in
+    record {
+      can_next : (goal.iterator-loop-item g).can_next l.item-iterator;
+      ends : (goal.iterator-loop-item g).is_finite l.item-iterator;
+      LaysOut-items : LaysOut g.S.SlotRow.is_size (g.S.SlotRow.seen l.initial.self.slots) (g.S.SlotRow.seen l.self.slots) l.start now;
+      len : l.len ≡ length now.items;
+      within : l.len ≤ l.fn.capacity;
+    }

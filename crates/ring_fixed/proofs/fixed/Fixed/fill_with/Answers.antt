@@ -1,0 +1,25 @@
+use Rattle.std.proofs.Common.{[], ◌∷◌, ◌++◌, arith, of_calls, length-append}
+use Rattle.std.proofs.lemmas.Fn.{FoldsTo-push}
+use Rattle.ring_fixed.specs.View.{after_put}
+use Rattle.ring_fixed.proofs.RepeatedSteps.{after_puts, after_puts-more}
+use Rattle.ring_fixed.proofs.LaysOut.{LaysOut-then}
+use Rattle.ring_fixed.proofs.fixed.Fixed.fill_with.Goals as goal
+
+-- One more answer is put.
+pub loop-len-preserved : goal.loop-len-preserved
+loop-len-preserved g c =
+    let (xs, calls, long, LaysOut-items) = c.loop-len.invariant.put in
+    let x = c.make.result in
+    let more = LaysOut-then (λ v. after_put v x) LaysOut-items c.put_after.ensures in
+    record {
+      callable = search of_calls;
+      start = c.loop-len.invariant.start;
+      put = (xs ++ x ∷ [], FoldsTo-push _ _ xs _ x _ calls c.make.ensures, omega (arith, length-append xs (x ∷ [])), rw after_puts-more at more);
+    }
+
+-- The items of before are dropped, and then the answers put.
+pub returns : goal.returns
+returns g c =
+    let (xs, calls, long, LaysOut-items) = c.loop-len.invariant.put in
+    let after = LaysOut-then (after_puts xs) c.clear.ensures.0 LaysOut-items in
+    (xs, c.loop-len.make, calls, omega arith, (rw c.loop-len.invariant.start after, omega arith))

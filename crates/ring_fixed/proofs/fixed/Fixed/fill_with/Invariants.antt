@@ -1,0 +1,14 @@
+-- So far the answers of the closure are put, and it may be called again.
+use Rattle.std.proofs.Common.{◌≡◌, List, length}
+use Rattle.std.specs.List.{FoldsTo}
+use Rattle.ring_fixed.specs.Layout.{view_from, LaysOut}
+use Rattle.ring_fixed.proofs.RepeatedSteps.{after_puts}
+use Rattle.ring_fixed.proofs.fixed.Fixed.fill_with.Given as goal
+
+abbrev pub invariant-loop-len : goal.invariant-loop-len
+invariant-loop-len g l = record {
+  callable : goal.F-IsAlwaysCallable g l.make;
+  start : l.self.start ≡ l.start;
+  put : (xs : List _) × FoldsTo (goal.F-step g) l.fn.make xs l.make × (length xs ≡ l.len)
+      × LaysOut g.S.SlotRow.is_size (g.S.SlotRow.seen l.initial.self.slots) (g.S.SlotRow.seen l.self.slots) l.start (after_puts xs (view_from (g.S.SlotRow.seen l.initial.self.slots) l.start));
+}

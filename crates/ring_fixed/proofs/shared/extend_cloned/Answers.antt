@@ -1,0 +1,26 @@
+use Rattle.std.proofs.Common.{[], ◌∷◌, ◌++◌, refl, sym, ap, ◌∙◌, append_assoc, append-nil}
+use Rattle.std.proofs.lemmas.List.{map-append}
+use Rattle.ring_core.specs.Contents.{keep_last}
+use Rattle.ring_core.proofs.Items.{AllZip-append}
+use Rattle.ring_core.proofs.Limits.{keep_last-keep_last, keep_last_within}
+use Rattle.ring_fixed.proofs.shared.extend_cloned.Goals as goal
+
+pub loop-item-init : goal.loop-item-init
+loop-item-init g c =
+    let limit = g.R.RingBuffer.limit c.args.ring.now in
+    let old = g.R.RingBuffer.contents c.args.ring.now in
+    (refl, ([], tt, sym (ap (keep_last limit) (append-nil old) ∙ keep_last_within limit old c.len-held.ensures.within)))
+
+pub loop-item-preserved : goal.loop-item-preserved
+loop-item-preserved g c =
+    let limit = g.R.RingBuffer.limit c.args.ring.now in
+    let old = g.R.RingBuffer.contents c.args.ring.now in
+    let (same, (ys, clones, kept)) = c.loop-item.invariant in
+    let made = c.in_ok-clone.field-0 in (
+      c.push_item.ensures.limit ∙ same,
+      (
+        ys ++ made ∷ [],
+        rw map-append (AllZip-append _ _ _ _ _ clones c.in_ok-clone.ensures.cases),
+        c.in_ok-push_item.ensures.contents ∙ rw (same, kept, keep_last-keep_last limit (old ++ ys) (made ∷ []), append_assoc old ys (made ∷ [])) refl,
+      ),
+    )

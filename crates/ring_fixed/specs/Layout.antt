@@ -1,0 +1,36 @@
+-- How a ring of a fixed capacity lies in its slots.
+use Rattle.std.specs.Prelude.{◌≡◌, ℕ, ◌+◌, ◌%◌, ◌<◌, ◌≤◌, List, length, slice_index_or, slice_get, Option, None}
+use Rattle.std.specs.List.{filter_map, range_with_len}
+use Rattle.ring_slots.specs.Slots.{Slots}
+use Rattle.ring_fixed.specs.View.{View}
+
+module _ {X : Type 0} where
+  -- what the slot holds that lies k places after the start, counted round the slots
+  abbrev pub slot_after : List (Option X) → ℕ → ℕ → Option X
+  slot_after slots start k = slice_index_or slots ((start + k) % length slots) None
+
+  -- the layout: the slot k places after the start holds item k, and it is empty where there is no such item
+  abbrev pub SlotsHold : List (Option X) → ℕ → List X → Type 0
+  SlotsHold slots start items = (k : ℕ) → k < length slots → slot_after slots start k ≡ slice_get items k
+
+  -- what the slots hold, read once round from the start
+  unfoldable pub items_from : List (Option X) → ℕ → List X
+  items_from slots start = filter_map (slot_after slots start) (range_with_len 0 (length slots))
+
+  -- what a ring shows that begins at this start in these slots, each of which may hold an item
+  abbrev pub view_from : Slots X → ℕ → View X
+  view_from s start = record { items = items_from s.slots start; changes = s.changes; capacity = length s.slots }
+
+module _ {X : Type 0} (is_size : ℕ → Type 0) where
+  -- a ring is laid out in these slots from this start on, every other slot is empty, and places can be found
+  pub record IsLaidOut (s : Slots X) (start : ℕ) : Type 0 where
+    pub size : is_size (length s.slots)
+    pub start_within : start < length s.slots
+    pub fit : length (items_from s.slots start) ≤ length s.slots
+    pub layout : SlotsHold s.slots start (items_from s.slots start)
+
+  -- the same of the slots after a call, from a start of their own, where they are as many as before and show this
+  pub record LaysOut (old new : Slots X) (start : ℕ) (v : View X) : Type 0 where
+    pub laid_out : IsLaidOut new start
+    pub same_size : length new.slots ≡ length old.slots
+    pub shows : view_from new start ≡ v

@@ -1,0 +1,4 @@
+pub mod Layout
+pub mod Somes
+pub mod View
+pub mod fixed

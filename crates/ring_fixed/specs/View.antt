@@ -1,0 +1,40 @@
+-- What a contract sees of a ring of a fixed capacity, and what each call makes of that.
+use Rattle.std.specs.Prelude.{ℕ, ◌+◌, ◌-◌, min, List, [], ◌∷◌, ◌++◌, length, Some, slice_set}
+use Rattle.ring_core.specs.Contents.{keep_last, rest}
+
+-- its items, oldest first, how many changes its slots have had, and how many items it holds at most
+pub record View (X : Type 0) : Type 0 where
+  pub items : List X
+  pub changes : ℕ
+  pub capacity : ℕ
+
+module _ {X : Type 0} where
+  -- an item put last, which changes one slot
+  abbrev pub after_put : View X → X → View X
+  after_put v x = record v { items = v.items ++ x ∷ []; changes = v.changes + 1 }
+
+  -- the first item taken, if there is one, which changes its slot
+  abbrev pub after_take : View X → View X
+  after_take v = record v { items = rest v.items; changes = v.changes + min (length v.items) 1 }
+
+  -- an item pushed: one change for it, and one where the first item gives way
+  abbrev pub after_push : ℕ → View X → X → View X
+  after_push limit v x =
+      record v { items = keep_last (Some limit) (v.items ++ x ∷ []); changes = v.changes + 1 + (length v.items + 1 - limit) }
+
+  -- items pushed in order: one change for each, and one for each item that gives way
+  abbrev pub after_extend : ℕ → View X → List X → View X
+  after_extend limit v xs =
+      record v { items = keep_last (Some limit) (v.items ++ xs); changes = v.changes + length xs + (length v.items + length xs - limit) }
+
+  -- all items taken
+  abbrev pub after_clear : View X → View X
+  after_clear v = record v { items = []; changes = v.changes + length v.items }
+
+  -- all items taken, and then these put
+  abbrev pub after_fill : View X → List X → View X
+  after_fill v xs = record v { items = xs; changes = v.changes + length v.items + length xs }
+
+  -- the item at an index written
+  abbrev pub after_write : View X → ℕ → X → View X
+  after_write v i x = record v { items = slice_set v.items i x; changes = v.changes + 1 }

@@ -1,0 +1,290 @@
+//! What the two rings of a fixed capacity share: items that lie in slots, counted round from a start.
+ghost use Rattle.std.specs.Prelude.{◌≡◌, ◌+◌, ◌%◌, ◌<◌, ◌≤◌, ◌↔◌, List, [], length, IfSome, IsNone, None, Some, replicate, slice_get};
+ghost use Rattle.std.specs.Borrow.{Lends, LendsIf, sem};
+ghost use Rattle.std.specs.Iterator.{Drains, IsFiniteIterable};
+ghost use Rattle.std.specs.List.{FoldsTo};
+ghost use Rattle.std.specs.Option.{option_copied, option_copied_mut};
+ghost use Rattle.ring_core.specs.Contents.{overwritten, place, signed_place};
+ghost use Rattle.ring_fixed.specs.View.{after_put, after_take, after_push, after_extend, after_clear, after_fill};
+ghost use Rattle.ring_fixed.specs.Layout.{IsLaidOut, LaysOut, view_from};
+
+use crate::position::{position, signed_position};
+use ring_slots::SlotRow;
+use std::marker::PhantomData;
+
+/// `len` items in the slots from `start` on. All other slots are empty.
+#[derive(Drop)]
+pub struct Fixed<T, S> {
+    slots: S,
+    start: usize,
+    len: usize,
+    item: PhantomData<T>,
+}
+
+impl<T: Drop, S: SlotRow<T>> Fixed<T, S> {
+    ghost use Rattle.ring_fixed.specs.contracts.fixed.Fixed.{the_row};
+    ghost use Rattle.ring_fixed.specs.fixed.Sound.{view_of, with_item, IsSound, ChangesTo};
+
+    /// An empty ring over empty slots.
+    pub fn over(slots: S) -> Self
+        requires size { S.is_size (length (S.seen slots).slots) }
+        requires some { 0 < length (S.seen slots).slots }
+        requires empty { (S.seen slots).slots ≡ replicate (length (S.seen slots).slots) None }
+        ensures slots { result.slots ≡ slots }
+        ensures sound { IsSound S.seen S.is_size result }
+        ensures empty { (view_of S.seen result).items ≡ [] }
+    {
+        Fixed {
+            slots,
+            start: 0,
+            len: 0,
+            item: PhantomData,
+        }
+    }
+
+    /// How many items the ring holds.
+    #[inline]
+    pub fn len(&self) -> usize
+        requires { IsSound S.seen S.is_size self.now }
+        ensures { result ≡ length (view_of S.seen self.now).items }
+    {
+        self.len
+    }
+
+    /// How many slots the ring has.
+    #[inline]
+    pub fn size(&self) -> usize
+        ensures { result ≡ (view_of S.seen self.now).capacity }
+    {
+        self.slots.size()
+    }
+
+    /// Pushes an item. At the capacity the first item gives way, and is handed back.
+    #[inline]
+    pub fn push(&mut self, item: T, capacity: usize) -> Option<T>
+        requires sound { IsSound S.seen S.is_size self.old }
+        requires some { 0 < capacity }
+        requires within { self.old.len ≤ capacity }
+        requires room { capacity ≤ (view_of S.seen self.old).capacity }
+        ensures value { result ≡ overwritten (Some capacity) (view_of S.seen self.old).items }
+        ensures after { ChangesTo S.seen S.is_size self.old self.new (after_push capacity (view_of S.seen self.old) item) }
+    {
+        let before = self.len;
+        let (start, len, old) = Self::push_from(
+            &mut self.slots,
+            self.start,
+            before,
+            item,
+            capacity,
+        );
+        self.start = start;
+        // A full ring keeps its length, and has one store less to make.
+        if len != before {
+            self.len = len;
+        }
+        old
+    }
+
+    /// Takes out the first item, if there is one.
+    #[inline]
+    pub fn dequeue(&mut self) -> Option<T>
+        requires { IsSound S.seen S.is_size self.old }
+        ensures value { result ≡ slice_get (view_of S.seen self.old).items 0 }
+        ensures after { ChangesTo S.seen S.is_size self.old self.new (after_take (view_of S.seen self.old)) }
+    {
+        let len = self.len;
+        if len == 0 {
+            return None;
+        }
+        let (start, item) = Self::take_from(&mut self.slots, self.start);
+        self.start = start;
+        self.len = len - 1;
+        Some(item)
+    }
+
+    /// Drops all items.
+    pub fn clear(&mut self)
+        requires { IsSound S.seen S.is_size self.old }
+        ensures { ChangesTo S.seen S.is_size self.old self.new (after_clear (view_of S.seen self.old)) }
+    {
+        let mut start = self.start;
+        for _ in 0..self.len {
+            let (next, _) = Self::take_from(&mut self.slots, start);
+            start = next;
+        }
+        self.start = 0;
+        self.len = 0;
+    }
+
+    /// Pushes the items of a source that ends, in order.
+    pub fn extend<I: IntoIterator<Item = T>>(&mut self, items: I, capacity: usize)
+    where
+        I::IntoIter: Drop,
+        requires ends { IsFiniteIterable I.into_iter_gives I.IntoIter.can_next I.IntoIter.remaining items }
+        requires sound { IsSound S.seen S.is_size self.old }
+        requires some { 0 < capacity }
+        requires within { self.old.len ≤ capacity }
+        requires room { capacity ≤ (view_of S.seen self.old).capacity }
+        ensures { (it : I.IntoIter) × (xs : List T) × I.into_iter_gives items it × Drains I.IntoIter.next_gives it xs × ChangesTo S.seen S.is_size self.old self.new (after_extend capacity (view_of S.seen self.old) xs) }
+    {
+        let mut start = self.start;
+        let mut len = self.len;
+        for item in items {
+            let old;
+            (start, len, old) = Self::push_from(&mut self.slots, start, len, item, capacity);
+            drop(old);
+        }
+        self.start = start;
+        self.len = len;
+    }
+
+    /// Drops all items, and pushes as many answers of `make` as the capacity says. An item counts once it is stored.
+    pub fn fill_with<F: FnMut() -> T + Drop>(&mut self, mut make: F, capacity: usize)
+        requires callable { F.IsAlwaysCallable make }
+        requires sound { IsSound S.seen S.is_size self.old }
+        requires room { capacity ≤ (view_of S.seen self.old).capacity }
+        ensures { (xs : List T) × (last : F) × FoldsTo F.step make xs last × (length xs ≡ capacity) × ChangesTo S.seen S.is_size self.old self.new (after_fill (view_of S.seen self.old) xs) }
+    {
+        self.clear();
+        let start = self.start;
+        for len in 0..capacity {
+            Self::put_after(&mut self.slots, start, len, make());
+        }
+        self.len = capacity;
+    }
+
+    /// The item at a position, or `None` if there is no item.
+    #[inline]
+    pub fn get(&self, index: usize) -> Option<&T>
+        requires { IsSound S.seen S.is_size self.now }
+        ensures { option_copied result ≡ slice_get (view_of S.seen self.now).items (place (length (view_of S.seen self.now).items) index) }
+    {
+        let index = position(index, self.len)?;
+        Some(self.at(index))
+    }
+
+    /// The same for a position that may be negative.
+    #[inline]
+    pub fn get_signed(&self, index: isize) -> Option<&T>
+        requires { IsSound S.seen S.is_size self.now }
+        ensures { option_copied result ≡ slice_get (view_of S.seen self.now).items (signed_place (length (view_of S.seen self.now).items) index) }
+    {
+        let index = signed_position(index, self.len)?;
+        Some(self.at(index))
+    }
+
+    // The item at an index below the length.
+    #[inline]
+    fn at(&self, index: usize) -> &T
+        requires sound { IsSound S.seen S.is_size self.now }
+        requires within { index < self.now.len }
+        ensures { slice_get (view_of S.seen self.now).items index ≡ Some result.now }
+    {
+        self.slots.get(self.slots.place(self.start, index))
+    }
+
+    /// The item that `get` answers, for writing.
+    #[inline]
+    pub fn get_mut(&mut self, index: usize) -> Option<&mut T>
+        requires { IsSound S.seen S.is_size self.old }
+        ensures* writes_back { sem 𝓛 (LendsIf (the_row T.row S.row) T.row self.entry result (with_item S.seen S.with_slot self.old (place self.old.len index)) self.old) }
+        ensures value { option_copied_mut result ≡ slice_get (view_of S.seen self.old).items (place self.old.len index) }
+        ensures within { IfSome result (λ _. place self.old.len index < self.old.len) }
+        ensures none { IsNone result ↔ ((view_of S.seen self.old).items ≡ []) }
+    {
+        let index = position(index, self.len)?;
+        Some(self.at_mut(index))
+    }
+
+    /// The item that `get_signed` answers, for writing.
+    #[inline]
+    pub fn get_mut_signed(&mut self, index: isize) -> Option<&mut T>
+        requires { IsSound S.seen S.is_size self.old }
+        ensures* writes_back { sem 𝓛 (LendsIf (the_row T.row S.row) T.row self.entry result (with_item S.seen S.with_slot self.old (signed_place self.old.len index)) self.old) }
+        ensures value { option_copied_mut result ≡ slice_get (view_of S.seen self.old).items (signed_place self.old.len index) }
+        ensures within { IfSome result (λ _. signed_place self.old.len index < self.old.len) }
+        ensures none { IsNone result ↔ ((view_of S.seen self.old).items ≡ []) }
+    {
+        let index = signed_position(index, self.len)?;
+        Some(self.at_mut(index))
+    }
+
+    // The item at an index below the length, for writing.
+    #[inline]
+    fn at_mut(&mut self, index: usize) -> &mut T
+        requires sound { IsSound S.seen S.is_size self.old }
+        requires within { index < self.old.len }
+        ensures* writes_back { sem 𝓛 (Lends (the_row T.row S.row) T.row self.entry result (with_item S.seen S.with_slot self.old index)) }
+        ensures value { slice_get (view_of S.seen self.old).items index ≡ Some result.now }
+    {
+        let place = self.slots.place(self.start, index);
+        self.slots.get_mut(place)
+    }
+
+    // Pushes an item onto `len` items. Returns the start and the length after it, and the item that gave way.
+    #[inline]
+    fn push_from(
+        slots: &mut S,
+        start: usize,
+        len: usize,
+        item: T,
+        capacity: usize,
+    ) -> (usize, usize, Option<T>)
+        requires laid_out { IsLaidOut S.is_size (S.seen slots.old) start }
+        requires len { len ≡ length (view_from (S.seen slots.old) start).items }
+        requires some { 0 < capacity }
+        requires within { len ≤ capacity }
+        requires room { capacity ≤ length (S.seen slots.old).slots }
+        ensures after { LaysOut S.is_size (S.seen slots.old) (S.seen slots.new) result.0 (after_push capacity (view_from (S.seen slots.old) start) item) }
+        ensures len { result.1 ≡ length (after_push capacity (view_from (S.seen slots.old) start) item).items }
+        ensures value { result.2 ≡ overwritten (Some capacity) (view_from (S.seen slots.old) start).items }
+    {
+        if len == capacity {
+            let (next, old) = Self::put_over(slots, start, len, item);
+            (next, len, Some(old))
+        } else {
+            Self::put_after(slots, start, len, item);
+            (start, len + 1, None)
+        }
+    }
+
+    // Puts an item after the last.
+    #[inline]
+    fn put_after(slots: &mut S, start: usize, len: usize, item: T)
+        requires laid_out { IsLaidOut S.is_size (S.seen slots.old) start }
+        requires len { len ≡ length (view_from (S.seen slots.old) start).items }
+        requires room { len < length (S.seen slots.old).slots }
+        ensures { LaysOut S.is_size (S.seen slots.old) (S.seen slots.new) start (after_put (view_from (S.seen slots.old) start) item) }
+    {
+        let place = slots.place(start, len);
+        slots.put(place, item);
+    }
+
+    // Puts an item after the last once the first has given way. Returns the next start and the item that was first.
+    #[inline]
+    fn put_over(slots: &mut S, start: usize, len: usize, item: T) -> (usize, T)
+        requires laid_out { IsLaidOut S.is_size (S.seen slots.old) start }
+        requires len { len ≡ length (view_from (S.seen slots.old) start).items }
+        requires some { 0 < len }
+        ensures value { slice_get (view_from (S.seen slots.old) start).items 0 ≡ Some result.1 }
+        ensures after { LaysOut S.is_size (S.seen slots.old) (S.seen slots.new) result.0 (after_put (after_take (view_from (S.seen slots.old) start)) item) }
+    {
+        let place = slots.place_after(start, len);
+        let (next, old) = Self::take_from(slots, start);
+        slots.put(place, item);
+        (next, old)
+    }
+
+    // Takes the first item, and answers the next start before it.
+    #[inline]
+    fn take_from(slots: &mut S, start: usize) -> (usize, T)
+        requires laid_out { IsLaidOut S.is_size (S.seen slots.old) start }
+        requires some { 0 < length (view_from (S.seen slots.old) start).items }
+        ensures value { slice_get (view_from (S.seen slots.old) start).items 0 ≡ Some result.1 }
+        ensures next { result.0 ≡ (start + 1) % length (S.seen slots.old).slots }
+        ensures after { LaysOut S.is_size (S.seen slots.old) (S.seen slots.new) result.0 (after_take (view_from (S.seen slots.old) start)) }
+    {
+        let next = slots.next(start);
+        (next, slots.take(start))
+    }
+}

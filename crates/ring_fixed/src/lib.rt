@@ -1,0 +1,6 @@
+//! What the ring types share: the inner ring of both fixed rings, positions, comparing two rings, and pushing clones.
+#![tactic(auto)]
+
+pub mod fixed;
+pub mod position;
+pub mod shared;

@@ -1,0 +1,29 @@
+//! Positions on a ring, taken modulo its length.
+ghost use Rattle.std.specs.Prelude.{◌≡◌, ◌<◌, MatchOption};
+ghost use Rattle.ring_core.specs.Contents.{place, signed_place};
+
+/// The index that a position names among `len` items, if there is an item.
+#[inline]
+pub fn position(index: usize, len: usize) -> Option<usize>
+    ensures { MatchOption result (len ≡ 0) (λ k. (k < len) × (k ≡ place len index)) }
+{
+    if index < len {
+        return Some(index);
+    }
+    if len == 0 {
+        return None;
+    }
+    Some(index % len)
+}
+
+/// The same for a position that may be negative: -1 names the last item.
+#[inline]
+pub fn signed_position(index: isize, len: usize) -> Option<usize>
+    ensures { MatchOption result (len ≡ 0) (λ k. (k < len) × (k ≡ signed_place len index)) }
+{
+    if index >= 0 {
+        return position(index as usize, len);
+    }
+    let from_last = position(-(index + 1) as usize, len)?;
+    Some(len - 1 - from_last)
+}

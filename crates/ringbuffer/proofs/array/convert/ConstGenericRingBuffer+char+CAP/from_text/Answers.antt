@@ -1,0 +1,8 @@
+use Rattle.std.proofs.Common.{ap, ◌∙◌}
+use Rattle.std.specs.Str.Iter.{chars_rest}
+use Rattle.std.proofs.lemmas.Iterator.{YieldsList-from_chars}
+use Rattle.ringbuffer.proofs.Conversions.{last_made}
+use Rattle.ringbuffer.proofs.array.convert.ConstGenericRingBuffer+char+CAP.from_text.Goals as goal
+
+pub returns : goal.returns
+returns g c = last_made _ c.from_iter.ensures (λ it from. YieldsList-from_chars _ c.utf8.text (ap chars_rest from ∙ c.chars.ensures.rest))

@@ -1,0 +1,9 @@
+use Rattle.std.proofs.Common.{ap, refl, ◌∙◌}
+use Rattle.std.specs.Str.Iter.{chars_rest}
+use Rattle.std.proofs.lemmas.Iterator.{YieldsList-from_chars}
+use Rattle.std.proofs.lemmas.Result.{IfOk-weaker}
+use Rattle.ringbuffer.proofs.Conversions.{all_made, length-chars_le}
+use Rattle.ringbuffer.proofs.heap.convert.AllocRingBuffer+char.from_text.Goals as goal
+
+pub returns-clause-items : goal.returns-clause-items
+returns-clause-items c = IfOk-weaker c.holding.result _ _ (λ ring holds. holds.0) (all_made c.holding.result _ c.holding.ensures refl (length-chars_le _ c.utf8.text) (λ it from. YieldsList-from_chars _ c.utf8.text (ap chars_rest from ∙ c.chars.ensures.rest)))

@@ -1,0 +1,181 @@
+//! Growable rings made of other collections. Each function names its source, whose items keep their order.
+ghost use Rattle.std.specs.Prelude.{◌≡◌, All, IfOk, IsSome, chars, string_bytes};
+ghost use Rattle.std.specs.Iterator.{Drains, IsFiniteIterable};
+ghost use Rattle.std.specs.List.{AllZip};
+ghost use Rattle.ring_fixed.specs.Somes.{somes};
+
+use crate::array::ConstGenericRingBuffer;
+use crate::grow::GrowableAllocRingBuffer;
+use crate::heap::AllocRingBuffer;
+use ring_core::RingBuffer;
+use ring_fixed::shared::{extend_cloned, extend_somes};
+use std::alloc::{AllocError, Global};
+use std::collections::{LinkedList, VecDeque};
+
+impl<T: Drop> GrowableAllocRingBuffer<T> {
+    /// A ring of a source's items, in order.
+    ///
+    /// # Errors
+    ///
+    /// Where memory was refused. The items are dropped.
+    pub fn from_iter<I: IntoIterator<Item = T>>(alloc: Global, items: I) -> Result<Self, AllocError>
+    where
+        I::IntoIter: Drop,
+        requires { IsFiniteIterable I.into_iter_gives I.IntoIter.can_next I.IntoIter.remaining items }
+        ensures { IfOk result (λ ring. (it : I.IntoIter) × I.into_iter_gives items it × Drains I.IntoIter.next_gives it ring) }
+    {
+        let mut ring = Self::new(alloc);
+        ring.extend(items)?;
+        Ok(ring)
+    }
+
+    /// The items of an array, moved out of their places, which must all hold one.
+    ///
+    /// # Errors
+    ///
+    /// Where memory was refused. The items are dropped.
+    pub fn from_array<const N: usize>(
+        alloc: Global,
+        items: [Option<T>; N],
+    ) -> Result<Self, AllocError>
+        requires { All IsSome items }
+        ensures { IfOk result (λ ring. ring ≡ somes items) }
+    {
+        let mut ring = Self::new(alloc);
+        extend_somes(&mut ring, items)?;
+        Ok(ring)
+    }
+
+    /// The items of a vector.
+    ///
+    /// # Errors
+    ///
+    /// Where memory was refused. The items are dropped.
+    pub fn from_vec(alloc: Global, items: Vec<T>) -> Result<Self, AllocError>
+        ensures { IfOk result (λ ring. ring ≡ items.items) }
+    {
+        Self::from_iter(alloc, items)
+    }
+
+    /// The items of a linked list.
+    ///
+    /// # Errors
+    ///
+    /// Where memory was refused. The items are dropped.
+    pub fn from_linked_list(alloc: Global, items: LinkedList<T>) -> Result<Self, AllocError>
+        ensures { IfOk result (λ ring. ring ≡ items) }
+    {
+        Self::from_iter(alloc, items)
+    }
+
+    /// The items of a heap ring.
+    ///
+    /// # Errors
+    ///
+    /// Where memory was refused. The items are dropped.
+    pub fn from_alloc(alloc: Global, ring: AllocRingBuffer<T>) -> Result<Self, AllocError>
+        ensures { IfOk result (λ made. made ≡ ring.items) }
+    {
+        Self::from_iter(alloc, ring)
+    }
+
+    /// The items of an array ring.
+    ///
+    /// # Errors
+    ///
+    /// Where memory was refused. The items are dropped.
+    pub fn from_const<const CAP: usize>(
+        alloc: Global,
+        ring: ConstGenericRingBuffer<T, CAP>,
+    ) -> Result<Self, AllocError>
+        ensures { IfOk result (λ made. made ≡ ring.items) }
+    {
+        Self::from_iter(alloc, ring)
+    }
+}
+
+impl GrowableAllocRingBuffer<char> {
+    /// The characters of a text.
+    ///
+    /// # Errors
+    ///
+    /// Where memory was refused.
+    pub fn from_text(alloc: Global, text: &str) -> Result<Self, AllocError>
+        ensures { IfOk result (λ ring. ring ≡ chars text.now) }
+    {
+        Self::from_iter(alloc, text.chars())
+    }
+
+    /// The characters of a string.
+    ///
+    /// # Errors
+    ///
+    /// Where memory was refused.
+    pub fn from_string(alloc: Global, text: String) -> Result<Self, AllocError>
+        ensures { IfOk result (λ ring. ring ≡ chars (string_bytes text)) }
+    {
+        Self::from_text(alloc, text.as_str())
+    }
+}
+
+impl<T: Clone + Drop> GrowableAllocRingBuffer<T> {
+    /// Clones of the items of a slice.
+    ///
+    /// # Errors
+    ///
+    /// Where memory or a clone was refused.
+    pub fn from_slice(alloc: Global, items: &[T]) -> Result<Self, AllocError>
+        ensures { IfOk result (AllZip T.is_clone items.now) }
+    {
+        let mut ring = Self::with_capacity(alloc, items.len())?;
+        extend_cloned(&mut ring, items.iter())?;
+        Ok(ring)
+    }
+
+    /// As `from_slice`. The slice is as it was.
+    ///
+    /// # Errors
+    ///
+    /// As `from_slice`.
+    pub fn from_mut_slice(alloc: Global, items: &mut [T]) -> Result<Self, AllocError>
+        ensures items { IfOk result (AllZip T.is_clone items.old) }
+        ensures unchanged { items.new ≡ items.old }
+    {
+        Self::from_slice(alloc, items)
+    }
+
+    /// Clones of the items of an array.
+    ///
+    /// # Errors
+    ///
+    /// As `from_slice`.
+    pub fn from_array_ref<const N: usize>(alloc: Global, items: &[T; N]) -> Result<Self, AllocError>
+        ensures { IfOk result (AllZip T.is_clone items.now) }
+    {
+        Self::from_slice(alloc, items)
+    }
+
+    /// As `from_array_ref`. The array is as it was.
+    ///
+    /// # Errors
+    ///
+    /// As `from_slice`.
+    pub fn from_mut_array<const N: usize>(
+        alloc: Global,
+        items: &mut [T; N],
+    ) -> Result<Self, AllocError>
+        ensures items { IfOk result (AllZip T.is_clone items.old) }
+        ensures unchanged { items.new ≡ items.old }
+    {
+        Self::from_slice(alloc, items)
+    }
+}
+
+impl<T: Drop> From<VecDeque<T>> for GrowableAllocRingBuffer<T> {
+    ghost from_gives = { λ deque ring. ring ≡ deque.items };
+
+    /// The ring over a deque, which asks for no memory.
+    fn from(deque: VecDeque<T>) -> Self {
+        GrowableAllocRingBuffer { deque }
+    }
+}
