@@ -26,8 +26,8 @@ impl<R: RingBuffer<i64>> Model for WindowSum<R> {
     ghost invariant = { λ w. IsSumOf (R.contents w.ring) w.sum };
 }
 
-impl<R: RingBuffer<i64> + Drop> WindowSum<R> {
-    /// A window over what the ring holds.
+impl<R: RingBuffer<i64>> WindowSum<R> {
+    /// Returns a window over what the ring holds.
     pub fn new(ring: R) -> Self
         ensures contents { result.contents ≡ R.contents ring }
         ensures limit { result.limit ≡ R.limit ring }
@@ -36,14 +36,16 @@ impl<R: RingBuffer<i64> + Drop> WindowSum<R> {
         WindowSum { ring, sum }
     }
 
-    /// Takes in a sample, as the ring's `push` does.
+    /// Takes in a sample. A window at its limit hands back its oldest one, which gave way for it.
     ///
     /// # Errors
     ///
-    /// Hands `sample` back where the ring was refused memory, which no ring with a limit meets. The window is as it was.
+    /// Hands `sample` back where the ring was refused memory, which no ring with a limit meets. The window, its sum too,
+    /// is as it was.
     pub fn push(&mut self, sample: i64) -> Result<Option<i64>, i64>
         ensures overwrites { IfOk result (λ old. old ≡ overwritten self.old.limit self.old.contents) }
-        ensures ok { OnOk result (self.new.contents ≡ keep_last self.old.limit (self.old.contents ++ sample ∷ [])) }
+        ensures ok { OnOk result
+            (self.new.contents ≡ keep_last self.old.limit (self.old.contents ++ sample ∷ [])) }
         ensures err { IfErr result (λ back. (back ≡ sample) × (self.new ≡ self.old)) }
         ensures limit { self.new.limit ≡ self.old.limit }
         ensures succeeds { IsSome self.old.limit → IsOk result }
@@ -55,7 +57,7 @@ impl<R: RingBuffer<i64> + Drop> WindowSum<R> {
         Ok(overwritten)
     }
 
-    /// Takes out the oldest sample.
+    /// Takes out the oldest sample. Does nothing to an empty window.
     pub fn forget_oldest(&mut self) -> Option<i64>
         ensures value { result ≡ slice_get self.old.contents 0 }
         ensures rest { self.new.contents ≡ rest self.old.contents }
@@ -68,14 +70,14 @@ impl<R: RingBuffer<i64> + Drop> WindowSum<R> {
         Some(oldest)
     }
 
-    /// The sum of the samples.
+    /// Returns the sum of the samples.
     pub fn sum(&self) -> i128
         ensures { result ≡ total self.now.contents }
     {
         self.sum
     }
 
-    /// How many samples the window holds.
+    /// Returns how many samples the window holds.
     pub fn len(&self) -> usize
         ensures value { result ≡ length self.now.contents }
         ensures within { IsWithin self.now.contents self.now.limit }
