@@ -18,6 +18,7 @@ overflow_add-sum g c =
     let fits = IsSumOf-fits (IsSumOf-append is in_range refl) few in
     omega (arith, ints, fits, c.from-sum.ensures)
 
+-- This sample comes last of those that are summed up.
 pub loop-sample-preserved : goal.loop-sample-preserved
 loop-sample-preserved g c =
     let (before, parts, is) = c.loop-sample.invariant in

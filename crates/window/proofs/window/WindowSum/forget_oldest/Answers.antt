@@ -13,6 +13,7 @@ overflow_sub-self g c =
     let fits = left-fits _ _ c.in_ok-oldest.ensures.value few c.self.invariant in
     omega (arith, ints, fits, c.from.ensures)
 
+-- Without its first sample the sum is so much less.
 pub invariant_of-self-2 : goal.invariant_of-self-2
 invariant_of-self-2 g c =
     let few : length (g.R.RingBuffer.contents c.self.inside.ring) < 2 ^ 64 = omega (arith, c.len.ensures.value, c.len.type_inv) in

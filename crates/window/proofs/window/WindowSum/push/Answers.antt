@@ -11,6 +11,7 @@ overflow_add-self g c =
     let fits = pushed-fits _ _ _ _ c.len.ensures.within few c.self.invariant c.ranges.sample c.in_ok-overwritten.ensures.overwrites in
     omega (arith, ints, fits, c.change.ensures)
 
+-- The sample comes last, and what the ring handed back was first.
 pub invariant_of-self-2 : goal.invariant_of-self-2
 invariant_of-self-2 g c =
     let few : length (g.R.RingBuffer.contents c.self.inside.ring) < 2 ^ 64 = omega (arith, c.len.ensures.value, c.len.type_inv) in
