@@ -57,9 +57,7 @@ pub extern "C" fn ring_measure_heap(
     items: usize,
 ) -> u64 {
     match Work::numbered(work) {
-        Some(Work::Slide) if capacity > 0 => {
-            on_heap_window(alloc, capacity, items).unwrap_or(0)
-        }
+        Some(Work::Slide) if capacity > 0 => { on_heap_window(alloc, capacity, items).unwrap_or(0) }
         Some(work) if capacity > 0 => on_heap(alloc, work, capacity, items).unwrap_or(0),
         _ => 0,
     }

@@ -1,4 +1,4 @@
-use Rattle.std.proofs.Common.{◌≡◌, ◌∙◌, ◌++◌, ◌∷◌, ◌+◌, ◌<◌, [], Some, IsOk, IsSome, OnOk, Result, Ok, Err, is_ok, true, ap, map, take, length, get_or, pos, to_z, of_z, add-one, arith, refl, rules, sym}
+use Rattle.std.proofs.Common.{◌≡◌, ◌∙◌, ◌++◌, ◌∷◌, ◌+◌, ◌<◌, [], Some, IsOk, IsSome, OnOk, Result, Ok, Err, is_ok, true, take, length, get_or, pos, to_z, of_z, add-one, arith, refl, rules, sym}
 use Rattle.std.specs.Prelude.{FitsSigned}
 use Rattle.std.specs.Int.{w64, w128}
 use Rattle.std.proofs.Math.Seq.{take-suc}
