@@ -7,7 +7,7 @@ using Ring = boost::circular_buffer<std::uint64_t>;
 
 namespace {
 
-enum Work : std::uint32_t { Push, PushCall, PushDequeue, Extend, Walk, Get, Fill, Clone, Refill };
+enum Work : std::uint32_t { Push, PushCall, PushDequeue, Extend, Walk, Get, Fill, Clone, Refill, Slide };
 
 constexpr std::uint64_t extension = 4096;
 
@@ -53,9 +53,31 @@ constexpr std::uint64_t extension = 4096;
     for (std::size_t number = 0; number < capacity; ++number) ring.push_back(round + number);
 }
 
+using Samples = boost::circular_buffer<std::int64_t>;
+
+[[gnu::noinline]] __int128 slide(Samples &ring, __int128 &sum, std::size_t items) {
+    unsigned __int128 sums = 0;
+    for (std::size_t number = 0; number < items; ++number) {
+        if (ring.full()) sum -= ring.front();
+        const auto sample = static_cast<std::int64_t>(number);
+        ring.push_back(sample);
+        sum += sample;
+        sums += static_cast<unsigned __int128>(sum);
+    }
+    return static_cast<__int128>(sums);
+}
+
+std::uint64_t slide_side(std::size_t capacity, std::size_t items) {
+    Samples ring(capacity);
+    __int128 sum = 0;
+    slide(ring, sum, capacity);
+    return static_cast<std::uint64_t>(slide(ring, sum, items));
+}
+
 }  // namespace
 
 extern "C" std::uint64_t boost_side(std::uint32_t work, std::size_t capacity, std::size_t items) {
+    if (work == Slide) return slide_side(capacity, items);
     Ring ring(capacity);
     push(ring, capacity);
     std::uint64_t sum = 0;

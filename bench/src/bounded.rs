@@ -79,6 +79,54 @@ fn refill(ring: &mut VecDeque<u64>, capacity: usize, round: u64) {
     }
 }
 
+/// A sum that is kept by hand.
+struct Window {
+    ring: VecDeque<i64>,
+    sum: i128,
+}
+
+#[inline(never)]
+fn slide_on(window: &mut Window, capacity: usize, items: usize) -> i128 {
+    let mut sums = 0i128;
+    for number in 0..items {
+        if window.ring.len() == capacity {
+            if let Some(oldest) = window.ring.pop_front() {
+                window.sum -= i128::from(oldest);
+            }
+        }
+        window.ring.push_back(number as i64);
+        window.sum += i128::from(number as i64);
+        sums = sums.wrapping_add(window.sum);
+    }
+    sums
+}
+
+fn slide(capacity: usize, items: usize) -> u64 {
+    let mut window = Window { ring: VecDeque::with_capacity(capacity), sum: 0 };
+    slide_on(&mut window, capacity, capacity);
+    slide_on(&mut window, capacity, items) as u64
+}
+
+#[inline(never)]
+fn slide_anew_on(ring: &mut VecDeque<i64>, capacity: usize, items: usize) -> i128 {
+    let mut sums = 0i128;
+    for number in 0..items {
+        if ring.len() == capacity {
+            ring.pop_front();
+        }
+        ring.push_back(number as i64);
+        let sum: i128 = ring.iter().map(|sample| i128::from(*sample)).sum();
+        sums = sums.wrapping_add(sum);
+    }
+    sums
+}
+
+/// Sliding sums, each added up anew.
+pub fn slide_anew(capacity: usize, items: usize) -> u64 {
+    let mut ring: VecDeque<i64> = (0..capacity as i64).collect();
+    slide_anew_on(&mut ring, capacity, items) as u64
+}
+
 pub fn deque(work: Work, capacity: usize, items: usize) -> u64 {
     let mut ring = VecDeque::with_capacity(capacity);
     push(&mut ring, capacity, capacity);
@@ -97,6 +145,7 @@ pub fn deque(work: Work, capacity: usize, items: usize) -> u64 {
         Work::Clone => (0..rounds).for_each(|_| sum = clone(&ring, sum)),
         Work::Fill => (0..rounds).for_each(|round| fill(&mut ring, capacity, round as u64)),
         Work::Refill => (0..rounds).for_each(|round| refill(&mut ring, capacity, round as u64)),
+        Work::Slide => return slide(capacity, items),
     }
     sum.wrapping_add(ring.back().copied().unwrap_or(0))
 }

@@ -74,6 +74,19 @@ fn refill(slots: &mut [u64], round: u64) {
     }
 }
 
+/// Takes the sample's place for the next, and the one for the other in the sum.
+#[inline(never)]
+fn slide(ring: &mut Masked, sum: &mut i128, items: usize) -> i128 {
+    let mut sums = 0i128;
+    for number in 0..items {
+        let oldest = ring.read(ring.next) as i64;
+        ring.push(number as u64);
+        *sum += i128::from(number as i64) - i128::from(oldest);
+        sums = sums.wrapping_add(*sum);
+    }
+    sums
+}
+
 pub fn slices(work: Work, capacity: usize, items: usize) -> u64 {
     let size = capacity.next_power_of_two();
     let mut ring = Masked { slots: vec![0; size].into_boxed_slice(), next: 0 };
@@ -91,6 +104,7 @@ pub fn slices(work: Work, capacity: usize, items: usize) -> u64 {
         Work::Clone => (0..rounds).for_each(|_| sum = clone(&ring.slots[..capacity], sum)),
         Work::Fill => (0..rounds).for_each(|round| fill(&mut ring.slots[..capacity], round as u64)),
         Work::Refill => (0..rounds).for_each(|round| refill(&mut ring.slots[..capacity], round as u64)),
+        Work::Slide => sum = slide(&mut ring, &mut 0, items) as u64,
     }
     sum.wrapping_add(ring.read(0))
 }

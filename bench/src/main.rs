@@ -27,6 +27,16 @@ pub struct Contender {
     run: fn(Work, usize, usize) -> u64,
 }
 
+/// The name of the contender that adds up each sliding sum anew. It does no other work, and at the smaller capacities alone,
+/// since an item takes it as many steps as the ring holds.
+const ANEW: &str = "summed anew";
+
+impl Contender {
+    fn does(&self, work: Work, capacity: usize) -> bool {
+        self.name != ANEW || (work == Work::Slide && capacity <= 1000)
+    }
+}
+
 // SAFETY of the calls below: the exports take numbers alone and are proved for every number.
 pub const CONTENDERS: &[Contender] = &[
     Contender { name: "array", run: |work, capacity, items| unsafe { ring_measure_array(work as u32, capacity, items) } },
@@ -38,6 +48,7 @@ pub const CONTENDERS: &[Contender] = &[
     Contender { name: "VecDeque", run: bounded::deque },
     #[cfg(feature = "boost")]
     Contender { name: "Boost", run: |work, capacity, items| unsafe { boost_side(work as u32, capacity, items) } },
+    Contender { name: ANEW, run: |_, capacity, items| bounded::slide_anew(capacity, items) },
     Contender { name: "limit", run: limit::slices },
 ];
 
@@ -55,14 +66,15 @@ fn seconds(contender: &Contender, work: Work, capacity: usize, items: usize) -> 
 fn time(works: &[Work]) {
     for &work in works {
         for capacity in CAPACITIES {
-            let mut least = vec![(f64::MAX, f64::MAX); CONTENDERS.len()];
+            let contenders: Vec<_> = CONTENDERS.iter().filter(|it| it.does(work, capacity)).collect();
+            let mut least = vec![(f64::MAX, f64::MAX); contenders.len()];
             for _ in 0..ROUNDS {
-                for (contender, (made, done)) in CONTENDERS.iter().zip(&mut least) {
+                for (contender, (made, done)) in contenders.iter().zip(&mut least) {
                     *made = made.min(seconds(contender, work, capacity, 0));
                     *done = done.min(seconds(contender, work, capacity, ITEMS));
                 }
             }
-            for (contender, (made, done)) in CONTENDERS.iter().zip(least) {
+            for (contender, (made, done)) in contenders.iter().zip(least) {
                 let nanoseconds = (done - made) * 1e9 / ITEMS as f64;
                 println!("{},{capacity},{},{nanoseconds:.3}", work.name(), contender.name);
             }
@@ -73,7 +85,7 @@ fn time(works: &[Work]) {
 fn list() {
     for work in Work::ALL {
         for capacity in CAPACITIES {
-            for contender in CONTENDERS {
+            for contender in CONTENDERS.iter().filter(|it| it.does(work, capacity)) {
                 println!("{},{capacity},{}", work.name(), contender.name);
             }
         }

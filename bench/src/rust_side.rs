@@ -87,6 +87,44 @@ fn refill<R: RingBuffer<u64>>(ring: &mut R, capacity: usize, round: u64) {
     }
 }
 
+/// A sum that is kept by hand.
+struct Window<R> {
+    ring: R,
+    sum: i128,
+}
+
+#[inline(never)]
+fn slide_on<R: RingBuffer<i64>>(window: &mut Window<R>, capacity: usize, items: usize) -> i128 {
+    let mut sums = 0i128;
+    for number in 0..items {
+        if window.ring.len() == capacity {
+            if let Some(oldest) = window.ring.dequeue() {
+                window.sum -= i128::from(oldest);
+            }
+        }
+        window.ring.push(number as i64);
+        window.sum += i128::from(number as i64);
+        sums = sums.wrapping_add(window.sum);
+    }
+    sums
+}
+
+fn slide<R: RingBuffer<i64>>(ring: R, capacity: usize, items: usize) -> u64 {
+    let mut window = Window { ring, sum: 0 };
+    slide_on(&mut window, capacity, capacity);
+    slide_on(&mut window, capacity, items) as u64
+}
+
+fn slide_on_array(capacity: usize, items: usize) -> u64 {
+    match capacity {
+        7 => slide(ConstGenericRingBuffer::<i64, 7>::new(), 7, items),
+        1000 => slide(ConstGenericRingBuffer::<i64, 1000>::new(), 1000, items),
+        1024 => slide(ConstGenericRingBuffer::<i64, 1024>::new(), 1024, items),
+        65536 => slide(ConstGenericRingBuffer::<i64, 65536>::new(), 65536, items),
+        _ => unreachable!("no array ring of {capacity}"),
+    }
+}
+
 fn on_fixed<R: RingBuffer<u64> + Clone>(mut ring: R, work: Work, capacity: usize, items: usize) -> u64 {
     push(&mut ring, capacity);
     match work {
@@ -120,6 +158,9 @@ fn outcome<R: RingBuffer<u64>>(ring: &R) -> u64 {
 }
 
 pub fn array(work: Work, capacity: usize, items: usize) -> u64 {
+    if let Work::Slide = work {
+        return slide_on_array(capacity, items);
+    }
     match capacity {
         7 => on_fixed(ConstGenericRingBuffer::<u64, 7>::new(), work, 7, items),
         1000 => on_fixed(ConstGenericRingBuffer::<u64, 1000>::new(), work, 1000, items),
@@ -130,10 +171,16 @@ pub fn array(work: Work, capacity: usize, items: usize) -> u64 {
 }
 
 pub fn heap(work: Work, capacity: usize, items: usize) -> u64 {
+    if let Work::Slide = work {
+        return slide(AllocRingBuffer::new(capacity), capacity, items);
+    }
     on_fixed(AllocRingBuffer::new(capacity), work, capacity, items)
 }
 
 pub fn growable(work: Work, capacity: usize, items: usize) -> u64 {
+    if let Work::Slide = work {
+        return slide(GrowableAllocRingBuffer::with_capacity(capacity), capacity, items);
+    }
     let mut ring = GrowableAllocRingBuffer::with_capacity(capacity);
     push(&mut ring, capacity);
     match work {

@@ -17,10 +17,11 @@ pub enum Work {
     Fill,
     Clone,
     Refill,
+    Slide,
 }
 
 impl Work {
-    pub const ALL: [Work; 9] = [
+    pub const ALL: [Work; 10] = [
         Work::Push,
         Work::PushCall,
         Work::PushDequeue,
@@ -30,6 +31,7 @@ impl Work {
         Work::Fill,
         Work::Clone,
         Work::Refill,
+        Work::Slide,
     ];
 
     pub fn name(self) -> &'static str {
@@ -43,6 +45,7 @@ impl Work {
             Work::Fill => "fill",
             Work::Clone => "clone and drop",
             Work::Refill => "clear and refill",
+            Work::Slide => "sliding sum",
         }
     }
 }

@@ -5,5 +5,6 @@ pub mod callers;
 pub mod conditions;
 pub mod counts;
 pub mod headline;
+pub mod sums;
 #[cfg(test)]
 mod tests;

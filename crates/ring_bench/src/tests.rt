@@ -6,6 +6,7 @@ mod comparison;
 mod fills;
 mod positions;
 mod pushing;
+mod sums;
 mod walks;
 
 use ringbuffer::RingBuffer;

@@ -1,16 +1,18 @@
 //! Work to be timed from outside, exported to C.
 //!
-//! Each export makes a ring of u64 items, fills it, does so much work on it, and answers a number that depends on that
-//! work. Its first argument names the work, by the numbers of `Work`. It answers 0 where the work or the array's
+//! Each export makes a ring of u64 items, or a window over one of i64 samples, fills it, does so much work on it, and
+//! answers a number that depends on that work. Its first argument names the work, by the numbers of `Work`. It answers 0 where the work or the array's
 //! capacity isn't one of those named here, where the capacity is 0, and where memory is refused.
 #![tactic(auto)]
 
 mod rings;
+mod windows;
 mod work;
 
 use ringbuffer::ConstGenericRingBuffer;
 use rings::{on_fixed, on_growable, on_heap};
 use std::alloc::Global;
+use windows::{on_array_window, on_growable_window, on_heap_window};
 use work::Work;
 
 /// Work on an array ring. The capacity is 7, 1000, 1024 or 65536.
@@ -19,6 +21,9 @@ pub extern "C" fn ring_measure_array(work: u32, capacity: usize, items: usize) -
     let Some(work) = Work::numbered(work) else {
         return 0;
     };
+    if let Work::Slide = work {
+        return on_array_window(capacity, items);
+    }
     match capacity {
         7 => on_fixed(&mut ConstGenericRingBuffer::<u64, 7>::new(), work, 7, items),
         1000 => on_fixed(
@@ -52,6 +57,7 @@ pub extern "C" fn ring_measure_heap(
     items: usize,
 ) -> u64 {
     match Work::numbered(work) {
+        Some(Work::Slide) if capacity > 0 => { on_heap_window(alloc, capacity, items).unwrap_or(0) }
         Some(work) if capacity > 0 => on_heap(alloc, work, capacity, items).unwrap_or(0),
         _ => 0,
     }
@@ -66,6 +72,9 @@ pub extern "C" fn ring_measure_growable(
     items: usize,
 ) -> u64 {
     match Work::numbered(work) {
+        Some(Work::Slide) if capacity > 0 => {
+            on_growable_window(alloc, capacity, items).unwrap_or(0)
+        }
         Some(work) if capacity > 0 => on_growable(alloc, work, capacity, items).unwrap_or(0),
         _ => 0,
     }

@@ -4,6 +4,7 @@
 //! that only read go on from the sum of the round before, so that no round can be left out as a repetition.
 
 use ringbuffer::{RingBuffer, RingBufferIterator};
+use window::WindowSum;
 
 /// The number of items of one extension.
 pub const EXTENSION: u64 = 4096;
@@ -29,6 +30,8 @@ pub enum Work {
     Clone,
     /// A clear and then as many pushes as the capacity.
     Refill,
+    /// Pushes onto a window over a full ring, and a read of its sum after each.
+    Slide,
 }
 
 impl Work {
@@ -44,6 +47,7 @@ impl Work {
             6 => Some(Work::Fill),
             7 => Some(Work::Clone),
             8 => Some(Work::Refill),
+            9 => Some(Work::Slide),
             _ => None,
         }
     }
@@ -137,4 +141,33 @@ pub fn refill<R: RingBuffer<u64>>(ring: &mut R, capacity: usize, round: u64) {
     for number in 0..capacity {
         let _ = ring.push(round.wrapping_add(number as u64));
     }
+}
+
+/// Pushes the numbers below `items` onto a window, and adds up the sums that it has after each.
+#[inline(never)]
+pub fn slide<R: RingBuffer<i64> + Drop>(window: &mut WindowSum<R>, items: usize) -> i128 {
+    let mut sums = 0i128;
+    for number in 0..items {
+        let _ = window.push((number as u64).cast_signed());
+        sums = sums.wrapping_add(window.sum());
+    }
+    sums
+}
+
+/// The same, where the oldest sample is forgotten before each push onto `capacity` samples.
+#[inline(never)]
+pub fn slide_within<R: RingBuffer<i64> + Drop>(
+    window: &mut WindowSum<R>,
+    capacity: usize,
+    items: usize,
+) -> i128 {
+    let mut sums = 0i128;
+    for number in 0..items {
+        if window.len() == capacity {
+            let _ = window.forget_oldest();
+        }
+        let _ = window.push((number as u64).cast_signed());
+        sums = sums.wrapping_add(window.sum());
+    }
+    sums
 }

@@ -1,0 +1,45 @@
+//! The work on a window over each type of ring.
+ghost use Rattle.std.specs.Prelude.{◌<◌};
+
+use crate::work::{slide, slide_within};
+use ringbuffer::{AllocRingBuffer, ConstGenericRingBuffer, GrowableAllocRingBuffer, RingBuffer};
+use std::alloc::{AllocError, Global};
+use window::WindowSum;
+
+/// Work on a window over an array ring. The capacity is 7, 1000, 1024 or 65536.
+#[inline(never)]
+pub fn on_array_window(capacity: usize, items: usize) -> u64 {
+    match capacity {
+        7 => on_fixed(ConstGenericRingBuffer::<i64, 7>::new(), 7, items),
+        1000 => on_fixed(ConstGenericRingBuffer::<i64, 1000>::new(), 1000, items),
+        1024 => on_fixed(ConstGenericRingBuffer::<i64, 1024>::new(), 1024, items),
+        65536 => on_fixed(ConstGenericRingBuffer::<i64, 65536>::new(), 65536, items),
+        _ => 0,
+    }
+}
+
+/// Work on a window over a heap ring.
+pub fn on_heap_window(alloc: Global, capacity: usize, items: usize) -> Result<u64, AllocError>
+    requires { 0 < capacity }
+{
+    Ok(on_fixed(AllocRingBuffer::new(alloc, capacity)?, capacity, items))
+}
+
+/// Work on a window over a growable ring, which is kept to this capacity by hand.
+pub fn on_growable_window(alloc: Global, capacity: usize, items: usize) -> Result<u64, AllocError> {
+    let mut window = WindowSum::new(GrowableAllocRingBuffer::with_capacity(alloc, capacity)?);
+    let _ = slide(&mut window, capacity);
+    Ok(low_half(slide_within(&mut window, capacity, items)))
+}
+
+// Work on a window over a ring with a limit.
+fn on_fixed<R: RingBuffer<i64> + Drop>(ring: R, capacity: usize, items: usize) -> u64 {
+    let mut window = WindowSum::new(ring);
+    let _ = slide(&mut window, capacity);
+    low_half(slide(&mut window, items))
+}
+
+// A number that depends on the sums.
+fn low_half(sums: i128) -> u64 {
+    (sums.unsigned_abs() % (1 << 64)) as u64
+}

@@ -1,0 +1,98 @@
+-- Sums of lists, and how a push and a dequeue change them.
+use Rattle.std.proofs.Common.{◌≡◌, ℕ, suc, zero, ◌+◌, ◌-◌, ◌*◌, ◌^◌, ◌<◌, ◌≤◌, ℤ, pos, ◌+ℤ◌, ◌-ℤ◌, ◌≤ℤ◌, neg_ℤ, List, [], ◌∷◌, ◌++◌, length, take, drop, All, Option, None, Some, option_to_list, slice_get, refl, ap, sym, arith, length-append, fold}
+use Rattle.std.specs.Prelude.{FitsSigned}
+use Rattle.std.specs.Int.{w64, w128}
+use Rattle.std.proofs.lemmas.Int.{ints}
+use Rattle.std.proofs.lemmas.List.Elements.{All-head, All-push, All-tail}
+use Rattle.std.proofs.lemmas.List.Sums.{fold_push}
+use Rattle.ringbuffer.specs.Contents.{IsWithin, keep_last, overwritten, rest}
+use Rattle.window.specs.Window.{IsSumOf, total}
+
+-- By induction on the list: a sum that begins at a number is that much more.
+fold-from : (a : ℤ) (xs : List ℤ) → fold ◌+ℤ◌ a xs ≡ a +ℤ total xs
+fold-from a [] = omega (arith, ints)
+fold-from a (x ∷ xs) = omega (arith, ints, fold-from (a +ℤ x) xs, fold-from (pos 0 +ℤ x) xs)
+
+-- The first number is one summand.
+total-cons : (x : ℤ) (xs : List ℤ) → total (x ∷ xs) ≡ x +ℤ total xs
+total-cons x xs = omega (arith, ints, fold-from (pos 0 +ℤ x) xs)
+
+-- By induction on the list: each number adds at most 2^63 - 1, and takes away at most 2^63.
+total-bounds : (xs : List ℤ) → All (FitsSigned w64) xs
+    → (neg_ℤ (pos (9223372036854775808 * length xs)) ≤ℤ total xs) × (total xs ≤ℤ pos (9223372036854775807 * length xs))
+total-bounds [] all = (omega (arith, ints), omega (arith, ints))
+total-bounds (x ∷ xs) all =
+    let (low, high) = total-bounds xs (All-tail (FitsSigned w64) x xs all) in
+    let fits : FitsSigned w64 x = All-head (FitsSigned w64) x xs all in
+    (omega (arith, ints, total-cons x xs, low, high, fits), omega (arith, ints, total-cons x xs, low, high, fits))
+
+-- At most 2^64 numbers of 64 bits sum up to no less than -2^127 and to less than 2^127.
+total-fits : (xs : List ℤ) → All (FitsSigned w64) xs → length xs ≤ 2 ^ 64 → FitsSigned w128 (total xs)
+total-fits xs all few =
+    let (low, high) = total-bounds xs all in
+    omega (arith, ints, low, high)
+
+-- The sum of some samples takes no more than an i128.
+pub IsSumOf-fits : {xs : List ℤ} {sum : ℤ} → IsSumOf xs sum → length xs ≤ 2 ^ 64 → FitsSigned w128 sum
+IsSumOf-fits {xs} is few = rw is.summed (total-fits xs is.in_range few)
+
+-- One more sample adds itself.
+pub IsSumOf-append : {xs : List ℤ} {sum x more : ℤ} → IsSumOf xs sum → FitsSigned w64 x → more ≡ sum +ℤ x → IsSumOf (xs ++ x ∷ []) more
+IsSumOf-append {xs} {sum} {x} is fits adds = record {
+  summed = rw (adds, is.summed) (sym (fold_push ◌+ℤ◌ (pos 0) xs x));
+  in_range = All-push (FitsSigned w64) xs x is.in_range fits;
+}
+
+-- Without the first sample the sum is so much less.
+IsSumOf-rest : {xs : List ℤ} {sum x less : ℤ} → IsSumOf (x ∷ xs) sum → less ≡ sum -ℤ x → IsSumOf xs less
+IsSumOf-rest {xs} {sum} {x} is takes = record {
+  summed = omega (arith, ints, takes, is.summed, total-cons x xs);
+  in_range = All-tail (FitsSigned w64) x xs is.in_range;
+}
+
+-- Behind what was in front, which is one sample at most, the sum is so much less.
+IsSumOf-behind : {xs : List ℤ} {sum less : ℤ} (front : Option ℤ) → IsSumOf (option_to_list front ++ xs) sum → less ≡ sum -ℤ total (option_to_list front) → IsSumOf xs less
+IsSumOf-behind None is takes = record { summed = omega (arith, ints, takes, is.summed); in_range = is.in_range }
+IsSumOf-behind (Some x) is takes = IsSumOf-rest is (omega (arith, ints, takes))
+
+-- By the limit: with room for one more nothing is overwritten and nothing lost, and else the first is both.
+overwritten-keep_last : {A : Type 0} (limit : Option ℕ) (xs : List A) (x : A) → IsWithin xs limit
+    → option_to_list (overwritten limit xs) ++ keep_last limit (xs ++ x ∷ []) ≡ xs ++ x ∷ []
+overwritten-keep_last None xs x within = refl
+overwritten-keep_last {A} (Some n) xs x within = rw (length-append xs (x ∷ [])) (split (length xs + 1 - n) xs (omega arith) (omega arith)) where
+  -- one item at most, and there is one
+  split : (k : ℕ) (ys : List A) → k ≤ 1 → k ≤ length ys → option_to_list (slice_get (take k ys) 0) ++ drop k (ys ++ x ∷ []) ≡ ys ++ x ∷ []
+  split zero ys one some = refl
+  split (suc zero) (y ∷ ys) one some = refl
+  split (suc zero) [] one some = absurd (omega arith)
+  split (suc (suc k)) ys one some = absurd (omega arith)
+
+-- A list with a first item is that item and the rest.
+first-rest : {A : Type 0} (xs : List A) (x : A) → Some x ≡ slice_get xs 0 → xs ≡ x ∷ rest xs
+first-rest [] x first = absurd (let none : Some x ≡ None = first in cc)
+first-rest (y ∷ ys) x first = let same : x ≡ y = let is : Some x ≡ Some y = first in cc in rw same refl
+
+-- A push onto fewer than 2^64 samples that are summed up.
+module _ (limit : Option ℕ) (xs : List ℤ) (x : ℤ) {sum : ℤ} (old : Option ℤ)
+    (within : IsWithin xs limit) (few : length xs < 2 ^ 64) (is : IsSumOf xs sum) (in_range : FitsSigned w64 x) (answer : old ≡ overwritten limit xs) where
+  -- What it hands back and what it leaves are the samples and one more.
+  all : option_to_list old ++ keep_last limit (xs ++ x ∷ []) ≡ xs ++ x ∷ []
+  all = rw answer (overwritten-keep_last limit xs x within)
+
+  -- So the sum is without what it hands back,
+  pub IsSumOf-pushed : {new : ℤ} → new ≡ sum +ℤ (x -ℤ total (option_to_list old)) → IsSumOf (keep_last limit (xs ++ x ∷ [])) new
+  IsSumOf-pushed changed = IsSumOf-behind old (rw (← all) at (IsSumOf-append is in_range refl)) (omega (arith, ints, changed))
+
+  -- and it is one of at most 2^64 samples.
+  pub pushed-fits : FitsSigned w128 (sum +ℤ (x -ℤ total (option_to_list old)))
+  pushed-fits = IsSumOf-fits (IsSumOf-pushed refl) (omega (arith, ap length all, length-append xs (x ∷ []), length-append (option_to_list old) (keep_last limit (xs ++ x ∷ []))))
+
+-- A dequeue of the first of fewer than 2^64 samples that are summed up.
+module _ (xs : List ℤ) (x : ℤ) {sum : ℤ} (first : Some x ≡ slice_get xs 0) (few : length xs < 2 ^ 64) (is : IsSumOf xs sum) where
+  -- The sum is without it,
+  pub IsSumOf-left : {left : ℤ} → left ≡ sum -ℤ x → IsSumOf (rest xs) left
+  IsSumOf-left takes = IsSumOf-rest (rw (first-rest xs x first) at is) takes
+
+  -- of one sample fewer.
+  pub left-fits : FitsSigned w128 (sum -ℤ x)
+  left-fits = IsSumOf-fits (IsSumOf-left refl) (omega (arith, ap length (first-rest xs x first)))
