@@ -9,7 +9,7 @@ use Rattle.std.proofs.lemmas.Option.{slice_get_past}
 use Rattle.std.proofs.lemmas.List.{drop-append-le, drop-drop, drop_all, drop_min, length_push, length-take-le, take-append-drop, take_all, take_at}
 use Rattle.ring_core.specs.declared.runs.Command.{Command}
 use Rattle.ring_core.specs.declared.runs.Command.TheVariants.{Push, Extend, Dequeue, Skip, Clear}
-use Rattle.ring_core.specs.Contents.{ChangesSlots, IsWithin, keep_last, overwritten, rest}
+use Rattle.ring_core.specs.Contents.{ChangesSlots, IsWithin, keep_last, overwritten}
 use Rattle.ring_core.specs.Meaning.{after_all, after_one, puts, replies_to, reply_to}
 use Rattle.ring_core.specs.History.{ChangesFewSlots, Step, pushes, takes, clears, all_items, contents_after, number, oldest, overwrites, overwritten_after, pushed, replies_of, reply_after, steps, steps_of}
 use Rattle.ring_core.proofs.Items.{slice_get-append_left, slice_get-at, slice_get-drop, slice_get-take_one}
@@ -38,7 +38,7 @@ items-from f n xs count order =
 -- what a step does to a list
 abbrev pub after_step : {T : Type 0} → Option ℕ → List T → Step T → List T
 after_step limit l (pushes x) = keep_last limit (l ++ x ∷ [])
-after_step limit l takes = rest l
+after_step limit l takes = drop 1 l
 after_step limit l clears = []
 
 -- what the steps do, one after the other
@@ -61,11 +61,6 @@ IsWithin-shorter : {T : Type 0} (limit : Option ℕ) (l xs : List T) → length 
 IsWithin-shorter None l xs shorter within = tt
 IsWithin-shorter (Some n) l xs shorter within = (within.0, omega (arith, within.1))
 
--- The rest lacks one item.
-rest-drop : {T : Type 0} (l : List T) → rest l ≡ drop 1 l
-rest-drop [] = refl
-rest-drop (x ∷ l) = refl
-
 -- An extension pushes item by item, by induction on the items.
 after_steps-pushes : {T : Type 0} (limit : Option ℕ) (l xs : List T) → IsWithin l limit → after_steps limit l (map pushes xs) ≡ keep_last limit (l ++ xs)
 after_steps-pushes limit l [] within = rw append-nil (sym (keep_last_within limit l within))
@@ -76,8 +71,8 @@ after_steps-pushes limit l (x ∷ xs) within =
 IsWithin-after_one : {T : Type 0} (limit : Option ℕ) (l : List T) (c : Command T) → IsWithin l limit → IsWithin (after_one limit l c) limit
 IsWithin-after_one limit l (Push x) within = IsWithin-keep_last limit l _ within
 IsWithin-after_one limit l (Extend items) within = IsWithin-keep_last limit l _ within
-IsWithin-after_one limit l Dequeue within = IsWithin-shorter limit l (rest l) (rw (rest-drop, length-drop) (omega arith)) within
-IsWithin-after_one limit l Skip within = IsWithin-shorter limit l (rest l) (rw (rest-drop, length-drop) (omega arith)) within
+IsWithin-after_one limit l Dequeue within = IsWithin-shorter limit l (drop 1 l) (rw length-drop (omega arith)) within
+IsWithin-after_one limit l Skip within = IsWithin-shorter limit l (drop 1 l) (rw length-drop (omega arith)) within
 IsWithin-after_one limit l Clear within = IsWithin-shorter limit l [] (omega arith) within
 
 -- A command does what its steps do.
@@ -104,7 +99,7 @@ drop-next (Some c) f n xs (pushes x) count order room =
     let whole : drop f xs ++ x ∷ [] ≡ drop f (xs ++ x ∷ []) = sym (drop-append-le f xs (x ∷ []) (omega arith)) in
     let at : f + (length (drop f (xs ++ x ∷ [])) - c) ≡ max f (n + 1 - c) = rw (length-drop, length_push) (omega arith) in
     rw (whole, drop-drop, at) refl
-drop-next limit f n xs takes count order room = rw (append-nil, ← count, drop_min, rest-drop, drop-drop) refl
+drop-next limit f n xs takes count order room = rw (append-nil, ← count, drop_min, drop-drop) refl
 drop-next limit f n xs clears count order room = rw append-nil (drop_all n xs (omega arith))
 
 -- The first of the held items is the one with the least held number, also among all the items.

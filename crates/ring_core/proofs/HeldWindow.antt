@@ -6,7 +6,7 @@ use Rattle.std.proofs.lemmas.List.FromFn.{length-range_with_len}
 use Rattle.std.proofs.lemmas.Option.{IfSome_then}
 use Rattle.std.proofs.lemmas.Bool.{cases_lt, eq-eqb, eqb-true, false≢true}
 use Rattle.std.proofs.lemmas.Bool.Decides.{nat_tests}
-use Rattle.ring_core.specs.Contents.{IsWithin, rest}
+use Rattle.ring_core.specs.Contents.{IsWithin}
 use Rattle.ring_core.specs.History.{HasNoGap, IsLeft, IsPush, IsWithinLimit, KeepsToNumbers, PushesOverwrite, RemovesOnce, Step, pushes, takes, clears, held, held_numbers, held_next, head, least, number, overwrites, pushed, removed, removes, some_below}
 
 -- the numbers from f on, below n

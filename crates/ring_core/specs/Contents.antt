@@ -16,11 +16,6 @@ abbrev pub IsWithin : {A : Type 0} → List A → Option ℕ → Type 0
 IsWithin xs None = Unit {0}
 IsWithin xs (Some limit) = (0 < limit) × (length xs ≤ limit)
 
--- the list without its first item
-abbrev pub rest : {A : Type 0} → List A → List A
-rest [] = []
-rest (x ∷ xs) = xs
-
 -- a beginning of the list that is shorter than the whole
 abbrev pub IsCut : {A : Type 0} → List A → List A → Type 0
 IsCut whole part = (length part < length whole) × (part ≡ take (length part) whole)

@@ -1,5 +1,5 @@
 -- What commands do to the contents of a ring, as a list, and what they answer.
-use Rattle.std.specs.Prelude.{◌≡◌, ℕ, ◌-◌, List, [], ◌∷◌, ◌++◌, length, take, map, replicate, slice_get, Option, Some, None, Vec}
+use Rattle.std.specs.Prelude.{◌≡◌, ℕ, ◌-◌, List, [], ◌∷◌, ◌++◌, length, take, drop, map, replicate, slice_get, Option, Some, None, Vec}
 use Rattle.std.specs.Global.{Global}
 use Rattle.ring_core.specs.declared.runs.Command.{Command}
 use Rattle.ring_core.specs.declared.runs.Command.TheVariants.{Push, Extend, Dequeue, Skip, Clear}
@@ -9,7 +9,7 @@ use Rattle.ring_core.specs.declared.runs.Refused.{Refused}
 use Rattle.ring_core.specs.declared.runs.Refused.TheVariants as refused
 use Rattle.ring_core.specs.declared.runs.RunFault.{RunFault}
 use Rattle.ring_core.specs.declared.runs.RunFault.TheVariants as fault
-use Rattle.ring_core.specs.Contents.{keep_last, overwritten, rest, IsCut}
+use Rattle.ring_core.specs.Contents.{keep_last, overwritten, IsCut}
 
 -- the items that a command pushes
 abbrev pub puts : {T : Type 0} → Command T → List T
@@ -23,8 +23,8 @@ puts Clear = []
 abbrev pub after_one : {T : Type 0} → Option ℕ → List T → Command T → List T
 after_one limit l (Push x) = keep_last limit (l ++ x ∷ [])
 after_one limit l (Extend items) = keep_last limit (l ++ items.items)
-after_one limit l Dequeue = rest l
-after_one limit l Skip = rest l
+after_one limit l Dequeue = drop 1 l
+after_one limit l Skip = drop 1 l
 after_one limit l Clear = []
 
 -- what a command answers where a push overwrites the first of these items, and a dequeue takes the second

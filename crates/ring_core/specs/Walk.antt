@@ -13,34 +13,34 @@ to_come xs front back = drop front (take back xs)
 
 module _ {T RB : Type 0} (contents : RB → List T) where
   -- what a reading walk has still to come
-  abbrev pub unread : RingBufferIterator T RB → List T
-  unread s = to_come (contents s.ring.now) s.front s.back
+  abbrev pub iterator_to_come : RingBufferIterator T RB → List T
+  iterator_to_come s = to_come (contents s.ring.now) s.front s.back
 
   -- reading walks give what they have still to come, in order
   abbrev pub ReadsInOrder : Type 0
-  ReadsInOrder = YieldsRefsInOrder (YieldsFirstRef unread) unread
+  ReadsInOrder = YieldsRefsInOrder (YieldsFirstRef iterator_to_come) iterator_to_come
 
   -- and from the back, in reverse
   abbrev pub ReadsInReverse : Type 0
-  ReadsInReverse = YieldsRefsInReverse (YieldsLastRef unread) unread
+  ReadsInReverse = YieldsRefsInReverse (YieldsLastRef iterator_to_come) iterator_to_come
 
   -- what a cursor has still to come
-  abbrev pub unvisited : RingBufferMutIterator T RB → List T
-  unvisited s = to_come (contents s.ring.now) s.front s.back
+  abbrev pub cursor_to_come : RingBufferMutIterator T RB → List T
+  cursor_to_come s = to_come (contents s.ring.now) s.front s.back
 
   -- a new cursor is before all items
   abbrev pub StartsOver : RingBufferMutIterator T RB → Type 0
   StartsOver s = (s.front ≡ 0) × (s.back ≡ length (contents s.ring.now))
 
   -- what a drain has still to come: the contents of the ring that it holds
-  abbrev pub undrained : RingBufferDrainingIterator T RB → List T
-  undrained s = contents s.ring.now
+  abbrev pub drain_to_come : RingBufferDrainingIterator T RB → List T
+  drain_to_come s = contents s.ring.now
 
   -- what an owning walk has still to come: the contents of its ring
-  abbrev pub unmoved : RingBufferIntoIterator T RB → List T
-  unmoved s = contents s.ring
+  abbrev pub into_iter_to_come : RingBufferIntoIterator T RB → List T
+  into_iter_to_come s = contents s.ring
 
 module _ {T RB : Type 0} (contents : RB → List T) (limit : RB → Option ℕ) where
   -- a drain takes the first item out of its ring, whose limit stays
   abbrev pub DrainsFirst : RingBufferDrainingIterator T RB → Option T → RingBufferDrainingIterator T RB → Type 0
-  DrainsFirst s r t = YieldsFirst (undrained contents) s r t × (t.ring.ghost_name ≡ s.ring.ghost_name) × (limit t.ring.now ≡ limit s.ring.now)
+  DrainsFirst s r t = YieldsFirst (drain_to_come contents) s r t × (t.ring.ghost_name ≡ s.ring.ghost_name) × (limit t.ring.now ≡ limit s.ring.now)

@@ -5,7 +5,7 @@ ghost use Rattle.std.specs.Borrow.{sem};
 ghost use Rattle.std.specs.Iterator.{YieldsFirst, YieldsFirstRef, YieldsLastRef, UpTo, at_most, item_count};
 ghost use Rattle.std.specs.Iterator.SizeHint.{IsWithinCount};
 ghost use Rattle.std.specs.Option.{option_copied_mut};
-ghost use Rattle.ring_core.specs.Walk.{DrainsFirst, ReadsInOrder, ReadsInReverse, StartsOver, undrained, unmoved, unread, unvisited};
+ghost use Rattle.ring_core.specs.Walk.{DrainsFirst, ReadsInOrder, ReadsInReverse, StartsOver, drain_to_come, into_iter_to_come, iterator_to_come, cursor_to_come};
 
 use crate::ring::RingBuffer;
 use std::iter::FusedIterator;
@@ -23,7 +23,7 @@ pub struct RingBufferIterator<'rb, T, RB> {
 impl<'rb, T: Drop, RB: RingBuffer<T>> RingBufferIterator<'rb, T, RB> {
     /// A walk over all items of the ring.
     pub fn new(ring: &'rb RB) -> Self
-        ensures left { unread RB.contents result ≡ RB.contents ring.now }
+        ensures left { iterator_to_come RB.contents result ≡ RB.contents ring.now }
         ensures runs { ReadsInOrder RB.contents }
         ensures runs_back { ReadsInReverse RB.contents }
     {
@@ -39,9 +39,9 @@ impl<'rb, T: Drop, RB: RingBuffer<T>> RingBufferIterator<'rb, T, RB> {
 impl<'rb, T: Drop, RB: RingBuffer<T>> Iterator for RingBufferIterator<'rb, T, RB> {
     type Item = &'rb T;
 
-    ghost next_gives = { YieldsFirstRef (unread RB.contents) };
+    ghost next_gives = { YieldsFirstRef (iterator_to_come RB.contents) };
 
-    ghost remaining = { item_count (unread RB.contents) };
+    ghost remaining = { item_count (iterator_to_come RB.contents) };
 
     fn next(&mut self) -> Option<&'rb T> {
         let at = self.front;
@@ -53,9 +53,9 @@ impl<'rb, T: Drop, RB: RingBuffer<T>> Iterator for RingBufferIterator<'rb, T, RB
     }
 
     fn size_hint(&self) -> (usize, Option<usize>)
-        ensures lower { IsWithinCount result.0 (at_most (length (unread RB.contents self.now))) }
-        ensures upper { IfSome result.1 (UpTo (at_most (length (unread RB.contents self.now)))) }
-        ensures exact { result ≡ (length (unread RB.contents self.now), Some (length (unread RB.contents self.now))) }
+        ensures lower { IsWithinCount result.0 (at_most (length (iterator_to_come RB.contents self.now))) }
+        ensures upper { IfSome result.1 (UpTo (at_most (length (iterator_to_come RB.contents self.now)))) }
+        ensures exact { result ≡ (length (iterator_to_come RB.contents self.now), Some (length (iterator_to_come RB.contents self.now))) }
     {
         let left = self.len();
         (left, Some(left))
@@ -63,7 +63,7 @@ impl<'rb, T: Drop, RB: RingBuffer<T>> Iterator for RingBufferIterator<'rb, T, RB
 }
 
 impl<'rb, T: Drop, RB: RingBuffer<T>> DoubleEndedIterator for RingBufferIterator<'rb, T, RB> {
-    ghost next_back_gives = { YieldsLastRef (unread RB.contents) };
+    ghost next_back_gives = { YieldsLastRef (iterator_to_come RB.contents) };
 
     fn next_back(&mut self) -> Option<&'rb T> {
         let end = self.back.min(self.ring.len());
@@ -113,8 +113,8 @@ impl<'rb, T: Drop, RB: RingBuffer<T>> RingBufferMutIterator<'rb, T, RB> {
     /// Lends the first item that is still to come, or answers `None` for good once nothing is left.
     pub fn next(&mut self) -> Option<&mut T>
         ensures* writes_back { sem 𝓛 (lends_front T.row RB.row self.entry RB.with_item result) }
-        ensures value { option_copied_mut result ≡ slice_get (unvisited RB.contents self.old) 0 }
-        ensures none { IsNone result ↔ (unvisited RB.contents self.old ≡ []) }
+        ensures value { option_copied_mut result ≡ slice_get (cursor_to_come RB.contents self.old) 0 }
+        ensures none { IsNone result ↔ (cursor_to_come RB.contents self.old ≡ []) }
     {
         let at = self.front;
         if at >= self.back || at >= self.ring.len() {
@@ -127,8 +127,8 @@ impl<'rb, T: Drop, RB: RingBuffer<T>> RingBufferMutIterator<'rb, T, RB> {
     /// Lends the last item that is still to come, or answers `None` for good once nothing is left.
     pub fn next_back(&mut self) -> Option<&mut T>
         ensures* writes_back { sem 𝓛 (lends_back T.row RB.row self.entry RB.contents RB.with_item result) }
-        ensures value { option_copied_mut result ≡ slice_get (unvisited RB.contents self.old) (length (unvisited RB.contents self.old) - 1) }
-        ensures none { IsNone result ↔ (unvisited RB.contents self.old ≡ []) }
+        ensures value { option_copied_mut result ≡ slice_get (cursor_to_come RB.contents self.old) (length (cursor_to_come RB.contents self.old) - 1) }
+        ensures none { IsNone result ↔ (cursor_to_come RB.contents self.old ≡ []) }
     {
         let end = self.back.min(self.ring.len());
         if self.front >= end {
@@ -140,7 +140,7 @@ impl<'rb, T: Drop, RB: RingBuffer<T>> RingBufferMutIterator<'rb, T, RB> {
 
     /// How many items are still to come, as both bounds.
     pub fn size_hint(&self) -> (usize, Option<usize>)
-        ensures { result ≡ (length (unvisited RB.contents self.now), Some (length (unvisited RB.contents self.now))) }
+        ensures { result ≡ (length (cursor_to_come RB.contents self.now), Some (length (cursor_to_come RB.contents self.now))) }
     {
         let left = self.back.min(self.ring.len()).saturating_sub(self.front);
         (left, Some(left))
@@ -172,16 +172,16 @@ impl<'rb, T: Drop, RB: RingBuffer<T>> Iterator for RingBufferDrainingIterator<'r
 
     ghost next_gives = { DrainsFirst RB.contents RB.limit };
 
-    ghost remaining = { item_count (undrained RB.contents) };
+    ghost remaining = { item_count (drain_to_come RB.contents) };
 
     fn next(&mut self) -> Option<T> {
         self.ring.dequeue()
     }
 
     fn size_hint(&self) -> (usize, Option<usize>)
-        ensures lower { IsWithinCount result.0 (at_most (length (undrained RB.contents self.now))) }
-        ensures upper { IfSome result.1 (UpTo (at_most (length (undrained RB.contents self.now)))) }
-        ensures exact { result ≡ (length (undrained RB.contents self.now), Some (length (undrained RB.contents self.now))) }
+        ensures lower { IsWithinCount result.0 (at_most (length (drain_to_come RB.contents self.now))) }
+        ensures upper { IfSome result.1 (UpTo (at_most (length (drain_to_come RB.contents self.now)))) }
+        ensures exact { result ≡ (length (drain_to_come RB.contents self.now), Some (length (drain_to_come RB.contents self.now))) }
     {
         let left = self.ring.len();
         (left, Some(left))
@@ -198,7 +198,7 @@ pub struct RingBufferIntoIterator<T, RB> {
 impl<T: Drop, RB: RingBuffer<T>> RingBufferIntoIterator<T, RB> {
     /// A walk over what the ring holds.
     pub fn new(ring: RB) -> Self
-        ensures { unmoved RB.contents result ≡ RB.contents ring }
+        ensures { into_iter_to_come RB.contents result ≡ RB.contents ring }
     {
         RingBufferIntoIterator {
             ring,
@@ -210,18 +210,18 @@ impl<T: Drop, RB: RingBuffer<T>> RingBufferIntoIterator<T, RB> {
 impl<T: Drop, RB: RingBuffer<T> + Drop> Iterator for RingBufferIntoIterator<T, RB> {
     type Item = T;
 
-    ghost next_gives = { YieldsFirst (unmoved RB.contents) };
+    ghost next_gives = { YieldsFirst (into_iter_to_come RB.contents) };
 
-    ghost remaining = { item_count (unmoved RB.contents) };
+    ghost remaining = { item_count (into_iter_to_come RB.contents) };
 
     fn next(&mut self) -> Option<T> {
         self.ring.dequeue()
     }
 
     fn size_hint(&self) -> (usize, Option<usize>)
-        ensures lower { IsWithinCount result.0 (at_most (length (unmoved RB.contents self.now))) }
-        ensures upper { IfSome result.1 (UpTo (at_most (length (unmoved RB.contents self.now)))) }
-        ensures exact { result ≡ (length (unmoved RB.contents self.now), Some (length (unmoved RB.contents self.now))) }
+        ensures lower { IsWithinCount result.0 (at_most (length (into_iter_to_come RB.contents self.now))) }
+        ensures upper { IfSome result.1 (UpTo (at_most (length (into_iter_to_come RB.contents self.now)))) }
+        ensures exact { result ≡ (length (into_iter_to_come RB.contents self.now), Some (length (into_iter_to_come RB.contents self.now))) }
     {
         let left = self.ring.len();
         (left, Some(left))

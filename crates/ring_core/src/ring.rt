@@ -1,11 +1,11 @@
 //! The trait that every ring buffer implements.
 
-ghost use Rattle.std.specs.Prelude.{◌≡◌, ℕ, ◌-◌, ◌<◌, ◌≤◌, ◌↔◌, List, [], ◌∷◌, ◌++◌, length, All, Contains, IfOk, IfErr, IfSome, IsNone, IsOk, IsSome, IsTrue, OnErr, OnOk, Option, None, slice_get, slice_set};
+ghost use Rattle.std.specs.Prelude.{◌≡◌, ℕ, ◌-◌, ◌<◌, ◌≤◌, ◌↔◌, List, [], ◌∷◌, ◌++◌, drop, length, All, Contains, IfOk, IfErr, IfSome, IsNone, IsOk, IsSome, IsTrue, OnErr, OnOk, Option, None, slice_get, slice_set};
 ghost use Rattle.std.specs.Borrow.{LendsIf, sem};
 ghost use Rattle.std.specs.Iterator.{IsFiniteIterable};
 ghost use Rattle.std.specs.List.{AllZip, FoldsTo, list_any};
 ghost use Rattle.std.specs.Option.{option_copied, option_copied_mut};
-ghost use Rattle.ring_core.specs.Contents.{ChangesSlots, IsWithin, keep_last, overwritten, place, rest, signed_place};
+ghost use Rattle.ring_core.specs.Contents.{ChangesSlots, IsWithin, keep_last, overwritten, place, signed_place};
 ghost use Rattle.ring_core.specs.Extension.{Extends};
 
 use std::alloc::{AllocError, Global};
@@ -109,13 +109,13 @@ pub trait RingBuffer<T: Drop>: Sized {
     /// Takes out the oldest item.
     fn dequeue(&mut self) -> Option<T>
         ensures value { result ≡ slice_get (contents self.old) 0 }
-        ensures rest { contents self.new ≡ rest (contents self.old) }
+        ensures rest { contents self.new ≡ drop 1 (contents self.old) }
         ensures limit { limit self.new ≡ limit self.old }
         ensures changes { IsSome (limit self.old) → ChangesSlots (slot_changes self.old) (contents self.old) (slot_changes self.new) (contents self.new) 0 };
 
     /// Drops the oldest item. Does nothing to an empty ring.
     fn skip(&mut self)
-        ensures rest { contents self.new ≡ rest (contents self.old) }
+        ensures rest { contents self.new ≡ drop 1 (contents self.old) }
         ensures limit { limit self.new ≡ limit self.old }
         ensures changes { IsSome (limit self.old) → ChangesSlots (slot_changes self.old) (contents self.old) (slot_changes self.new) (contents self.new) 0 }
     {

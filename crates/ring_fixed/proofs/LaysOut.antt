@@ -1,12 +1,11 @@
 -- What the inner steps of a ring do to what it shows.
-use Rattle.std.proofs.Common.{◌≡◌, ℕ, suc, ◌+◌, ◌-◌, ◌%◌, ◌<◌, ◌≤◌, List, [], ◌∷◌, ◌++◌, length, Option, None, Some, refl, sym, ap, ◌∙◌, arith, get_or, replicate, length-set, length-append}
+use Rattle.std.proofs.Common.{◌≡◌, ℕ, suc, ◌+◌, ◌-◌, ◌%◌, ◌<◌, ◌≤◌, List, [], ◌∷◌, ◌++◌, drop, length, Option, None, Some, refl, sym, ap, ◌∙◌, arith, get_or, replicate, length-set, length-append}
 use Rattle.std.specs.Prelude.{slice_get, min, IsSome}
 use Rattle.std.proofs.Math.ListN.{set}
 use Rattle.std.proofs.Math.Nat.{mod-eq_of_lt, mod-lt}
 use Rattle.std.proofs.lemmas.Grind.{common_steps}
 use Rattle.std.proofs.lemmas.List.{get_or-replicate}
 use Rattle.std.proofs.lemmas.Option.{slice_get_cases, slice_get_past}
-use Rattle.ring_core.specs.Contents.{rest}
 use Rattle.ring_slots.specs.Slots.{Slots, slot_at, IsEmptyAt, IsFullAt, changed}
 use Rattle.ring_fixed.specs.View.{View, after_put, after_take, after_write}
 use Rattle.ring_fixed.specs.Layout.{SlotsHold, items_from, view_from, IsLaidOut, LaysOut}
@@ -64,7 +63,7 @@ module _ {X : Type 0} {P : ℕ → Type 0} (s : Slots X) (start : ℕ) (laid_out
 
   -- the first of some items is taken
   first_taken : (xs : List X) → SlotsHold s.slots start xs → length xs ≤ length s.slots → 0 < length xs
-      → LaysOut P s (changed s start None) ((start + 1) % length s.slots) (record { items = rest xs; changes = s.changes + min (length xs) 1; capacity = length s.slots })
+      → LaysOut P s (changed s start None) ((start + 1) % length s.slots) (record { items = drop 1 xs; changes = s.changes + min (length xs) 1; capacity = length s.slots })
   first_taken [] lie fit some = absurd (omega arith)
   first_taken (x ∷ xs) lie fit some =
       let one : s.changes + 1 ≡ s.changes + min (length (x ∷ xs)) 1 = omega arith in

@@ -3,7 +3,6 @@ use Rattle.std.proofs.Common.{◌≡◌, ℕ, ◌+◌, ◌-◌, ◌%◌, ◌<◌
 use Rattle.ring_slots.specs.Slots.{Slots, IsEmptyAt, changed}
 use Rattle.ring_fixed.specs.View.{View, after_put, after_take}
 use Rattle.ring_fixed.specs.Layout.{items_from, view_from, IsLaidOut, LaysOut}
-use Rattle.ring_fixed.proofs.RepeatedSteps.{rest-drop}
 use Rattle.ring_fixed.proofs.LaysOut.{LaysOut-then, LaysOut-put, past_empty, same_place}
 
 -- the first of some items is taken
@@ -17,7 +16,7 @@ pub record HasTaken {X : Type 0} (P : ℕ → Type 0) (s taken : Slots X) (start
 
 module _ {X : Type 0} {P : ℕ → Type 0} {s taken : Slots X} {start next place len : ℕ} (t : HasTaken P s taken start next place len) where
   count : length (items_from taken.slots next) ≡ len - 1
-  count = ap (λ (v : View X). length v.items) t.after.shows ∙ ap length (rest-drop (items_from s.slots start)) ∙ length-drop 1 (items_from s.slots start) ∙ ap (λ n. n - 1) (sym t.counted)
+  count = ap (λ (v : View X). length v.items) t.after.shows ∙ length-drop 1 (items_from s.slots start) ∙ ap (λ n. n - 1) (sym t.counted)
 
   room : length (items_from taken.slots next) < length taken.slots
   room = let fit = t.laid_out.fit in let same = t.after.same_size in let counted = t.counted in let some = t.some in omega (arith, count)

@@ -3,7 +3,6 @@ use Rattle.std.proofs.Common.{◌≡◌, ℕ, ◌+◌, ◌<◌, List, [], ◌∷
 use Rattle.std.specs.Prelude.{min}
 use Rattle.std.proofs.Math.Seq.{drop-length}
 use Rattle.std.proofs.lemmas.List.{drop-drop}
-use Rattle.ring_core.specs.Contents.{rest}
 use Rattle.ring_fixed.specs.View.{View, after_put, after_take, after_clear}
 
 module _ {X : Type 0} where
@@ -11,14 +10,10 @@ module _ {X : Type 0} where
   abbrev pub after_takes : ℕ → View X → View X
   after_takes k v = record v { items = drop k v.items; changes = v.changes + k }
 
-  pub rest-drop : (xs : List X) → rest xs ≡ drop 1 xs
-  rest-drop [] = refl
-  rest-drop (x ∷ xs) = refl
-
   pub after_takes-more : (k : ℕ) (v : View X) → k < length v.items → after_take (after_takes k v) ≡ after_takes (k + 1) v
   after_takes-more k v more =
       let one : v.changes + k + min (length (drop k v.items)) 1 ≡ v.changes + (k + 1) = omega (arith, length-drop k v.items) in
-      rw (rest-drop (drop k v.items), drop-drop, one) refl
+      rw (drop-drop, one) refl
 
   pub after_takes-all : (k : ℕ) (v : View X) → k ≡ length v.items → after_takes k v ≡ after_clear v
   after_takes-all k v all = rw (all, drop-length v.items) refl

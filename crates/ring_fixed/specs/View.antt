@@ -1,6 +1,6 @@
 -- What a contract sees of a ring of a fixed capacity, and what each call makes of that.
-use Rattle.std.specs.Prelude.{ℕ, ◌+◌, ◌-◌, min, List, [], ◌∷◌, ◌++◌, length, Some, slice_set}
-use Rattle.ring_core.specs.Contents.{keep_last, rest}
+use Rattle.std.specs.Prelude.{ℕ, ◌+◌, ◌-◌, min, List, [], ◌∷◌, ◌++◌, drop, length, Some, slice_set}
+use Rattle.ring_core.specs.Contents.{keep_last}
 
 -- its items, oldest first, how many changes its slots have had, and how many items it holds at most
 pub record View (X : Type 0) : Type 0 where
@@ -15,7 +15,7 @@ module _ {X : Type 0} where
 
   -- the first item taken, if there is one, which changes its slot
   abbrev pub after_take : View X → View X
-  after_take v = record v { items = rest v.items; changes = v.changes + min (length v.items) 1 }
+  after_take v = record v { items = drop 1 v.items; changes = v.changes + min (length v.items) 1 }
 
   -- an item pushed: one change for it, and one where the first item gives way
   abbrev pub after_push : ℕ → View X → X → View X

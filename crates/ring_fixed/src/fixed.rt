@@ -9,7 +9,7 @@ ghost use Rattle.ring_fixed.specs.View.{after_put, after_take, after_push, after
 ghost use Rattle.ring_fixed.specs.Layout.{IsLaidOut, LaysOut, view_from};
 
 use crate::position::{position, signed_position};
-use ring_slots::SlotRow;
+use ring_slots::RingSlots;
 use std::marker::PhantomData;
 
 /// `len` items in the slots from `start` on. All other slots are empty.
@@ -21,7 +21,7 @@ pub struct Fixed<T, S> {
     item: PhantomData<T>,
 }
 
-impl<T: Drop, S: SlotRow<T>> Fixed<T, S> {
+impl<T: Drop, S: RingSlots<T>> Fixed<T, S> {
     ghost use Rattle.ring_fixed.specs.contracts.fixed.Fixed.{the_row};
     ghost use Rattle.ring_fixed.specs.fixed.Sound.{view_of, with_item, IsSound, ChangesTo};
 

@@ -4,8 +4,8 @@ ghost use Rattle.std.specs.Borrow.{sem};
 ghost use Rattle.ring_slots.specs.Slots.{IsEmptyAt, IsFullAt, changed, slot_at};
 
 use crate::place::{wrapped, wrapped_after, wrapped_next};
-use crate::row::SlotRow;
-use crate::tally::Tally;
+use crate::slots::RingSlots;
+use crate::change_count::ChangeCount;
 use std::marker::Model;
 
 // An array in a struct of its own, so that a contract can say what a loan of one element leaves.
@@ -52,7 +52,7 @@ impl<T, const N: usize> Cells<Option<T>, N> {
 #[derive(Drop)]
 pub struct ArraySlots<T, const CAP: usize> {
     cells: Cells<Option<T>, CAP>,
-    tally: Tally,
+    changes: ChangeCount,
 }
 
 impl<T, const CAP: usize> Model for ArraySlots<T, CAP> {
@@ -61,7 +61,7 @@ impl<T, const CAP: usize> Model for ArraySlots<T, CAP> {
 
     ghost Value = { Slots T };
 
-    ghost view = { λ s. record { slots = s.cells.xs; changes = s.tally.count } };
+    ghost view = { λ s. record { slots = s.cells.xs; changes = s.changes.count } };
 
     ghost invariant = { λ s. length s.cells.xs ≡ CAP };
 }
@@ -75,7 +75,7 @@ impl<T: Drop, const CAP: usize> ArraySlots<T, CAP> {
     {
         ArraySlots {
             cells: Cells::empty(),
-            tally: Tally::new(),
+            changes: ChangeCount::new(),
         }
     }
 
@@ -124,12 +124,12 @@ impl<T: Drop, const CAP: usize> ArraySlots<T, CAP> {
         ensures* writes_back { sem 𝓛 (lends_slot T.row CAP.row self.entry place result) }
         ensures value { result.now ≡ slot_at self.old place }
     {
-        self.tally = self.tally.next();
+        self.changes = self.changes.next();
         self.cells.at_mut(place)
     }
 }
 
-impl<T: Drop, const CAP: usize> SlotRow<T> for ArraySlots<T, CAP> {
+impl<T: Drop, const CAP: usize> RingSlots<T> for ArraySlots<T, CAP> {
     ghost seen = { λ s. s };
 
     ghost is_size = { λ _. Unit {0} };

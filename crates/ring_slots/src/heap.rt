@@ -7,7 +7,7 @@ ghost use Rattle.std.specs.Vec.Ownership.{FitsInBlock};
 ghost use Rattle.ring_slots.specs.Slots.{IsEmptyAt, IsFullAt, changed, slot_at};
 
 use crate::place::masked;
-use crate::row::SlotRow;
+use crate::slots::RingSlots;
 use std::alloc::{AllocError, Allocator, Global};
 use std::marker::Model;
 use std::mem::{align_of, size_of};
@@ -198,7 +198,7 @@ impl<T> Drop for HeapSlots<T> {
     }
 }
 
-impl<T: Drop> SlotRow<T> for HeapSlots<T> {
+impl<T: Drop> RingSlots<T> for HeapSlots<T> {
     ghost seen = { λ s. s };
 
     ghost is_size = { IsPowerOfTwo };

@@ -2,13 +2,13 @@
 #![tactic(auto)]
 
 mod array;
+mod change_count;
 mod heap;
 mod place;
-mod row;
-mod tally;
+mod slots;
 #[cfg(test)]
 mod tests;
 
 pub use array::ArraySlots;
 pub use heap::HeapSlots;
-pub use row::SlotRow;
+pub use slots::RingSlots;

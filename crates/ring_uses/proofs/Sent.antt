@@ -4,17 +4,12 @@ use Rattle.std.proofs.Math.ListN.{set}
 use Rattle.std.proofs.Math.Seq.{drop-cons, set-append_seam, take-append-add, take-append_seam, take-suc}
 use Rattle.std.proofs.lemmas.List.{length-take, take-append-drop}
 use Rattle.std.proofs.lemmas.Option.{slice_get_within}
-use Rattle.ringbuffer.specs.Contents.{rest}
 
 -- byte number n is x
 module _ (bytes : List ℕ) (n x : ℕ) (first : slice_get (drop n bytes) 0 ≡ Some x) where
   -- there is such a byte
   pub one_more : n < length bytes
   one_more = omega (arith, slice_get_within (drop n bytes) 0 x first, length-drop n bytes)
-
-  -- the bytes behind it
-  pub rest-drop : rest (drop n bytes) ≡ drop (n + 1) bytes
-  rest-drop = rw (drop-cons bytes n x one_more, add-one) refl
 
   -- it lands behind those that were copied
   pub set-copied : (output : List ℕ) → n < length output → set (take n bytes ++ drop n output) n x ≡ take (n + 1) bytes ++ drop (n + 1) output

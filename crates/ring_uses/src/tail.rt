@@ -3,7 +3,7 @@
 ghost use Rattle.std.specs.Prelude.{◌≡◌, ◌<◌, [], ◌∷◌, ◌++◌, IfOk, Some, map, string_bytes};
 ghost use Rattle.std.specs.Str.Lines.{lines};
 ghost use Rattle.ringbuffer.specs.Contents.{keep_last};
-ghost use Rattle.ringbuffer.specs.Walk.{ReadsInOrder, unread};
+ghost use Rattle.ringbuffer.specs.Walk.{ReadsInOrder, iterator_to_come};
 
 use ringbuffer::{AllocRingBuffer, RingBuffer, RingBufferIterator};
 use std::alloc::{AllocError, Global};
@@ -48,7 +48,7 @@ impl LogTail {
 
     /// A walk over the lines, oldest first.
     pub fn iter(&self) -> RingBufferIterator<'_, String, AllocRingBuffer<String>>
-        ensures left { map string_bytes (unread ⟦<AllocRingBuffer<String> as RingBuffer<String>>⟧.contents result) ≡ self.now.lines }
+        ensures left { map string_bytes (iterator_to_come ⟦<AllocRingBuffer<String> as RingBuffer<String>>⟧.contents result) ≡ self.now.lines }
         ensures runs { ReadsInOrder ⟦<AllocRingBuffer<String> as RingBuffer<String>>⟧.contents }
     {
         self.lines.iter()

@@ -6,7 +6,7 @@ ghost use Rattle.std.specs.Cmp.Lexicographic.{lists_per, pointwise};
 ghost use Rattle.std.specs.List.{AllZip};
 ghost use Rattle.std.proofs.lemmas.Cmp.{lists_equiv, on_equiv};
 ghost use Rattle.ring_core.specs.Contents.{ChangesSlots, keep_last, overwritten, place};
-ghost use Rattle.ring_core.specs.Walk.{ReadsInOrder, ReadsInReverse, StartsOver, unmoved, unread};
+ghost use Rattle.ring_core.specs.Walk.{ReadsInOrder, ReadsInReverse, StartsOver, into_iter_to_come, iterator_to_come};
 ghost use Rattle.ring_fixed.specs.View.{after_push, after_write};
 
 mod convert;
@@ -17,7 +17,7 @@ use ring_core::{
 };
 use ring_fixed::fixed::Fixed;
 use ring_fixed::shared::{extend_cloned, same_items};
-use ring_slots::{ArraySlots, SlotRow};
+use ring_slots::{ArraySlots, RingSlots};
 use std::alloc::AllocError;
 use std::marker::Model;
 use std::ops::{Index, IndexMut};
@@ -185,7 +185,7 @@ impl<T: Drop, const CAP: usize> ConstGenericRingBuffer<T, CAP> {
     /// A walk over the items, oldest first, from either end.
     #[inline]
     pub fn iter(&self) -> RingBufferIterator<'_, T, Self>
-        ensures left { unread ⟦<ConstGenericRingBuffer<T, CAP> as RingBuffer<T>>⟧.contents result ≡ self.now.items }
+        ensures left { iterator_to_come ⟦<ConstGenericRingBuffer<T, CAP> as RingBuffer<T>>⟧.contents result ≡ self.now.items }
         ensures runs { ReadsInOrder ⟦<ConstGenericRingBuffer<T, CAP> as RingBuffer<T>>⟧.contents }
         ensures runs_back { ReadsInReverse ⟦<ConstGenericRingBuffer<T, CAP> as RingBuffer<T>>⟧.contents }
     {
@@ -214,7 +214,7 @@ impl<T: Drop, const CAP: usize> ConstGenericRingBuffer<T, CAP> {
     /// A walk that owns the ring, oldest item first.
     #[inline]
     pub fn into_iter(self) -> RingBufferIntoIterator<T, Self>
-        ensures { unmoved ⟦<ConstGenericRingBuffer<T, CAP> as RingBuffer<T>>⟧.contents result ≡ self.items }
+        ensures { into_iter_to_come ⟦<ConstGenericRingBuffer<T, CAP> as RingBuffer<T>>⟧.contents result ≡ self.items }
     {
         RingBufferIntoIterator::new(self)
     }
@@ -225,7 +225,7 @@ impl<T: Drop, const CAP: usize> IntoIterator for ConstGenericRingBuffer<T, CAP> 
 
     type IntoIter = RingBufferIntoIterator<T, ConstGenericRingBuffer<T, CAP>>;
 
-    ghost into_iter_gives = { λ ring r. unmoved ⟦<ConstGenericRingBuffer<T, CAP> as RingBuffer<T>>⟧.contents r ≡ ring.items };
+    ghost into_iter_gives = { λ ring r. into_iter_to_come ⟦<ConstGenericRingBuffer<T, CAP> as RingBuffer<T>>⟧.contents r ≡ ring.items };
 
     #[inline]
     fn into_iter(self) -> RingBufferIntoIterator<T, ConstGenericRingBuffer<T, CAP>> {
@@ -238,7 +238,7 @@ impl<'a, T: Drop, const CAP: usize> IntoIterator for &'a ConstGenericRingBuffer<
 
     type IntoIter = RingBufferIterator<'a, T, ConstGenericRingBuffer<T, CAP>>;
 
-    ghost into_iter_gives = { λ ring r. (unread ⟦<ConstGenericRingBuffer<T, CAP> as RingBuffer<T>>⟧.contents r ≡ ring.now.items) × ReadsInOrder ⟦<ConstGenericRingBuffer<T, CAP> as RingBuffer<T>>⟧.contents };
+    ghost into_iter_gives = { λ ring r. (iterator_to_come ⟦<ConstGenericRingBuffer<T, CAP> as RingBuffer<T>>⟧.contents r ≡ ring.now.items) × ReadsInOrder ⟦<ConstGenericRingBuffer<T, CAP> as RingBuffer<T>>⟧.contents };
 
     #[inline]
     fn into_iter(self) -> RingBufferIterator<'a, T, ConstGenericRingBuffer<T, CAP>> {

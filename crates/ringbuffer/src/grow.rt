@@ -5,7 +5,7 @@ ghost use Rattle.std.specs.Borrow.{sem};
 ghost use Rattle.std.specs.Cmp.Lexicographic.{lists_per, pointwise};
 ghost use Rattle.std.specs.List.{AllZip};
 ghost use Rattle.std.proofs.lemmas.Cmp.{lists_equiv};
-ghost use Rattle.ring_core.specs.Walk.{ReadsInOrder, ReadsInReverse, StartsOver, unmoved, unread};
+ghost use Rattle.ring_core.specs.Walk.{ReadsInOrder, ReadsInReverse, StartsOver, into_iter_to_come, iterator_to_come};
 
 mod convert;
 
@@ -170,7 +170,7 @@ impl<T: Drop> GrowableAllocRingBuffer<T> {
     /// A walk over the items, oldest first, from either end.
     #[inline]
     pub fn iter(&self) -> RingBufferIterator<'_, T, Self>
-        ensures left { unread ⟦<GrowableAllocRingBuffer<T> as RingBuffer<T>>⟧.contents result ≡ self.now }
+        ensures left { iterator_to_come ⟦<GrowableAllocRingBuffer<T> as RingBuffer<T>>⟧.contents result ≡ self.now }
         ensures runs { ReadsInOrder ⟦<GrowableAllocRingBuffer<T> as RingBuffer<T>>⟧.contents }
         ensures runs_back { ReadsInReverse ⟦<GrowableAllocRingBuffer<T> as RingBuffer<T>>⟧.contents }
     {
@@ -199,7 +199,7 @@ impl<T: Drop> GrowableAllocRingBuffer<T> {
     /// A walk that owns the ring, oldest item first.
     #[inline]
     pub fn into_iter(self) -> RingBufferIntoIterator<T, Self>
-        ensures { unmoved ⟦<GrowableAllocRingBuffer<T> as RingBuffer<T>>⟧.contents result ≡ self }
+        ensures { into_iter_to_come ⟦<GrowableAllocRingBuffer<T> as RingBuffer<T>>⟧.contents result ≡ self }
     {
         RingBufferIntoIterator::new(self)
     }
@@ -210,7 +210,7 @@ impl<T: Drop> IntoIterator for GrowableAllocRingBuffer<T> {
 
     type IntoIter = RingBufferIntoIterator<T, GrowableAllocRingBuffer<T>>;
 
-    ghost into_iter_gives = { λ ring r. unmoved ⟦<GrowableAllocRingBuffer<T> as RingBuffer<T>>⟧.contents r ≡ ring };
+    ghost into_iter_gives = { λ ring r. into_iter_to_come ⟦<GrowableAllocRingBuffer<T> as RingBuffer<T>>⟧.contents r ≡ ring };
 
     #[inline]
     fn into_iter(self) -> RingBufferIntoIterator<T, GrowableAllocRingBuffer<T>> {
@@ -223,7 +223,7 @@ impl<'a, T: Drop> IntoIterator for &'a GrowableAllocRingBuffer<T> {
 
     type IntoIter = RingBufferIterator<'a, T, GrowableAllocRingBuffer<T>>;
 
-    ghost into_iter_gives = { λ ring r. (unread ⟦<GrowableAllocRingBuffer<T> as RingBuffer<T>>⟧.contents r ≡ ring.now) × ReadsInOrder ⟦<GrowableAllocRingBuffer<T> as RingBuffer<T>>⟧.contents };
+    ghost into_iter_gives = { λ ring r. (iterator_to_come ⟦<GrowableAllocRingBuffer<T> as RingBuffer<T>>⟧.contents r ≡ ring.now) × ReadsInOrder ⟦<GrowableAllocRingBuffer<T> as RingBuffer<T>>⟧.contents };
 
     #[inline]
     fn into_iter(self) -> RingBufferIterator<'a, T, GrowableAllocRingBuffer<T>> {

@@ -7,7 +7,7 @@ ghost use Rattle.std.specs.Cmp.Lexicographic.{lists_per, pointwise};
 ghost use Rattle.std.specs.List.{AllZip};
 ghost use Rattle.std.proofs.lemmas.Cmp.{and_equiv, lists_equiv, nat_eq_equiv, on_equiv};
 ghost use Rattle.ring_core.specs.Contents.{overwritten, place};
-ghost use Rattle.ring_core.specs.Walk.{ReadsInOrder, ReadsInReverse, StartsOver, unmoved, unread};
+ghost use Rattle.ring_core.specs.Walk.{ReadsInOrder, ReadsInReverse, StartsOver, into_iter_to_come, iterator_to_come};
 ghost use Rattle.ring_fixed.specs.View.{after_push, after_write};
 
 mod convert;
@@ -18,7 +18,7 @@ use ring_core::{
 };
 use ring_fixed::fixed::Fixed;
 use ring_fixed::shared::{extend_cloned, same_items};
-use ring_slots::{HeapSlots, SlotRow};
+use ring_slots::{HeapSlots, RingSlots};
 use std::alloc::{AllocError, Global};
 use std::marker::Model;
 use std::ops::{Index, IndexMut};
@@ -247,7 +247,7 @@ impl<T: Drop> AllocRingBuffer<T> {
     /// A walk over the items, oldest first, from either end.
     #[inline]
     pub fn iter(&self) -> RingBufferIterator<'_, T, Self>
-        ensures left { unread ⟦<AllocRingBuffer<T> as RingBuffer<T>>⟧.contents result ≡ self.now.items }
+        ensures left { iterator_to_come ⟦<AllocRingBuffer<T> as RingBuffer<T>>⟧.contents result ≡ self.now.items }
         ensures runs { ReadsInOrder ⟦<AllocRingBuffer<T> as RingBuffer<T>>⟧.contents }
         ensures runs_back { ReadsInReverse ⟦<AllocRingBuffer<T> as RingBuffer<T>>⟧.contents }
     {
@@ -276,7 +276,7 @@ impl<T: Drop> AllocRingBuffer<T> {
     /// A walk that owns the ring, oldest item first.
     #[inline]
     pub fn into_iter(self) -> RingBufferIntoIterator<T, Self>
-        ensures { unmoved ⟦<AllocRingBuffer<T> as RingBuffer<T>>⟧.contents result ≡ self.items }
+        ensures { into_iter_to_come ⟦<AllocRingBuffer<T> as RingBuffer<T>>⟧.contents result ≡ self.items }
     {
         RingBufferIntoIterator::new(self)
     }
@@ -287,7 +287,7 @@ impl<T: Drop> IntoIterator for AllocRingBuffer<T> {
 
     type IntoIter = RingBufferIntoIterator<T, AllocRingBuffer<T>>;
 
-    ghost into_iter_gives = { λ ring r. unmoved ⟦<AllocRingBuffer<T> as RingBuffer<T>>⟧.contents r ≡ ring.items };
+    ghost into_iter_gives = { λ ring r. into_iter_to_come ⟦<AllocRingBuffer<T> as RingBuffer<T>>⟧.contents r ≡ ring.items };
 
     #[inline]
     fn into_iter(self) -> RingBufferIntoIterator<T, AllocRingBuffer<T>> {
@@ -300,7 +300,7 @@ impl<'a, T: Drop> IntoIterator for &'a AllocRingBuffer<T> {
 
     type IntoIter = RingBufferIterator<'a, T, AllocRingBuffer<T>>;
 
-    ghost into_iter_gives = { λ ring r. (unread ⟦<AllocRingBuffer<T> as RingBuffer<T>>⟧.contents r ≡ ring.now.items) × ReadsInOrder ⟦<AllocRingBuffer<T> as RingBuffer<T>>⟧.contents };
+    ghost into_iter_gives = { λ ring r. (iterator_to_come ⟦<AllocRingBuffer<T> as RingBuffer<T>>⟧.contents r ≡ ring.now.items) × ReadsInOrder ⟦<AllocRingBuffer<T> as RingBuffer<T>>⟧.contents };
 
     #[inline]
     fn into_iter(self) -> RingBufferIterator<'a, T, AllocRingBuffer<T>> {

@@ -5,7 +5,7 @@ use Rattle.std.specs.Int.{w64, w128}
 use Rattle.std.proofs.lemmas.Int.{ints}
 use Rattle.std.proofs.lemmas.List.Elements.{All-head, All-push, All-tail}
 use Rattle.std.proofs.lemmas.List.Sums.{fold_push}
-use Rattle.ringbuffer.specs.Contents.{IsWithin, keep_last, overwritten, rest}
+use Rattle.ringbuffer.specs.Contents.{IsWithin, keep_last, overwritten}
 use Rattle.window.specs.Window.{IsSumOf, total}
 
 -- By induction on the list: a sum that begins at a number is that much more.
@@ -68,7 +68,7 @@ overwritten-keep_last {A} (Some n) xs x within = rw (length-append xs (x ∷ [])
   split (suc (suc k)) ys one some = absurd (omega arith)
 
 -- A list with a first item is that item and the rest.
-first-rest : {A : Type 0} (xs : List A) (x : A) → Some x ≡ slice_get xs 0 → xs ≡ x ∷ rest xs
+first-rest : {A : Type 0} (xs : List A) (x : A) → Some x ≡ slice_get xs 0 → xs ≡ x ∷ drop 1 xs
 first-rest [] x first = absurd (let none : Some x ≡ None = first in cc)
 first-rest (y ∷ ys) x first = let same : x ≡ y = let is : Some x ≡ Some y = first in cc in rw same refl
 
@@ -90,7 +90,7 @@ module _ (limit : Option ℕ) (xs : List ℤ) (x : ℤ) {sum : ℤ} (old : Optio
 -- A dequeue of the first of fewer than 2^64 samples that are summed up.
 module _ (xs : List ℤ) (x : ℤ) {sum : ℤ} (first : Some x ≡ slice_get xs 0) (few : length xs < 2 ^ 64) (is : IsSumOf xs sum) where
   -- The sum is without it,
-  pub IsSumOf-left : {left : ℤ} → left ≡ sum -ℤ x → IsSumOf (rest xs) left
+  pub IsSumOf-left : {left : ℤ} → left ≡ sum -ℤ x → IsSumOf (drop 1 xs) left
   IsSumOf-left takes = IsSumOf-rest (rw (first-rest xs x first) at is) takes
 
   -- of one sample fewer.

@@ -1,7 +1,7 @@
 //! A window over a ring of samples, with their sum.
 
-ghost use Rattle.std.specs.Prelude.{◌≡◌, ◌-ℤ◌, [], ◌∷◌, ◌++◌, IfErr, IfOk, IsOk, IsSome, OnOk, length, option_to_list, slice_get};
-ghost use Rattle.ringbuffer.specs.Contents.{IsWithin, keep_last, overwritten, rest};
+ghost use Rattle.std.specs.Prelude.{◌≡◌, ◌-ℤ◌, [], ◌∷◌, ◌++◌, IfErr, IfOk, IsOk, IsSome, OnOk, drop, length, option_to_list, slice_get};
+ghost use Rattle.ringbuffer.specs.Contents.{IsWithin, keep_last, overwritten};
 ghost use Rattle.window.specs.Window.{IsSumOf, total};
 
 use ringbuffer::{RingBuffer, RingBufferIterator};
@@ -60,7 +60,7 @@ impl<R: RingBuffer<i64>> WindowSum<R> {
     /// Takes out the oldest sample. Does nothing to an empty window.
     pub fn forget_oldest(&mut self) -> Option<i64>
         ensures value { result ≡ slice_get self.old.contents 0 }
-        ensures rest { self.new.contents ≡ rest self.old.contents }
+        ensures rest { self.new.contents ≡ drop 1 self.old.contents }
         ensures limit { self.new.limit ≡ self.old.limit }
     {
         // As in `push`.

@@ -3,7 +3,7 @@ use Rattle.std.proofs.Common.{◌≡◌, ◌∙◌, sym, ap, refl, Bool, true, f
 use Rattle.std.specs.Cmp.Lexicographic.{pointwise}
 use Rattle.std.specs.Iterator.{Yields, YieldsFirstRef}
 use Rattle.std.specs.List.{AllZip}
-use Rattle.ring_core.specs.Walk.{unread}
+use Rattle.ring_core.specs.Walk.{iterator_to_come}
 use Rattle.ring_fixed.proofs.shared.same_items.Goals as goal
 
 -- what a walk gave and what it has left is what it had
@@ -30,7 +30,7 @@ decided left eq r s t u v (Some x) (Some y) one other last = rw (one, other, las
 
 pub returns-then-len : goal.returns-then-len
 returns-then-len g c =
-    let left = unread g.R.RingBuffer.contents in
+    let left = iterator_to_come g.R.RingBuffer.contents in
     let (it, xs, ys, o, p, u, v, is_it, (s, took, stepped), (t, took_too, stepped_too), same, last) = c.eq.ensures.ran in
     let ours : map (λ x. x.now) xs ++ left s ≡ g.R.RingBuffer.contents c.args.a.now = sym (given left c.new.result s xs took) ∙ c.new.ensures.left in
     let theirs : map (λ x. x.now) ys ++ left t ≡ g.R.RingBuffer.contents c.args.b.now = sym (given left it t ys took_too) ∙ ap left is_it ∙ c.new-then-len.ensures.left in

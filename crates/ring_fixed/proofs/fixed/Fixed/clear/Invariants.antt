@@ -5,5 +5,5 @@ use Rattle.ring_fixed.proofs.fixed.Fixed.clear.Given as goal
 
 abbrev pub invariant-loop : goal.invariant-loop
 invariant-loop g l =
-    LaysOut g.S.SlotRow.is_size (g.S.SlotRow.seen l.initial.self.slots) (g.S.SlotRow.seen l.self.slots) l.start
-    (after_takes l.counter (view_from (g.S.SlotRow.seen l.initial.self.slots) l.initial.self.start))
+    LaysOut g.S.RingSlots.is_size (g.S.RingSlots.seen l.initial.self.slots) (g.S.RingSlots.seen l.self.slots) l.start
+    (after_takes l.counter (view_from (g.S.RingSlots.seen l.initial.self.slots) l.initial.self.start))

@@ -6,11 +6,11 @@ use Rattle.ring_fixed.proofs.fixed.Fixed.extend.Given as goal
 
 abbrev pub invariant-loop-item : goal.invariant-loop-item
 invariant-loop-item g l =
-    let now = after_extend l.fn.capacity (view_from (g.S.SlotRow.seen l.initial.self.slots) l.initial.self.start) l.yielded in
+    let now = after_extend l.fn.capacity (view_from (g.S.RingSlots.seen l.initial.self.slots) l.initial.self.start) l.yielded in
     record {
       can_next : (goal.iterator-loop-item g).can_next l.item-iterator;
       ends : (goal.iterator-loop-item g).is_finite l.item-iterator;
-      LaysOut-items : LaysOut g.S.SlotRow.is_size (g.S.SlotRow.seen l.initial.self.slots) (g.S.SlotRow.seen l.self.slots) l.start now;
+      LaysOut-items : LaysOut g.S.RingSlots.is_size (g.S.RingSlots.seen l.initial.self.slots) (g.S.RingSlots.seen l.self.slots) l.start now;
       len : l.len ≡ length now.items;
       within : l.len ≤ l.fn.capacity;
     }

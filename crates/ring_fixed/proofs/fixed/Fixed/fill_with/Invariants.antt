@@ -10,5 +10,5 @@ invariant-loop-len g l = record {
   callable : goal.F-IsAlwaysCallable g l.make;
   start : l.self.start ≡ l.start;
   put : (xs : List _) × FoldsTo (goal.F-step g) l.fn.make xs l.make × (length xs ≡ l.len)
-      × LaysOut g.S.SlotRow.is_size (g.S.SlotRow.seen l.initial.self.slots) (g.S.SlotRow.seen l.self.slots) l.start (after_puts xs (view_from (g.S.SlotRow.seen l.initial.self.slots) l.start));
+      × LaysOut g.S.RingSlots.is_size (g.S.RingSlots.seen l.initial.self.slots) (g.S.RingSlots.seen l.self.slots) l.start (after_puts xs (view_from (g.S.RingSlots.seen l.initial.self.slots) l.start));
 }

@@ -1,5 +1,6 @@
-use Rattle.std.proofs.Common.{◌≡◌, ◌∙◌, arith, drop, slice_get, Some}
-use Rattle.ring_uses.proofs.Sent.{one_more, rest-drop, set-copied}
+use Rattle.std.proofs.Common.{◌≡◌, ◌∙◌, arith, drop, refl, slice_get, Some}
+use Rattle.std.proofs.lemmas.List.{drop-drop}
+use Rattle.ring_uses.proofs.Sent.{one_more, set-copied}
 use Rattle.ring_uses.proofs.pipe.Pipe.send.Goals as goal
 
 pub loop-place-preserved : goal.loop-place-preserved
@@ -10,6 +11,6 @@ loop-place-preserved g c =
     record {
       counted = omega arith;
       there = omega (arith, one_more c.args.self.now c.loop-place.count c.in-Some.byte first);
-      left = c.dequeue.ensures.rest ∙ rw done.left (rest-drop c.args.self.now c.loop-place.count c.in-Some.byte first);
+      left = c.dequeue.ensures.rest ∙ rw (done.left, drop-drop) refl;
       sent = rw (← done.counted, done.sent) (set-copied c.args.self.now c.loop-place.count c.in-Some.byte first c.args.output.now (omega arith));
     }

@@ -4,7 +4,7 @@ ghost use Rattle.std.specs.Borrow.{Lends, sem};
 ghost use Rattle.ring_slots.specs.Slots.{Slots, IsEmptyAt, IsFullAt, changed, slot_at};
 
 /// A row of slots, with a way to count places round it.
-pub trait SlotRow<T: Drop>: Sized {
+pub trait RingSlots<T: Drop>: Sized {
     ghost seen: { Self → Slots T };
 
     // What the number of slots has to meet, so that places are found.

@@ -6,26 +6,26 @@ use std::marker::Model;
 
 // It takes no bytes. A count comes from `new` or `next` alone.
 #[derive(Drop)]
-pub(crate) struct Tally {
+pub(crate) struct ChangeCount {
     pub(crate) ghost count: { ℕ },
 }
 
-impl Model for Tally {
+impl Model for ChangeCount {
     ghost also_owns = { λ _. ftrue };
 }
 
-impl Tally {
-    pub(crate) fn new() -> Tally
+impl ChangeCount {
+    pub(crate) fn new() -> ChangeCount
         ensures { result.count ≡ 0 }
     {
-        Tally {}
+        ChangeCount {}
     }
 
     // The count after one more change.
     #[inline]
-    pub(crate) fn next(&self) -> Tally
+    pub(crate) fn next(&self) -> ChangeCount
         ensures { result.count ≡ self.now.count + 1 }
     {
-        Tally {}
+        ChangeCount {}
     }
 }

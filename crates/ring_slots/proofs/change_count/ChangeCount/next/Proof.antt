@@ -1,9 +1,9 @@
 -- The count that a proof gives the new struct is one more than that of the struct behind the reference.
 use Rattle.ring_slots.proofs.Walk.{refl, [], ◌∷◌, ◌+◌, named, vstruct, vnil, ftrue, ‵, raw, ◌⊛◌, ◌$◌, ◌∵◌, !, qed, move, keep, split, suffices, done, no_more, returns, enter, agg, alloc_all, pass_all, free_all, look_at, sets, yes, owns, shr_vals, shr_Tells, pure_i, plain, types_at, alive, says, ends_at, Stays, stay_none_ref, Goes-none_ref, proved}
-use Rattle.ring_slots.specs.contracts.tally.Tally.{the_row}
-use Rattle.ring_slots.specs.contracts.tally.Tally.next as contract
-use Rattle.ring_slots.proofs.tally.Tally.next.Statement.{statement}
-use Rattle.ring_slots.proofs.tally.Tally.next.Code as code
+use Rattle.ring_slots.specs.contracts.change_count.ChangeCount.{the_row}
+use Rattle.ring_slots.specs.contracts.change_count.ChangeCount.next as contract
+use Rattle.ring_slots.proofs.change_count.ChangeCount.next.Statement.{statement}
+use Rattle.ring_slots.proofs.change_count.ChangeCount.next.Code as code
 
 abbrev stayed : Stays contract.ended.signature.params contract.ended.kept
 stayed = (stay_none_ref (0 ∷ []) tt (plain (λ _. the_row)) yes, tt)
