@@ -224,10 +224,12 @@ impl Case for SideBySide {
         push_all(rt, &mut ring, &[1, 2, 3]);
         let mut one = RingBufferIterator::new(&ring);
         let mut other = RingBufferIterator::new(&ring);
-        for item in 1..4 {
-            assert_eq!(rt; one.next().copied(), Some(item));
-            assert_eq!(rt; other.next().copied(), Some(item));
-        }
+        assert_eq!(rt; one.next().copied(), Some(1));
+        assert_eq!(rt; other.next().copied(), Some(1));
+        assert_eq!(rt; one.next().copied(), Some(2));
+        assert_eq!(rt; other.next().copied(), Some(2));
+        assert_eq!(rt; one.next().copied(), Some(3));
+        assert_eq!(rt; other.next().copied(), Some(3));
     }
 }
 
@@ -391,9 +393,9 @@ impl Case for DrainsThree {
     fn on<R: RingBuffer<i64> + Drop>(&self, rt: &(impl Abort + AllocGlobal), mut ring: R) {
         push_all(rt, &mut ring, &[1, 2, 3, 4]);
         let mut walk = RingBufferDrainingIterator::new(&mut ring);
-        for item in 1..4 {
-            assert_eq!(rt; walk.next(), Some(item));
-        }
+        assert_eq!(rt; walk.next(), Some(1));
+        assert_eq!(rt; walk.next(), Some(2));
+        assert_eq!(rt; walk.next(), Some(3));
         drop(walk);
         assert_holds(rt, &ring, &[4]);
     }
