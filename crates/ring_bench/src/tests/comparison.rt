@@ -1,5 +1,7 @@
 //! Equality and clones.
 
+ghost use Rattle.std.specs.Prelude.{◌<◌, ◌^◌};
+
 use super::{assert_holds, push_all};
 use ringbuffer::{AllocRingBuffer, ConstGenericRingBuffer, GrowableAllocRingBuffer, RingBuffer};
 use std::alloc::AllocError;
@@ -29,6 +31,56 @@ impl Twin for GrowableAllocRingBuffer<i64> {
     }
 }
 
+/// What a test does with a ring that is new, and another like it.
+trait TwinCase {
+    fn on<R: RingBuffer<i64> + PartialEq + Twin + Drop>(
+        &self,
+        rt: &impl Abort,
+        one: R,
+        other: R,
+    ) -> Result<(), AllocError>;
+}
+
+/// The case on two rings of each type that has a limit.
+fn on_fixed<const CAP: usize>(
+    rt: &(impl Abort + AllocGlobal),
+    case: &impl TwinCase,
+) -> Result<(), AllocError>
+    requires some { 0 < CAP }
+    requires few { CAP < 2 ^ 16 }
+{
+    case.on(
+        rt,
+        ConstGenericRingBuffer::<i64, CAP>::new(),
+        ConstGenericRingBuffer::<i64, CAP>::new(),
+    )?;
+    let one = AllocRingBuffer::new(rt.alloc(), CAP)?;
+    let other = AllocRingBuffer::new(rt.alloc(), CAP)?;
+    case.on(rt, one, other)
+}
+
+/// The case on two growable rings, which have room for so many items.
+fn on_growable<const CAP: usize>(
+    rt: &(impl Abort + AllocGlobal),
+    case: &impl TwinCase,
+) -> Result<(), AllocError> {
+    let one = GrowableAllocRingBuffer::with_capacity(rt.alloc(), CAP)?;
+    let other = GrowableAllocRingBuffer::with_capacity(rt.alloc(), CAP)?;
+    case.on(rt, one, other)
+}
+
+/// The case on two rings of each type.
+fn on_each<const CAP: usize>(
+    rt: &(impl Abort + AllocGlobal),
+    case: &impl TwinCase,
+) -> Result<(), AllocError>
+    requires some { 0 < CAP }
+    requires few { CAP < 2 ^ 16 }
+{
+    on_fixed::<CAP>(rt, case)?;
+    on_growable::<CAP>(rt, case)
+}
+
 #[test]
 fn a_default_ring_equals_a_new_one(rt: HostRuntime) {
     assert!(rt;
@@ -40,9 +92,15 @@ fn a_default_ring_equals_a_new_one(rt: HostRuntime) {
     );
 }
 
-#[test]
-fn rings_are_equal_where_their_items_are(rt: HostRuntime) -> Result<(), AllocError> {
-    fn on<R: RingBuffer<i64> + PartialEq + Drop>(rt: &impl Abort, mut one: R, mut other: R) {
+struct EqualItems;
+
+impl TwinCase for EqualItems {
+    fn on<R: RingBuffer<i64> + PartialEq + Twin + Drop>(
+        &self,
+        rt: &impl Abort,
+        mut one: R,
+        mut other: R,
+    ) -> Result<(), AllocError> {
         assert!(rt; one == other);
         push_all(rt, &mut one, &[1]);
         assert!(rt; one != other);
@@ -51,23 +109,13 @@ fn rings_are_equal_where_their_items_are(rt: HostRuntime) -> Result<(), AllocErr
         push_all(rt, &mut one, &[4]);
         push_all(rt, &mut other, &[2]);
         assert!(rt; one != other);
+        Ok(())
     }
-    on(
-        &rt,
-        ConstGenericRingBuffer::<i64, 4>::new(),
-        ConstGenericRingBuffer::<i64, 4>::new(),
-    );
-    on(
-        &rt,
-        AllocRingBuffer::new(rt.alloc(), 4)?,
-        AllocRingBuffer::new(rt.alloc(), 4)?,
-    );
-    on(
-        &rt,
-        GrowableAllocRingBuffer::with_capacity(rt.alloc(), 4)?,
-        GrowableAllocRingBuffer::with_capacity(rt.alloc(), 4)?,
-    );
-    Ok(())
+}
+
+#[test]
+fn rings_are_equal_where_their_items_are(rt: HostRuntime) -> Result<(), AllocError> {
+    on_each::<4>(&rt, &EqualItems)
 }
 
 #[test]
@@ -80,9 +128,15 @@ fn heap_rings_of_two_capacities_differ(rt: HostRuntime) -> Result<(), AllocError
     Ok(())
 }
 
-#[test]
-fn rings_may_be_equal_in_other_slots(rt: HostRuntime) -> Result<(), AllocError> {
-    fn on<R: RingBuffer<i64> + PartialEq + Drop>(rt: &impl Abort, mut one: R, mut other: R) {
+struct EqualInOtherSlots;
+
+impl TwinCase for EqualInOtherSlots {
+    fn on<R: RingBuffer<i64> + PartialEq + Twin + Drop>(
+        &self,
+        rt: &impl Abort,
+        mut one: R,
+        mut other: R,
+    ) -> Result<(), AllocError> {
         push_all(rt, &mut one, &[1, 2]);
         push_all(rt, &mut other, &[0, 0, 0]);
         for _ in 0..3 {
@@ -90,31 +144,27 @@ fn rings_may_be_equal_in_other_slots(rt: HostRuntime) -> Result<(), AllocError> 
         }
         push_all(rt, &mut other, &[1, 2]);
         assert!(rt; one == other);
+        Ok(())
     }
-    on(
-        &rt,
-        ConstGenericRingBuffer::<i64, 4>::new(),
-        ConstGenericRingBuffer::<i64, 4>::new(),
-    );
-    on(
-        &rt,
-        AllocRingBuffer::new(rt.alloc(), 4)?,
-        AllocRingBuffer::new(rt.alloc(), 4)?,
-    );
-    on(
-        &rt,
-        GrowableAllocRingBuffer::with_capacity(rt.alloc(), 4)?,
-        GrowableAllocRingBuffer::with_capacity(rt.alloc(), 4)?,
-    );
-    Ok(())
 }
 
 #[test]
-fn a_clone_stays_equal_under_the_same_pushes(rt: HostRuntime) -> Result<(), AllocError> {
+fn rings_may_be_equal_in_other_slots(rt: HostRuntime) -> Result<(), AllocError> {
+    on_each::<4>(&rt, &EqualInOtherSlots)
+}
+
+/// A ring and its clone get the same pushes. Both then hold these items.
+#[derive(Drop)]
+struct SamePushes {
+    held: &'static [i64],
+}
+
+impl TwinCase for SamePushes {
     fn on<R: RingBuffer<i64> + PartialEq + Twin + Drop>(
+        &self,
         rt: &impl Abort,
         mut ring: R,
-        items: &[i64],
+        _other: R,
     ) -> Result<(), AllocError> {
         push_all(rt, &mut ring, &[42, 32, 22]);
         let mut twin = ring.twin()?;
@@ -122,28 +172,32 @@ fn a_clone_stays_equal_under_the_same_pushes(rt: HostRuntime) -> Result<(), Allo
         push_all(rt, &mut ring, &[11, 12]);
         push_all(rt, &mut twin, &[11, 12]);
         assert!(rt; twin == ring);
-        assert_holds(rt, &ring, items);
-        assert_holds(rt, &twin, items);
+        assert_holds(rt, &ring, self.held);
+        assert_holds(rt, &twin, self.held);
         Ok(())
     }
-    on(
-        &rt,
-        ConstGenericRingBuffer::<i64, 4>::new(),
-        &[32, 22, 11, 12],
-    )?;
-    on(&rt, AllocRingBuffer::new(rt.alloc(), 4)?, &[32, 22, 11, 12])?;
-    on(
-        &rt,
-        GrowableAllocRingBuffer::with_capacity(rt.alloc(), 4)?,
-        &[42, 32, 22, 11, 12],
-    )
 }
 
 #[test]
-fn pushes_on_a_clone_leave_the_source(rt: HostRuntime) -> Result<(), AllocError> {
+fn a_clone_stays_equal_under_the_same_pushes(rt: HostRuntime) -> Result<(), AllocError> {
+    let fixed = SamePushes {
+        held: &[32, 22, 11, 12],
+    };
+    on_fixed::<4>(&rt, &fixed)?;
+    let growable = SamePushes {
+        held: &[42, 32, 22, 11, 12],
+    };
+    on_growable::<4>(&rt, &growable)
+}
+
+struct PushesOnAClone;
+
+impl TwinCase for PushesOnAClone {
     fn on<R: RingBuffer<i64> + PartialEq + Twin + Drop>(
+        &self,
         rt: &impl Abort,
         mut ring: R,
+        _other: R,
     ) -> Result<(), AllocError> {
         push_all(rt, &mut ring, &[1, 2]);
         let mut twin = ring.twin()?;
@@ -153,9 +207,16 @@ fn pushes_on_a_clone_leave_the_source(rt: HostRuntime) -> Result<(), AllocError>
         assert!(rt; twin != ring);
         Ok(())
     }
-    on(&rt, ConstGenericRingBuffer::<i64, 4>::new())?;
-    on(&rt, AllocRingBuffer::new(rt.alloc(), 4)?)?;
-    on(&rt, GrowableAllocRingBuffer::new(rt.alloc()))
+}
+
+#[test]
+fn pushes_on_a_clone_leave_the_source(rt: HostRuntime) -> Result<(), AllocError> {
+    on_fixed::<4>(&rt, &PushesOnAClone)?;
+    PushesOnAClone.on(
+        &rt,
+        GrowableAllocRingBuffer::new(rt.alloc()),
+        GrowableAllocRingBuffer::new(rt.alloc()),
+    )
 }
 
 #[test]

@@ -1,42 +1,55 @@
 //! Fills.
 
-use super::{assert_gives, assert_holds, push_all};
-use ringbuffer::{AllocRingBuffer, ConstGenericRingBuffer, GrowableAllocRingBuffer, RingBuffer};
+use super::{Case, assert_gives, assert_holds, on_fixed, push_all};
+use ringbuffer::{AllocRingBuffer, GrowableAllocRingBuffer, RingBuffer};
 use std::alloc::AllocError;
 use std::process::Abort;
 
-#[test]
-fn a_default_fill_fills_from_any_length(rt: HostRuntime) -> Result<(), AllocError> {
-    fn on<R: RingBuffer<i64> + Drop>(rt: &impl Abort, mut ring: R) {
+/// Pushes an item so many times.
+fn push_ones<R: RingBuffer<i64>>(rt: &impl Abort, ring: &mut R, times: usize) {
+    for _ in 0..times {
+        push_all(rt, ring, &[1]);
+    }
+}
+
+/// A ring that was filled over some items holds these, and gives them up.
+fn assert_filled<R: RingBuffer<i64>>(rt: &impl Abort, ring: &mut R, held: usize, items: &[i64]) {
+    assert_eq!(rt; ring.len(), items.len(), "over {held}");
+    assert_gives(rt, ring, items);
+}
+
+struct FillsByDefault;
+
+impl Case for FillsByDefault {
+    fn on<R: RingBuffer<i64> + Drop>(&self, rt: &(impl Abort + AllocGlobal), mut ring: R) {
         for held in 0..4 {
-            for _ in 0..held {
-                push_all(rt, &mut ring, &[1]);
-            }
+            push_ones(rt, &mut ring, held);
             assert!(rt; ring.fill_default().is_ok());
-            assert_eq!(rt; ring.len(), 4, "over {held}");
-            assert_gives(rt, &mut ring, &[0, 0, 0, 0]);
+            assert_filled(rt, &mut ring, held, &[0, 0, 0, 0]);
         }
     }
-    on(&rt, ConstGenericRingBuffer::<i64, 4>::new());
-    on(&rt, AllocRingBuffer::new(rt.alloc(), 4)?);
-    Ok(())
+}
+
+#[test]
+fn a_default_fill_fills_from_any_length(rt: HostRuntime) -> Result<(), AllocError> {
+    on_fixed::<4>(&rt, &FillsByDefault)
+}
+
+struct FillsByClones;
+
+impl Case for FillsByClones {
+    fn on<R: RingBuffer<i64> + Drop>(&self, rt: &(impl Abort + AllocGlobal), mut ring: R) {
+        for held in 0..4 {
+            push_ones(rt, &mut ring, held);
+            assert!(rt; ring.fill(3).is_ok());
+            assert_filled(rt, &mut ring, held, &[3, 3, 3, 3]);
+        }
+    }
 }
 
 #[test]
 fn a_fill_of_clones_fills_from_any_length(rt: HostRuntime) -> Result<(), AllocError> {
-    fn on<R: RingBuffer<i64> + Drop>(rt: &impl Abort, mut ring: R) {
-        for held in 0..4 {
-            for _ in 0..held {
-                push_all(rt, &mut ring, &[1]);
-            }
-            assert!(rt; ring.fill(3).is_ok());
-            assert_eq!(rt; ring.len(), 4, "over {held}");
-            assert_gives(rt, &mut ring, &[3, 3, 3, 3]);
-        }
-    }
-    on(&rt, ConstGenericRingBuffer::<i64, 4>::new());
-    on(&rt, AllocRingBuffer::new(rt.alloc(), 4)?);
-    Ok(())
+    on_fixed::<4>(&rt, &FillsByClones)
 }
 
 #[test]
@@ -53,10 +66,15 @@ fn a_fill_clones_vectors(rt: HostRuntime) -> Result<(), AllocError> {
     Ok(())
 }
 
-#[test]
-fn a_fill_takes_the_answers_of_its_closure(rt: HostRuntime) -> Result<(), AllocError> {
-    fn on<R: RingBuffer<i64> + Drop>(rt: &impl Abort, mut ring: R, held: &[i64]) {
-        push_all(rt, &mut ring, held);
+/// Fills by counting up, over these items.
+#[derive(Drop)]
+struct FillsByCounts {
+    held: &'static [i64],
+}
+
+impl Case for FillsByCounts {
+    fn on<R: RingBuffer<i64> + Drop>(&self, rt: &(impl Abort + AllocGlobal), mut ring: R) {
+        push_all(rt, &mut ring, self.held);
         let mut calls = 0i64;
         let filled = ring.fill_with(|| {
             let answer = calls;
@@ -68,16 +86,18 @@ fn a_fill_takes_the_answers_of_its_closure(rt: HostRuntime) -> Result<(), AllocE
         assert!(rt; ring.is_full());
         assert_holds(rt, &ring, &[0, 1, 2]);
     }
-    on(&rt, ConstGenericRingBuffer::<i64, 3>::new(), &[7, 8]);
-    on(&rt, ConstGenericRingBuffer::<i64, 3>::new(), &[9]);
-    on(&rt, AllocRingBuffer::new(rt.alloc(), 3)?, &[7, 8]);
-    on(&rt, AllocRingBuffer::new(rt.alloc(), 3)?, &[9]);
-    Ok(())
 }
 
 #[test]
-fn a_fill_keeps_the_state_of_its_closure(rt: HostRuntime) -> Result<(), AllocError> {
-    fn on<R: RingBuffer<i64> + Drop>(rt: &impl Abort, mut ring: R) {
+fn a_fill_takes_the_answers_of_its_closure(rt: HostRuntime) -> Result<(), AllocError> {
+    on_fixed::<3>(&rt, &FillsByCounts { held: &[7, 8] })?;
+    on_fixed::<3>(&rt, &FillsByCounts { held: &[9] })
+}
+
+struct FillsByTurns;
+
+impl Case for FillsByTurns {
+    fn on<R: RingBuffer<i64> + Drop>(&self, rt: &(impl Abort + AllocGlobal), mut ring: R) {
         let mut calls = 0i64;
         let mut last = 0i64;
         let filled = ring.fill_with(|| {
@@ -89,9 +109,11 @@ fn a_fill_keeps_the_state_of_its_closure(rt: HostRuntime) -> Result<(), AllocErr
         assert_holds(rt, &ring, &[1, 0, 1, 0]);
         assert_eq!(rt; calls, 4);
     }
-    on(&rt, ConstGenericRingBuffer::<i64, 4>::new());
-    on(&rt, AllocRingBuffer::new(rt.alloc(), 4)?);
-    Ok(())
+}
+
+#[test]
+fn a_fill_keeps_the_state_of_its_closure(rt: HostRuntime) -> Result<(), AllocError> {
+    on_fixed::<4>(&rt, &FillsByTurns)
 }
 
 #[test]

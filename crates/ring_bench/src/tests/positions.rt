@@ -1,6 +1,6 @@
 //! Positions, reading and writing.
 
-use super::{assert_gives, assert_holds, push_all};
+use super::{Case, assert_gives, assert_holds, on_each, on_fixed, on_growable, push_all};
 use ringbuffer::{AllocRingBuffer, ConstGenericRingBuffer, GrowableAllocRingBuffer, RingBuffer};
 use std::alloc::AllocError;
 use std::process::Abort;
@@ -23,6 +23,13 @@ fn assert_at<R: RingBuffer<i64>>(rt: &impl Abort, ring: &mut R, index: isize, it
     );
 }
 
+/// The same for each of these positions, with the item beside it.
+fn assert_each_at<R: RingBuffer<i64>>(rt: &impl Abort, ring: &mut R, found: &[(isize, i64)]) {
+    for (index, item) in found {
+        assert_at(rt, ring, *index, *item);
+    }
+}
+
 /// Writes an item at a position.
 fn write<R: RingBuffer<i64>>(rt: &impl Abort, ring: &mut R, index: usize, item: i64) {
     *ring.get_mut(index).expect(rt, "an item at each position") = item;
@@ -35,35 +42,40 @@ fn write_signed<R: RingBuffer<i64>>(rt: &impl Abort, ring: &mut R, index: isize,
         .expect(rt, "an item at each position") = item;
 }
 
-#[test]
-fn position_minus_one_is_the_newest(rt: HostRuntime) -> Result<(), AllocError> {
-    fn on<R: RingBuffer<i64> + Drop>(rt: &impl Abort, mut ring: R) {
+struct NewestAtMinusOne;
+
+impl Case for NewestAtMinusOne {
+    fn on<R: RingBuffer<i64> + Drop>(&self, rt: &(impl Abort + AllocGlobal), mut ring: R) {
         for item in 0..10 {
             push_all(rt, &mut ring, &[item]);
             assert_at(rt, &mut ring, -1, item);
         }
     }
-    on(&rt, ConstGenericRingBuffer::<i64, 8>::new());
-    on(&rt, AllocRingBuffer::new(rt.alloc(), 8)?);
-    on(&rt, GrowableAllocRingBuffer::with_capacity(rt.alloc(), 8)?);
-    Ok(())
+}
+
+#[test]
+fn position_minus_one_is_the_newest(rt: HostRuntime) -> Result<(), AllocError> {
+    on_each::<8>(&rt, &NewestAtMinusOne)
+}
+
+struct OldestAtZero;
+
+impl Case for OldestAtZero {
+    fn on<R: RingBuffer<i64> + Drop>(&self, rt: &(impl Abort + AllocGlobal), mut ring: R) {
+        push_all(rt, &mut ring, &[0, 1, 2, 3, 4, 5, 6, 7]);
+        assert_from_oldest(rt, &mut ring, &[0, 1, 2, 3, 4, 5, 6, 7]);
+    }
 }
 
 #[test]
 fn position_zero_is_the_oldest(rt: HostRuntime) -> Result<(), AllocError> {
-    fn on<R: RingBuffer<i64> + Drop>(rt: &impl Abort, mut ring: R) {
-        push_all(rt, &mut ring, &[0, 1, 2, 3, 4, 5, 6, 7]);
-        assert_from_oldest(rt, &mut ring, &[0, 1, 2, 3, 4, 5, 6, 7]);
-    }
-    on(&rt, ConstGenericRingBuffer::<i64, 8>::new());
-    on(&rt, AllocRingBuffer::new(rt.alloc(), 8)?);
-    on(&rt, GrowableAllocRingBuffer::with_capacity(rt.alloc(), 8)?);
-    Ok(())
+    on_each::<8>(&rt, &OldestAtZero)
 }
 
-#[test]
-fn the_ends_have_names(rt: HostRuntime) -> Result<(), AllocError> {
-    fn on<R: RingBuffer<i64> + Drop>(rt: &impl Abort, mut ring: R) {
+struct NamedEnds;
+
+impl Case for NamedEnds {
+    fn on<R: RingBuffer<i64> + Drop>(&self, rt: &(impl Abort + AllocGlobal), mut ring: R) {
         push_all(rt, &mut ring, &[1, 2]);
         assert_eq!(rt; ring.peek().copied(), Some(1));
         assert_eq!(rt; ring.front().copied(), Some(1));
@@ -71,29 +83,33 @@ fn the_ends_have_names(rt: HostRuntime) -> Result<(), AllocError> {
         assert_eq!(rt; ring.back().copied(), Some(2));
         assert_eq!(rt; ring.back_mut().copied(), Some(2));
     }
-    on(&rt, ConstGenericRingBuffer::<i64, 2>::new());
-    on(&rt, AllocRingBuffer::new(rt.alloc(), 2)?);
-    on(&rt, GrowableAllocRingBuffer::with_capacity(rt.alloc(), 2)?);
-    Ok(())
 }
 
 #[test]
-fn the_ends_can_be_written(rt: HostRuntime) -> Result<(), AllocError> {
-    fn on<R: RingBuffer<i64> + Drop>(rt: &impl Abort, mut ring: R) {
+fn the_ends_have_names(rt: HostRuntime) -> Result<(), AllocError> {
+    on_each::<2>(&rt, &NamedEnds)
+}
+
+struct WrittenEnds;
+
+impl Case for WrittenEnds {
+    fn on<R: RingBuffer<i64> + Drop>(&self, rt: &(impl Abort + AllocGlobal), mut ring: R) {
         push_all(rt, &mut ring, &[1, 2, 3]);
         *ring.front_mut().expect(rt, "an oldest item") = 8;
         *ring.back_mut().expect(rt, "a newest item") = 9;
         assert_holds(rt, &ring, &[8, 2, 9]);
     }
-    on(&rt, ConstGenericRingBuffer::<i64, 4>::new());
-    on(&rt, AllocRingBuffer::new(rt.alloc(), 4)?);
-    on(&rt, GrowableAllocRingBuffer::with_capacity(rt.alloc(), 4)?);
-    Ok(())
 }
 
 #[test]
-fn an_empty_ring_has_no_positions(rt: HostRuntime) -> Result<(), AllocError> {
-    fn on<R: RingBuffer<i64> + Drop>(rt: &impl Abort, mut ring: R) {
+fn the_ends_can_be_written(rt: HostRuntime) -> Result<(), AllocError> {
+    on_each::<4>(&rt, &WrittenEnds)
+}
+
+struct NoPositions;
+
+impl Case for NoPositions {
+    fn on<R: RingBuffer<i64> + Drop>(&self, rt: &(impl Abort + AllocGlobal), mut ring: R) {
         assert!(rt; ring.peek().is_none());
         assert!(rt; ring.front().is_none());
         assert!(rt; ring.back().is_none());
@@ -105,129 +121,143 @@ fn an_empty_ring_has_no_positions(rt: HostRuntime) -> Result<(), AllocError> {
         assert!(rt; ring.get_mut_signed(-1).is_none());
         assert!(rt; ring.dequeue().is_none());
     }
-    on(&rt, ConstGenericRingBuffer::<i64, 8>::new());
-    on(&rt, AllocRingBuffer::new(rt.alloc(), 8)?);
-    on(&rt, GrowableAllocRingBuffer::with_capacity(rt.alloc(), 8)?);
-    Ok(())
+}
+
+#[test]
+fn an_empty_ring_has_no_positions(rt: HostRuntime) -> Result<(), AllocError> {
+    on_each::<8>(&rt, &NoPositions)
+}
+
+struct WrapsByTheLength;
+
+impl Case for WrapsByTheLength {
+    fn on<R: RingBuffer<i64> + Drop>(&self, rt: &(impl Abort + AllocGlobal), mut ring: R) {
+        push_all(rt, &mut ring, &[0, 1]);
+        assert_from_oldest(rt, &mut ring, &[0, 1, 0, 1]);
+        assert_each_at(rt, &mut ring, &[(-1, 1), (-2, 0), (-3, 1), (-4, 0)]);
+    }
 }
 
 #[test]
 fn positions_wrap_by_the_length(rt: HostRuntime) -> Result<(), AllocError> {
-    fn on<R: RingBuffer<i64> + Drop>(rt: &impl Abort, mut ring: R) {
-        push_all(rt, &mut ring, &[0, 1]);
-        assert_from_oldest(rt, &mut ring, &[0, 1, 0, 1]);
-        for (index, item) in [(-1, 1), (-2, 0), (-3, 1), (-4, 0)] {
-            assert_at(rt, &mut ring, index, item);
-        }
+    on_each::<8>(&rt, &WrapsByTheLength)
+}
+
+struct WrapsBelowZero;
+
+impl Case for WrapsBelowZero {
+    fn on<R: RingBuffer<i64> + Drop>(&self, rt: &(impl Abort + AllocGlobal), mut ring: R) {
+        push_all(rt, &mut ring, &[1, 2]);
+        assert_each_at(rt, &mut ring, &[(1, 2), (0, 1), (-1, 2), (-2, 1), (-3, 2)]);
     }
-    on(&rt, ConstGenericRingBuffer::<i64, 8>::new());
-    on(&rt, AllocRingBuffer::new(rt.alloc(), 8)?);
-    on(&rt, GrowableAllocRingBuffer::with_capacity(rt.alloc(), 8)?);
-    Ok(())
 }
 
 #[test]
 fn positions_wrap_below_zero(rt: HostRuntime) -> Result<(), AllocError> {
-    fn on<R: RingBuffer<i64> + Drop>(rt: &impl Abort, mut ring: R) {
-        push_all(rt, &mut ring, &[1, 2]);
-        for (index, item) in [(1, 2), (0, 1), (-1, 2), (-2, 1), (-3, 2)] {
-            assert_at(rt, &mut ring, index, item);
-        }
-    }
-    on(&rt, ConstGenericRingBuffer::<i64, 2>::new());
-    on(&rt, AllocRingBuffer::new(rt.alloc(), 2)?);
-    on(&rt, GrowableAllocRingBuffer::new(rt.alloc()));
+    on_fixed::<2>(&rt, &WrapsBelowZero)?;
+    WrapsBelowZero.on(&rt, GrowableAllocRingBuffer::new(rt.alloc()));
     Ok(())
+}
+
+/// Pushes 0, 1 and 2, and then writes 3 over the oldest item.
+#[derive(Drop)]
+struct MovesWithTheOldest {
+    before: &'static [i64],
+    after: &'static [i64],
+}
+
+impl Case for MovesWithTheOldest {
+    fn on<R: RingBuffer<i64> + Drop>(&self, rt: &(impl Abort + AllocGlobal), mut ring: R) {
+        push_all(rt, &mut ring, &[0, 1, 2]);
+        assert_from_oldest(rt, &mut ring, self.before);
+        write(rt, &mut ring, 0, 3);
+        assert_holds(rt, &ring, self.after);
+    }
 }
 
 #[test]
 fn positions_move_with_the_oldest_item(rt: HostRuntime) -> Result<(), AllocError> {
-    fn on<R: RingBuffer<i64> + Drop>(rt: &impl Abort, mut ring: R) {
-        push_all(rt, &mut ring, &[0, 1, 2]);
-        assert_from_oldest(rt, &mut ring, &[1, 2]);
-        write(rt, &mut ring, 0, 3);
-        assert_holds(rt, &ring, &[3, 2]);
-    }
-    on(&rt, ConstGenericRingBuffer::<i64, 2>::new());
-    on(&rt, AllocRingBuffer::new(rt.alloc(), 2)?);
-    Ok(())
+    let (before, after) = (&[1, 2], &[3, 2]);
+    on_fixed::<2>(&rt, &MovesWithTheOldest { before, after })
 }
 
 #[test]
 fn a_growable_ring_has_every_position(rt: HostRuntime) -> Result<(), AllocError> {
-    let mut ring = GrowableAllocRingBuffer::with_capacity(rt.alloc(), 2)?;
-    push_all(&rt, &mut ring, &[0, 1, 2]);
-    assert_from_oldest(&rt, &mut ring, &[0, 1, 2]);
-    write(&rt, &mut ring, 0, 3);
-    assert_holds(&rt, &ring, &[3, 1, 2]);
-    Ok(())
+    let (before, after) = (&[0, 1, 2], &[3, 1, 2]);
+    on_growable::<2>(&rt, &MovesWithTheOldest { before, after })
 }
 
-#[test]
-fn a_write_changes_its_place_alone(rt: HostRuntime) -> Result<(), AllocError> {
-    fn on<R: RingBuffer<i64> + Drop>(rt: &impl Abort, mut ring: R) {
+struct WritesOnePlace;
+
+impl Case for WritesOnePlace {
+    fn on<R: RingBuffer<i64> + Drop>(&self, rt: &(impl Abort + AllocGlobal), mut ring: R) {
         push_all(rt, &mut ring, &[0, 1]);
         write(rt, &mut ring, 0, 3);
         assert_holds(rt, &ring, &[3, 1]);
         write(rt, &mut ring, 1, 4);
         assert_holds(rt, &ring, &[3, 4]);
     }
-    on(&rt, ConstGenericRingBuffer::<i64, 8>::new());
-    on(&rt, AllocRingBuffer::new(rt.alloc(), 8)?);
-    on(&rt, GrowableAllocRingBuffer::with_capacity(rt.alloc(), 8)?);
-    Ok(())
 }
 
 #[test]
-fn writes_wrap_by_the_length(rt: HostRuntime) -> Result<(), AllocError> {
-    fn on<R: RingBuffer<i64> + Drop>(rt: &impl Abort, mut ring: R) {
+fn a_write_changes_its_place_alone(rt: HostRuntime) -> Result<(), AllocError> {
+    on_each::<8>(&rt, &WritesOnePlace)
+}
+
+struct WritesWrap;
+
+impl Case for WritesWrap {
+    fn on<R: RingBuffer<i64> + Drop>(&self, rt: &(impl Abort + AllocGlobal), mut ring: R) {
         push_all(rt, &mut ring, &[1, 2, 3]);
         write_signed(rt, &mut ring, -4, 9);
         assert_holds(rt, &ring, &[1, 2, 9]);
         write(rt, &mut ring, 4, 8);
         assert_holds(rt, &ring, &[1, 8, 9]);
     }
-    on(&rt, ConstGenericRingBuffer::<i64, 4>::new());
-    on(&rt, AllocRingBuffer::new(rt.alloc(), 4)?);
-    on(&rt, GrowableAllocRingBuffer::with_capacity(rt.alloc(), 4)?);
-    Ok(())
+}
+
+#[test]
+fn writes_wrap_by_the_length(rt: HostRuntime) -> Result<(), AllocError> {
+    on_each::<4>(&rt, &WritesWrap)
+}
+
+/// Pushes 0, 1 and 2 and takes all, twice. Then it pushes them once more.
+#[derive(Drop)]
+struct Emptied {
+    kept: &'static [i64],
+    found: &'static [(isize, i64)],
+}
+
+impl Case for Emptied {
+    fn on<R: RingBuffer<i64> + Drop>(&self, rt: &(impl Abort + AllocGlobal), mut ring: R) {
+        for _ in 0..2 {
+            push_all(rt, &mut ring, &[0, 1, 2]);
+            assert_gives(rt, &mut ring, self.kept);
+        }
+        push_all(rt, &mut ring, &[0, 1, 2]);
+        assert_each_at(rt, &mut ring, self.found);
+    }
 }
 
 #[test]
 fn positions_hold_after_a_ring_was_emptied(rt: HostRuntime) -> Result<(), AllocError> {
-    fn on<R: RingBuffer<i64> + Drop>(rt: &impl Abort, mut ring: R) {
-        for _ in 0..2 {
-            push_all(rt, &mut ring, &[0, 1, 2]);
-            assert_gives(rt, &mut ring, &[1, 2]);
-        }
-        push_all(rt, &mut ring, &[0, 1, 2]);
-        for (index, item) in [(-1, 2), (-2, 1), (-3, 2)] {
-            assert_at(rt, &mut ring, index, item);
-        }
-    }
-    on(&rt, ConstGenericRingBuffer::<i64, 2>::new());
-    on(&rt, AllocRingBuffer::new(rt.alloc(), 2)?);
-    Ok(())
+    let kept = &[1, 2];
+    let found = &[(-1, 2), (-2, 1), (-3, 2)];
+    on_fixed::<2>(&rt, &Emptied { kept, found })
 }
 
 #[test]
 fn growable_positions_hold_after_a_ring_was_emptied(rt: HostRuntime) -> Result<(), AllocError> {
-    let mut ring = GrowableAllocRingBuffer::with_capacity(rt.alloc(), 2)?;
-    for _ in 0..2 {
-        push_all(&rt, &mut ring, &[0, 1, 2]);
-        assert_gives(&rt, &mut ring, &[0, 1, 2]);
-    }
-    push_all(&rt, &mut ring, &[0, 1, 2]);
-    for (index, item) in [(-1, 2), (-2, 1), (-3, 0)] {
-        assert_at(&rt, &mut ring, index, item);
-    }
-    Ok(())
+    let kept = &[0, 1, 2];
+    let found = &[(-1, 2), (-2, 1), (-3, 0)];
+    on_growable::<2>(&rt, &Emptied { kept, found })
 }
 
 // The remainders of -(2^63), 2^63 - 1 and 2^64 - 1 by the lengths 3, 5, 7 and 1 were found by hand.
-#[test]
-fn extreme_positions_wrap_too(rt: HostRuntime) -> Result<(), AllocError> {
-    fn on<R: RingBuffer<i64> + Drop>(rt: &impl Abort, mut ring: R) {
+struct ExtremePositions;
+
+impl Case for ExtremePositions {
+    fn on<R: RingBuffer<i64> + Drop>(&self, rt: &(impl Abort + AllocGlobal), mut ring: R) {
         let cases: [(&[i64], i64, i64, i64); 4] = [
             (&[1, 2, 3], 2, 2, 1),
             (&[0, 1, 2, 3, 4], 2, 2, 0),
@@ -245,10 +275,11 @@ fn extreme_positions_wrap_too(rt: HostRuntime) -> Result<(), AllocError> {
         push_all(rt, &mut ring, &[7]);
         assert_at(rt, &mut ring, -1, 7);
     }
-    on(&rt, ConstGenericRingBuffer::<i64, 8>::new());
-    on(&rt, AllocRingBuffer::new(rt.alloc(), 8)?);
-    on(&rt, GrowableAllocRingBuffer::with_capacity(rt.alloc(), 8)?);
-    Ok(())
+}
+
+#[test]
+fn extreme_positions_wrap_too(rt: HostRuntime) -> Result<(), AllocError> {
+    on_each::<8>(&rt, &ExtremePositions)
 }
 
 // No trait that the rings share has indexes, so the body is a macro.

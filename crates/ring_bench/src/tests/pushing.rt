@@ -3,156 +3,168 @@
 ghost use Rattle.std.specs.Prelude.{◌-◌};
 ghost use Rattle.std.specs.Iterator.{at_most};
 
-use super::{assert_gives, assert_holds, push_all};
-use ringbuffer::{AllocRingBuffer, ConstGenericRingBuffer, GrowableAllocRingBuffer, RingBuffer};
+use super::{Case, assert_gives, assert_holds, on_each, on_fixed, on_growable, push_all};
+use ringbuffer::{AllocRingBuffer, ConstGenericRingBuffer, RingBuffer};
 use std::alloc::AllocError;
 use std::process::Abort;
 
-#[test]
-fn a_full_ring_keeps_the_newest(rt: HostRuntime) -> Result<(), AllocError> {
-    fn on<R: RingBuffer<i64> + Drop>(
-        rt: &(impl Abort + AllocGlobal),
-        mut ring: R,
-    ) -> Result<(), AllocError> {
+/// Pushes items, and each hands back what stands beside it.
+fn assert_pushes<R: RingBuffer<i64>>(rt: &impl Abort, ring: &mut R, pushes: &[(i64, Option<i64>)]) {
+    for (item, overwritten) in pushes {
+        assert_eq!(rt; ring.push(*item), Ok(*overwritten), "the push of {item}");
+    }
+}
+
+struct KeepsTheNewest;
+
+impl Case for KeepsTheNewest {
+    fn on<R: RingBuffer<i64> + Drop>(&self, rt: &(impl Abort + AllocGlobal), mut ring: R) {
         push_all(rt, &mut ring, &[5]);
         assert_eq!(rt; ring.back().copied(), Some(5));
         push_all(rt, &mut ring, &[42]);
         assert_eq!(rt; ring.peek().copied(), Some(5));
         assert!(rt; ring.is_full());
         push_all(rt, &mut ring, &[1]);
-        assert_eq!(rt; ring.to_vec(rt.alloc())?.as_slice(), [42, 1].as_slice());
-        Ok(())
+        let items = ring.to_vec(rt.alloc()).expect(rt, "memory");
+        assert_eq!(rt; items.as_slice(), [42, 1].as_slice());
     }
-    on(&rt, ConstGenericRingBuffer::<i64, 2>::new())?;
-    on(&rt, AllocRingBuffer::new(rt.alloc(), 2)?)?;
-    on(&rt, AllocRingBuffer::with_capacity(rt.alloc(), 2)?)
+}
+
+#[test]
+fn a_full_ring_keeps_the_newest(rt: HostRuntime) -> Result<(), AllocError> {
+    on_fixed::<2>(&rt, &KeepsTheNewest)?;
+    KeepsTheNewest.on(&rt, AllocRingBuffer::with_capacity(rt.alloc(), 2)?);
+    Ok(())
+}
+
+struct HandsBack;
+
+impl Case for HandsBack {
+    fn on<R: RingBuffer<i64> + Drop>(&self, rt: &(impl Abort + AllocGlobal), mut ring: R) {
+        assert_pushes(rt, &mut ring, &[(5, None), (42, None), (1, Some(5))]);
+        assert_eq!(rt; ring.enqueue(6), Ok(Some(42)));
+        assert_eq!(rt; ring.enqueue(7), Ok(Some(1)));
+    }
 }
 
 #[test]
 fn a_push_hands_back_what_it_overwrote(rt: HostRuntime) -> Result<(), AllocError> {
-    fn on<R: RingBuffer<i64> + Drop>(rt: &impl Abort, mut ring: R) {
-        for (item, overwritten) in [(5, None), (42, None), (1, Some(5))] {
-            assert_eq!(rt; ring.push(item), Ok(overwritten), "the push of {item}");
-        }
-        for (item, overwritten) in [(6, 42), (7, 1)] {
-            assert_eq!(rt;
-                ring.enqueue(item),
-                Ok(Some(overwritten)),
-                "the push of {item}"
-            );
-        }
+    on_fixed::<2>(&rt, &HandsBack)
+}
+
+struct PushesAfterADequeue;
+
+impl Case for PushesAfterADequeue {
+    fn on<R: RingBuffer<i64> + Drop>(&self, rt: &(impl Abort + AllocGlobal), mut ring: R) {
+        push_all(rt, &mut ring, &[0, 1]);
+        assert_eq!(rt; ring.dequeue(), Some(0));
+        assert_pushes(rt, &mut ring, &[(2, None), (3, None), (4, Some(1))]);
+        assert_gives(rt, &mut ring, &[2, 3, 4]);
     }
-    on(&rt, ConstGenericRingBuffer::<i64, 2>::new());
-    on(&rt, AllocRingBuffer::new(rt.alloc(), 2)?);
-    Ok(())
 }
 
 #[test]
 fn a_push_after_a_dequeue_hands_nothing_back(rt: HostRuntime) -> Result<(), AllocError> {
-    fn on<R: RingBuffer<i64> + Drop>(rt: &impl Abort, mut ring: R) {
-        push_all(rt, &mut ring, &[0, 1]);
-        assert_eq!(rt; ring.dequeue(), Some(0));
-        for (item, overwritten) in [(2, None), (3, None), (4, Some(1))] {
-            assert_eq!(rt; ring.push(item), Ok(overwritten), "the push of {item}");
-        }
-        assert_gives(rt, &mut ring, &[2, 3, 4]);
+    on_fixed::<3>(&rt, &PushesAfterADequeue)
+}
+
+struct PushesAfterAClear;
+
+impl Case for PushesAfterAClear {
+    fn on<R: RingBuffer<i64> + Drop>(&self, rt: &(impl Abort + AllocGlobal), mut ring: R) {
+        assert_pushes(rt, &mut ring, &[(0, None), (1, None)]);
+        ring.clear();
+        assert_pushes(rt, &mut ring, &[(2, None), (3, None), (4, Some(2))]);
+        assert_gives(rt, &mut ring, &[3, 4]);
     }
-    on(&rt, ConstGenericRingBuffer::<i64, 3>::new());
-    on(&rt, AllocRingBuffer::new(rt.alloc(), 3)?);
-    Ok(())
 }
 
 #[test]
 fn a_push_after_a_clear_hands_nothing_back(rt: HostRuntime) -> Result<(), AllocError> {
-    fn on<R: RingBuffer<i64> + Drop>(rt: &impl Abort, mut ring: R) {
-        for item in [0, 1] {
-            assert_eq!(rt; ring.push(item), Ok(None), "the push of {item}");
-        }
-        ring.clear();
-        for (item, overwritten) in [(2, None), (3, None), (4, Some(2))] {
-            assert_eq!(rt; ring.push(item), Ok(overwritten), "the push of {item}");
-        }
-        assert_gives(rt, &mut ring, &[3, 4]);
+    on_fixed::<2>(&rt, &PushesAfterAClear)
+}
+
+struct HandsNothingBack;
+
+impl Case for HandsNothingBack {
+    fn on<R: RingBuffer<i64> + Drop>(&self, rt: &(impl Abort + AllocGlobal), mut ring: R) {
+        assert_pushes(rt, &mut ring, &[(1, None), (2, None), (3, None)]);
+        assert_gives(rt, &mut ring, &[1, 2, 3]);
     }
-    on(&rt, ConstGenericRingBuffer::<i64, 2>::new());
-    on(&rt, AllocRingBuffer::new(rt.alloc(), 2)?);
-    Ok(())
 }
 
 #[test]
 fn a_push_without_a_limit_hands_nothing_back(rt: HostRuntime) -> Result<(), AllocError> {
-    let mut ring = GrowableAllocRingBuffer::with_capacity(rt.alloc(), 2)?;
-    for item in [1, 2, 3] {
-        assert_eq!(rt; ring.push(item), Ok(None), "the push of {item}");
+    on_growable::<2>(&rt, &HandsNothingBack)
+}
+
+/// A ring that is new has this capacity, and no item.
+#[derive(Drop)]
+struct New {
+    capacity: usize,
+}
+
+impl Case for New {
+    fn on<R: RingBuffer<i64> + Drop>(&self, rt: &(impl Abort + AllocGlobal), ring: R) {
+        assert_eq!(rt; ring.capacity(), self.capacity);
+        assert_eq!(rt; ring.len(), 0);
     }
-    assert_gives(&rt, &mut ring, &[1, 2, 3]);
-    Ok(())
 }
 
 #[test]
 fn a_new_ring_is_empty(rt: HostRuntime) -> Result<(), AllocError> {
-    fn on<R: RingBuffer<i64> + Drop>(rt: &impl Abort, ring: R) {
-        assert_eq!(rt; ring.capacity(), 8);
-        assert_eq!(rt; ring.len(), 0);
-    }
-    on(&rt, ConstGenericRingBuffer::<i64, 8>::new());
-    on(&rt, ConstGenericRingBuffer::<i64, 8>::default());
-    on(&rt, AllocRingBuffer::new(rt.alloc(), 8)?);
-    on(&rt, AllocRingBuffer::with_capacity(rt.alloc(), 8)?);
+    let new = New { capacity: 8 };
+    on_fixed::<8>(&rt, &new)?;
+    new.on(&rt, ConstGenericRingBuffer::<i64, 8>::default());
+    new.on(&rt, AllocRingBuffer::with_capacity(rt.alloc(), 8)?);
     Ok(())
 }
 
 #[test]
 fn a_capacity_may_be_given_as_a_power_of_two(rt: HostRuntime) -> Result<(), AllocError> {
-    let ring = AllocRingBuffer::<i64>::with_capacity_power_of_2(rt.alloc(), 2)?;
-    assert_eq!(rt; ring.capacity(), 4);
-    assert_eq!(rt; ring.len(), 0);
+    let ring = AllocRingBuffer::with_capacity_power_of_2(rt.alloc(), 2)?;
+    New { capacity: 4 }.on(&rt, ring);
     Ok(())
+}
+
+/// Pushes, each with the length before it and after it.
+#[derive(Drop)]
+struct Lengths {
+    pushes: &'static [(i64, usize, usize)],
+}
+
+impl Case for Lengths {
+    fn on<R: RingBuffer<i64> + Drop>(&self, rt: &(impl Abort + AllocGlobal), mut ring: R) {
+        for (item, before, after) in self.pushes {
+            assert_eq!(rt; ring.len(), *before, "before {item}");
+            push_all(rt, &mut ring, &[*item]);
+            assert_eq!(rt; ring.len(), *after, "after {item}");
+        }
+    }
 }
 
 #[test]
 fn length_counts_the_pushes(rt: HostRuntime) -> Result<(), AllocError> {
-    fn on<R: RingBuffer<i64> + Drop>(rt: &impl Abort, mut ring: R) {
-        assert_eq!(rt; ring.len(), 0);
-        push_all(rt, &mut ring, &[1]);
-        assert_eq!(rt; ring.len(), 1);
-        push_all(rt, &mut ring, &[2]);
-        assert_eq!(rt; ring.len(), 2);
-    }
-    on(&rt, ConstGenericRingBuffer::<i64, 8>::new());
-    on(&rt, AllocRingBuffer::new(rt.alloc(), 8)?);
-    on(&rt, GrowableAllocRingBuffer::with_capacity(rt.alloc(), 8)?);
-    Ok(())
+    let pushes = &[(1, 0, 1), (2, 1, 2)];
+    on_each::<8>(&rt, &Lengths { pushes })
 }
 
 #[test]
 fn length_stops_at_the_capacity(rt: HostRuntime) -> Result<(), AllocError> {
-    fn on<R: RingBuffer<i64> + Drop>(rt: &impl Abort, mut ring: R) {
-        for (item, before, after) in [(1, 0, 1), (2, 1, 2), (3, 2, 2), (4, 2, 2)] {
-            assert_eq!(rt; ring.len(), before, "before {item}");
-            push_all(rt, &mut ring, &[item]);
-            assert_eq!(rt; ring.len(), after, "after {item}");
-        }
-    }
-    on(&rt, ConstGenericRingBuffer::<i64, 2>::new());
-    on(&rt, AllocRingBuffer::new(rt.alloc(), 2)?);
-    Ok(())
+    let pushes = &[(1, 0, 1), (2, 1, 2), (3, 2, 2), (4, 2, 2)];
+    on_fixed::<2>(&rt, &Lengths { pushes })
 }
 
 #[test]
 fn length_grows_without_a_limit(rt: HostRuntime) -> Result<(), AllocError> {
-    let mut ring = GrowableAllocRingBuffer::with_capacity(rt.alloc(), 2)?;
-    for (item, before, after) in [(0, 0, 1), (1, 1, 2), (2, 2, 3)] {
-        assert_eq!(rt; ring.len(), before, "before {item}");
-        push_all(&rt, &mut ring, &[item]);
-        assert_eq!(rt; ring.len(), after, "after {item}");
-    }
-    Ok(())
+    let pushes = &[(0, 0, 1), (1, 1, 2), (2, 2, 3)];
+    on_growable::<2>(&rt, &Lengths { pushes })
 }
 
-#[test]
-fn a_cleared_ring_is_empty(rt: HostRuntime) -> Result<(), AllocError> {
-    fn on<R: RingBuffer<i64> + Drop>(rt: &impl Abort, mut ring: R) {
+struct Cleared;
+
+impl Case for Cleared {
+    fn on<R: RingBuffer<i64> + Drop>(&self, rt: &(impl Abort + AllocGlobal), mut ring: R) {
         assert!(rt; ring.is_empty());
         push_all(rt, &mut ring, &[1, 2, 3]);
         assert!(rt; !ring.is_empty());
@@ -160,15 +172,17 @@ fn a_cleared_ring_is_empty(rt: HostRuntime) -> Result<(), AllocError> {
         assert!(rt; ring.is_empty());
         assert_eq!(rt; ring.len(), 0);
     }
-    on(&rt, ConstGenericRingBuffer::<i64, 8>::new());
-    on(&rt, AllocRingBuffer::new(rt.alloc(), 8)?);
-    on(&rt, GrowableAllocRingBuffer::with_capacity(rt.alloc(), 8)?);
-    Ok(())
 }
 
 #[test]
-fn a_ring_is_full_at_its_capacity_alone(rt: HostRuntime) -> Result<(), AllocError> {
-    fn on<R: RingBuffer<i64> + Drop>(rt: &impl Abort, mut ring: R) {
+fn a_cleared_ring_is_empty(rt: HostRuntime) -> Result<(), AllocError> {
+    on_each::<8>(&rt, &Cleared)
+}
+
+struct FullAtTwo;
+
+impl Case for FullAtTwo {
+    fn on<R: RingBuffer<i64> + Drop>(&self, rt: &(impl Abort + AllocGlobal), mut ring: R) {
         for (item, full_before) in [(1, false), (2, false), (3, true), (4, true)] {
             assert_eq!(rt; ring.is_full(), full_before, "before {item}");
             push_all(rt, &mut ring, &[item]);
@@ -176,14 +190,17 @@ fn a_ring_is_full_at_its_capacity_alone(rt: HostRuntime) -> Result<(), AllocErro
         ring.skip();
         assert!(rt; !ring.is_full());
     }
-    on(&rt, ConstGenericRingBuffer::<i64, 2>::new());
-    on(&rt, AllocRingBuffer::new(rt.alloc(), 2)?);
-    Ok(())
 }
 
 #[test]
-fn items_leave_in_the_order_of_their_pushes(rt: HostRuntime) -> Result<(), AllocError> {
-    fn on<R: RingBuffer<i64> + Drop>(rt: &impl Abort, mut ring: R) {
+fn a_ring_is_full_at_its_capacity_alone(rt: HostRuntime) -> Result<(), AllocError> {
+    on_fixed::<2>(&rt, &FullAtTwo)
+}
+
+struct LeavesInOrder;
+
+impl Case for LeavesInOrder {
+    fn on<R: RingBuffer<i64> + Drop>(&self, rt: &(impl Abort + AllocGlobal), mut ring: R) {
         push_all(rt, &mut ring, &[0, 1]);
         assert_eq!(rt; ring.len(), 2);
         assert_eq!(rt; ring.dequeue(), Some(0));
@@ -191,30 +208,34 @@ fn items_leave_in_the_order_of_their_pushes(rt: HostRuntime) -> Result<(), Alloc
         assert_eq!(rt; ring.len(), 0);
         assert_eq!(rt; ring.dequeue(), None);
     }
-    on(&rt, ConstGenericRingBuffer::<i64, 8>::new());
-    on(&rt, AllocRingBuffer::new(rt.alloc(), 8)?);
-    on(&rt, GrowableAllocRingBuffer::with_capacity(rt.alloc(), 8)?);
-    Ok(())
 }
 
 #[test]
-fn skip_drops_the_oldest(rt: HostRuntime) -> Result<(), AllocError> {
-    fn on<R: RingBuffer<i64> + Drop>(rt: &impl Abort, mut ring: R) {
+fn items_leave_in_the_order_of_their_pushes(rt: HostRuntime) -> Result<(), AllocError> {
+    on_each::<8>(&rt, &LeavesInOrder)
+}
+
+struct SkipsTheOldest;
+
+impl Case for SkipsTheOldest {
+    fn on<R: RingBuffer<i64> + Drop>(&self, rt: &(impl Abort + AllocGlobal), mut ring: R) {
         push_all(rt, &mut ring, &[0, 1]);
         ring.skip();
         assert_holds(rt, &ring, &[1]);
         ring.skip();
         assert_eq!(rt; ring.len(), 0);
     }
-    on(&rt, ConstGenericRingBuffer::<i64, 8>::new());
-    on(&rt, AllocRingBuffer::new(rt.alloc(), 8)?);
-    on(&rt, GrowableAllocRingBuffer::with_capacity(rt.alloc(), 8)?);
-    Ok(())
 }
 
 #[test]
-fn skip_does_nothing_to_an_empty_ring(rt: HostRuntime) -> Result<(), AllocError> {
-    fn on<R: RingBuffer<i64> + Drop>(rt: &impl Abort, mut ring: R) {
+fn skip_drops_the_oldest(rt: HostRuntime) -> Result<(), AllocError> {
+    on_each::<8>(&rt, &SkipsTheOldest)
+}
+
+struct SkipsNothing;
+
+impl Case for SkipsNothing {
+    fn on<R: RingBuffer<i64> + Drop>(&self, rt: &(impl Abort + AllocGlobal), mut ring: R) {
         for _ in 0..3 {
             ring.skip();
         }
@@ -224,15 +245,17 @@ fn skip_does_nothing_to_an_empty_ring(rt: HostRuntime) -> Result<(), AllocError>
         ring.skip();
         assert_eq!(rt; ring.dequeue(), None);
     }
-    on(&rt, ConstGenericRingBuffer::<i64, 2>::new());
-    on(&rt, AllocRingBuffer::new(rt.alloc(), 2)?);
-    on(&rt, GrowableAllocRingBuffer::with_capacity(rt.alloc(), 2)?);
-    Ok(())
 }
 
 #[test]
-fn an_emptied_ring_is_used_again(rt: HostRuntime) -> Result<(), AllocError> {
-    fn on<R: RingBuffer<i64> + Drop>(rt: &impl Abort, mut ring: R) {
+fn skip_does_nothing_to_an_empty_ring(rt: HostRuntime) -> Result<(), AllocError> {
+    on_each::<2>(&rt, &SkipsNothing)
+}
+
+struct UsedAgain;
+
+impl Case for UsedAgain {
+    fn on<R: RingBuffer<i64> + Drop>(&self, rt: &(impl Abort + AllocGlobal), mut ring: R) {
         for _ in 0..2 {
             push_all(rt, &mut ring, &[0, 1]);
             assert_gives(rt, &mut ring, &[0, 1]);
@@ -243,38 +266,42 @@ fn an_emptied_ring_is_used_again(rt: HostRuntime) -> Result<(), AllocError> {
             assert_gives(rt, &mut ring, &[0, 1]);
         }
     }
-    on(&rt, ConstGenericRingBuffer::<i64, 8>::new());
-    on(&rt, AllocRingBuffer::new(rt.alloc(), 8)?);
-    on(&rt, GrowableAllocRingBuffer::with_capacity(rt.alloc(), 8)?);
-    Ok(())
+}
+
+#[test]
+fn an_emptied_ring_is_used_again(rt: HostRuntime) -> Result<(), AllocError> {
+    on_each::<8>(&rt, &UsedAgain)
+}
+
+/// Pushes 0, 1 and 2, and takes all. Then it does so again.
+#[derive(Drop)]
+struct FilledTwice {
+    kept: &'static [i64],
+}
+
+impl Case for FilledTwice {
+    fn on<R: RingBuffer<i64> + Drop>(&self, rt: &(impl Abort + AllocGlobal), mut ring: R) {
+        for _ in 0..2 {
+            push_all(rt, &mut ring, &[0, 1, 2]);
+            assert_gives(rt, &mut ring, self.kept);
+        }
+    }
 }
 
 #[test]
 fn an_overwritten_item_does_not_leave(rt: HostRuntime) -> Result<(), AllocError> {
-    fn on<R: RingBuffer<i64> + Drop>(rt: &impl Abort, mut ring: R) {
-        for _ in 0..2 {
-            push_all(rt, &mut ring, &[0, 1, 2]);
-            assert_gives(rt, &mut ring, &[1, 2]);
-        }
-    }
-    on(&rt, ConstGenericRingBuffer::<i64, 2>::new());
-    on(&rt, AllocRingBuffer::new(rt.alloc(), 2)?);
-    Ok(())
+    on_fixed::<2>(&rt, &FilledTwice { kept: &[1, 2] })
 }
 
 #[test]
 fn a_growable_ring_overwrites_nothing(rt: HostRuntime) -> Result<(), AllocError> {
-    let mut ring = GrowableAllocRingBuffer::with_capacity(rt.alloc(), 2)?;
-    for _ in 0..2 {
-        push_all(&rt, &mut ring, &[0, 1, 2]);
-        assert_gives(&rt, &mut ring, &[0, 1, 2]);
-    }
-    Ok(())
+    on_growable::<2>(&rt, &FilledTwice { kept: &[0, 1, 2] })
 }
 
-#[test]
-fn the_last_of_many_stay(rt: HostRuntime) -> Result<(), AllocError> {
-    fn on<R: RingBuffer<i64> + Drop>(rt: &impl Abort, mut ring: R) {
+struct KeepsTheLastTen;
+
+impl Case for KeepsTheLastTen {
+    fn on<R: RingBuffer<i64> + Drop>(&self, rt: &(impl Abort + AllocGlobal), mut ring: R) {
         for _ in 0..100 {
             for item in 0..1000 {
                 assert!(rt; ring.enqueue(item).is_ok());
@@ -286,14 +313,17 @@ fn the_last_of_many_stay(rt: HostRuntime) -> Result<(), AllocError> {
             assert!(rt; ring.is_empty());
         }
     }
-    on(&rt, ConstGenericRingBuffer::<i64, 10>::new());
-    on(&rt, AllocRingBuffer::new(rt.alloc(), 10)?);
-    Ok(())
 }
 
 #[test]
-fn items_come_and_go_for_long(rt: HostRuntime) -> Result<(), AllocError> {
-    fn on<R: RingBuffer<i64> + Drop>(rt: &impl Abort, mut ring: R) {
+fn the_last_of_many_stay(rt: HostRuntime) -> Result<(), AllocError> {
+    on_fixed::<10>(&rt, &KeepsTheLastTen)
+}
+
+struct ComesAndGoes;
+
+impl Case for ComesAndGoes {
+    fn on<R: RingBuffer<i64> + Drop>(&self, rt: &(impl Abort + AllocGlobal), mut ring: R) {
         for _ in 0..100_000 {
             for _ in 0..2 {
                 push_all(rt, &mut ring, &[1, 2]);
@@ -305,70 +335,89 @@ fn items_come_and_go_for_long(rt: HostRuntime) -> Result<(), AllocError> {
             assert_eq!(rt; ring.get_signed(-2).copied(), Some(1));
         }
     }
-    on(&rt, ConstGenericRingBuffer::<i64, 8>::new());
-    on(&rt, AllocRingBuffer::new(rt.alloc(), 8)?);
-    on(&rt, GrowableAllocRingBuffer::with_capacity(rt.alloc(), 8)?);
-    Ok(())
 }
 
 #[test]
-fn extend_pushes_in_order(rt: HostRuntime) -> Result<(), AllocError> {
-    fn on<R: RingBuffer<i64> + Drop>(rt: &impl Abort, mut ring: R) {
+fn items_come_and_go_for_long(rt: HostRuntime) -> Result<(), AllocError> {
+    on_each::<8>(&rt, &ComesAndGoes)
+}
+
+struct ExtendsInOrder;
+
+impl Case for ExtendsInOrder {
+    fn on<R: RingBuffer<i64> + Drop>(&self, rt: &(impl Abort + AllocGlobal), mut ring: R) {
         push_all(rt, &mut ring, &[0, 0, 0, 0]);
         assert!(rt; ring.extend([0, 1, 2]).is_ok());
         assert_holds(rt, &ring, &[0, 0, 1, 2]);
     }
-    on(&rt, ConstGenericRingBuffer::<i64, 4>::new());
-    on(&rt, AllocRingBuffer::new(rt.alloc(), 4)?);
-    Ok(())
 }
 
 #[test]
-fn extend_keeps_the_last_of_a_long_source(rt: HostRuntime) -> Result<(), AllocError> {
-    fn on<R: RingBuffer<i64> + Drop>(rt: &impl Abort, mut ring: R) {
+fn extend_pushes_in_order(rt: HostRuntime) -> Result<(), AllocError> {
+    on_fixed::<4>(&rt, &ExtendsInOrder)
+}
+
+struct ExtendsByMore;
+
+impl Case for ExtendsByMore {
+    fn on<R: RingBuffer<i64> + Drop>(&self, rt: &(impl Abort + AllocGlobal), mut ring: R) {
         push_all(rt, &mut ring, &[0, 0, 0, 0, 0, 0, 0, 0]);
         assert!(rt; ring.extend([0, 1, 2, 3, 4, 5, 6, 7, 8, 9]).is_ok());
         assert_holds(rt, &ring, &[2, 3, 4, 5, 6, 7, 8, 9]);
     }
-    on(&rt, ConstGenericRingBuffer::<i64, 8>::new());
-    on(&rt, AllocRingBuffer::new(rt.alloc(), 8)?);
-    Ok(())
 }
 
 #[test]
-fn an_empty_source_changes_nothing(rt: HostRuntime) -> Result<(), AllocError> {
-    fn on<R: RingBuffer<i64> + Drop>(rt: &impl Abort, mut ring: R) {
+fn extend_keeps_the_last_of_a_long_source(rt: HostRuntime) -> Result<(), AllocError> {
+    on_fixed::<8>(&rt, &ExtendsByMore)
+}
+
+struct ExtendsByNothing;
+
+impl Case for ExtendsByNothing {
+    fn on<R: RingBuffer<i64> + Drop>(&self, rt: &(impl Abort + AllocGlobal), mut ring: R) {
         push_all(rt, &mut ring, &[1, 2]);
         assert!(rt; ring.extend([]).is_ok());
         assert_holds(rt, &ring, &[1, 2]);
         assert!(rt; ring.extend([3, 4, 5, 6, 7]).is_ok());
         assert_holds(rt, &ring, &[5, 6, 7]);
     }
-    on(&rt, ConstGenericRingBuffer::<i64, 3>::new());
-    on(&rt, AllocRingBuffer::new(rt.alloc(), 3)?);
-    Ok(())
+}
+
+#[test]
+fn an_empty_source_changes_nothing(rt: HostRuntime) -> Result<(), AllocError> {
+    on_fixed::<3>(&rt, &ExtendsByNothing)
+}
+
+struct ExtendsOneSlot;
+
+impl Case for ExtendsOneSlot {
+    fn on<R: RingBuffer<i64> + Drop>(&self, rt: &(impl Abort + AllocGlobal), mut ring: R) {
+        assert!(rt; ring.extend([1, 2, 3]).is_ok());
+        assert_holds(rt, &ring, &[3]);
+    }
 }
 
 #[test]
 fn one_slot_keeps_the_last_of_a_source(rt: HostRuntime) -> Result<(), AllocError> {
-    fn on<R: RingBuffer<i64> + Drop>(rt: &impl Abort, mut ring: R) {
+    on_fixed::<1>(&rt, &ExtendsOneSlot)
+}
+
+struct TakesAll;
+
+impl Case for TakesAll {
+    fn on<R: RingBuffer<i64> + Drop>(&self, rt: &(impl Abort + AllocGlobal), mut ring: R) {
+        assert!(rt; ring.extend([]).is_ok());
+        assert_holds(rt, &ring, &[]);
         assert!(rt; ring.extend([1, 2, 3]).is_ok());
-        assert_holds(rt, &ring, &[3]);
+        assert!(rt; ring.extend([4, 5]).is_ok());
+        assert_holds(rt, &ring, &[1, 2, 3, 4, 5]);
     }
-    on(&rt, ConstGenericRingBuffer::<i64, 1>::new());
-    on(&rt, AllocRingBuffer::new(rt.alloc(), 1)?);
-    Ok(())
 }
 
 #[test]
 fn a_growable_ring_takes_a_whole_source(rt: HostRuntime) -> Result<(), AllocError> {
-    let mut ring = GrowableAllocRingBuffer::with_capacity(rt.alloc(), 2)?;
-    ring.extend([])?;
-    assert_holds(&rt, &ring, &[]);
-    ring.extend([1, 2, 3])?;
-    ring.extend([4, 5])?;
-    assert_holds(&rt, &ring, &[1, 2, 3, 4, 5]);
-    Ok(())
+    on_growable::<2>(&rt, &TakesAll)
 }
 
 /// A source of one's own: the numbers from `next` up to `end`.
@@ -393,9 +442,10 @@ impl Iterator for Numbers {
     }
 }
 
-#[test]
-fn extend_takes_any_source_that_ends(rt: HostRuntime) -> Result<(), AllocError> {
-    fn on<R: RingBuffer<i64> + Drop>(rt: &impl Abort, mut ring: R) {
+struct ExtendsByNumbers;
+
+impl Case for ExtendsByNumbers {
+    fn on<R: RingBuffer<i64> + Drop>(&self, rt: &(impl Abort + AllocGlobal), mut ring: R) {
         let numbers = Numbers {
             next: 0,
             end: 10_000,
@@ -403,14 +453,17 @@ fn extend_takes_any_source_that_ends(rt: HostRuntime) -> Result<(), AllocError> 
         assert!(rt; ring.extend(numbers).is_ok());
         assert_holds(rt, &ring, &[9998, 9999]);
     }
-    on(&rt, ConstGenericRingBuffer::<i64, 2>::new());
-    on(&rt, AllocRingBuffer::new(rt.alloc(), 2)?);
-    Ok(())
 }
 
 #[test]
-fn a_taken_item_makes_room(rt: HostRuntime) -> Result<(), AllocError> {
-    fn on<R: RingBuffer<i64> + Drop>(rt: &impl Abort, mut ring: R) {
+fn extend_takes_any_source_that_ends(rt: HostRuntime) -> Result<(), AllocError> {
+    on_fixed::<2>(&rt, &ExtendsByNumbers)
+}
+
+struct TakesForRoom;
+
+impl Case for TakesForRoom {
+    fn on<R: RingBuffer<i64> + Drop>(&self, rt: &(impl Abort + AllocGlobal), mut ring: R) {
         push_all(rt, &mut ring, &[0, 1]);
         assert_eq!(rt; ring.dequeue(), Some(0));
         push_all(rt, &mut ring, &[2, 3]);
@@ -418,14 +471,17 @@ fn a_taken_item_makes_room(rt: HostRuntime) -> Result<(), AllocError> {
         push_all(rt, &mut ring, &[4]);
         assert_holds(rt, &ring, &[2, 3, 4]);
     }
-    on(&rt, ConstGenericRingBuffer::<i64, 3>::new());
-    on(&rt, AllocRingBuffer::new(rt.alloc(), 3)?);
-    Ok(())
 }
 
 #[test]
-fn a_clear_makes_room(rt: HostRuntime) -> Result<(), AllocError> {
-    fn on<R: RingBuffer<i64> + Drop>(rt: &impl Abort, mut ring: R) {
+fn a_taken_item_makes_room(rt: HostRuntime) -> Result<(), AllocError> {
+    on_fixed::<3>(&rt, &TakesForRoom)
+}
+
+struct ClearsForRoom;
+
+impl Case for ClearsForRoom {
+    fn on<R: RingBuffer<i64> + Drop>(&self, rt: &(impl Abort + AllocGlobal), mut ring: R) {
         push_all(rt, &mut ring, &[0, 1]);
         ring.clear();
         push_all(rt, &mut ring, &[2, 3]);
@@ -433,44 +489,57 @@ fn a_clear_makes_room(rt: HostRuntime) -> Result<(), AllocError> {
         push_all(rt, &mut ring, &[4]);
         assert_holds(rt, &ring, &[3, 4]);
     }
-    on(&rt, ConstGenericRingBuffer::<i64, 2>::new());
-    on(&rt, AllocRingBuffer::new(rt.alloc(), 2)?);
-    Ok(())
 }
 
 #[test]
-fn items_go_round_the_slots(rt: HostRuntime) -> Result<(), AllocError> {
-    fn on<R: RingBuffer<i64> + Drop>(rt: &impl Abort, mut ring: R) {
+fn a_clear_makes_room(rt: HostRuntime) -> Result<(), AllocError> {
+    on_fixed::<2>(&rt, &ClearsForRoom)
+}
+
+struct GoesRound;
+
+impl Case for GoesRound {
+    fn on<R: RingBuffer<i64> + Drop>(&self, rt: &(impl Abort + AllocGlobal), mut ring: R) {
         push_all(rt, &mut ring, &[0, 1, 2, 3, 4, 5, 6, 7, 8]);
         assert_holds(rt, &ring, &[4, 5, 6, 7, 8]);
         assert_eq!(rt; ring.dequeue(), Some(4));
         push_all(rt, &mut ring, &[9, 10]);
         assert_holds(rt, &ring, &[6, 7, 8, 9, 10]);
     }
-    on(&rt, ConstGenericRingBuffer::<i64, 5>::new());
-    on(&rt, AllocRingBuffer::new(rt.alloc(), 5)?);
-    Ok(())
 }
 
 #[test]
-fn a_ring_may_have_one_slot(rt: HostRuntime) -> Result<(), AllocError> {
-    fn on<R: RingBuffer<i64> + Drop>(rt: &impl Abort, mut ring: R) {
+fn items_go_round_the_slots(rt: HostRuntime) -> Result<(), AllocError> {
+    on_fixed::<5>(&rt, &GoesRound)
+}
+
+struct OneSlot;
+
+impl Case for OneSlot {
+    fn on<R: RingBuffer<i64> + Drop>(&self, rt: &(impl Abort + AllocGlobal), mut ring: R) {
         assert_eq!(rt; ring.buffer_size(), 1);
         push_all(rt, &mut ring, &[1, 2]);
         assert_holds(rt, &ring, &[2]);
         push_all(rt, &mut ring, &[3, 4, 5, 6, 7, 8, 9]);
         assert_holds(rt, &ring, &[9]);
     }
-    on(&rt, ConstGenericRingBuffer::<i64, 1>::new());
-    on(&rt, AllocRingBuffer::new(rt.alloc(), 1)?);
-    Ok(())
+}
+
+#[test]
+fn a_ring_may_have_one_slot(rt: HostRuntime) -> Result<(), AllocError> {
+    on_fixed::<1>(&rt, &OneSlot)
+}
+
+/// The ring has this capacity, and this number of slots.
+fn assert_sizes<R: RingBuffer<i64>>(rt: &impl Abort, ring: &R, capacity: usize, slots: usize) {
+    assert_eq!(rt; ring.capacity(), capacity);
+    assert_eq!(rt; ring.buffer_size(), slots, "at {capacity}");
 }
 
 #[test]
 fn an_array_ring_has_as_many_slots_as_items(rt: HostRuntime) {
     let mut ring = ConstGenericRingBuffer::<i64, 50>::new();
-    assert_eq!(rt; ring.capacity(), 50);
-    assert_eq!(rt; ring.buffer_size(), 50);
+    assert_sizes(&rt, &ring, 50, 50);
     push_all(&rt, &mut ring, &[5]);
     assert_holds(&rt, &ring, &[5]);
 }
@@ -488,9 +557,8 @@ fn a_heap_ring_has_a_power_of_two_of_slots(rt: HostRuntime) -> Result<(), AllocE
         (1000, 1024),
     ];
     for (capacity, slots) in cases {
-        let ring = AllocRingBuffer::<i64>::new(rt.alloc(), capacity)?;
-        assert_eq!(rt; ring.capacity(), capacity);
-        assert_eq!(rt; ring.buffer_size(), slots, "at {capacity}");
+        let ring = AllocRingBuffer::new(rt.alloc(), capacity)?;
+        assert_sizes(&rt, &ring, capacity, slots);
     }
     Ok(())
 }

@@ -1,6 +1,6 @@
 //! Walks over the items: reading, writing and taking; lists of the items.
 
-use super::{assert_holds, push_all};
+use super::{Case, assert_holds, on_each, on_fixed, on_growable, push_all};
 use End::{Back, Front};
 use ringbuffer::{
     AllocRingBuffer, ConstGenericRingBuffer, GrowableAllocRingBuffer, RingBuffer,
@@ -47,6 +47,12 @@ fn assert_lends<R: RingBuffer<i64>>(rt: &impl Abort, ring: &mut R, steps: &[(End
     }
 }
 
+/// The list of all items is this one.
+fn assert_lists<R: RingBuffer<i64>>(rt: &(impl Abort + AllocGlobal), ring: &R, items: &[i64]) {
+    let listed = ring.to_vec(rt.alloc()).expect(rt, "memory");
+    assert_eq!(rt; listed.as_slice(), items);
+}
+
 /// Adds one to each item.
 fn increment<R: RingBuffer<i64>>(rt: &impl Abort, ring: &mut R) {
     let mut walk = RingBufferMutIterator::new(ring);
@@ -57,83 +63,78 @@ fn increment<R: RingBuffer<i64>>(rt: &impl Abort, ring: &mut R) {
     assert!(rt; walk.next().is_none());
 }
 
+/// Items, and the steps of a walk over them.
+#[derive(Drop)]
+struct Steps {
+    items: &'static [i64],
+    steps: &'static [(End, Option<i64>)],
+}
+
+impl Case for Steps {
+    fn on<R: RingBuffer<i64> + Drop>(&self, rt: &(impl Abort + AllocGlobal), mut ring: R) {
+        push_all(rt, &mut ring, self.items);
+        assert_reads(rt, &ring, self.steps);
+        assert_lends(rt, &mut ring, self.steps);
+    }
+}
+
 #[test]
 fn walks_meet_in_the_middle(rt: HostRuntime) -> Result<(), AllocError> {
-    fn on<R: RingBuffer<i64> + Drop>(rt: &impl Abort, mut ring: R) {
-        push_all(rt, &mut ring, &[1, 2, 3, 4, 5, 6, 7]);
-        let steps = [
-            (Front, Some(1)),
-            (Back, Some(7)),
-            (Front, Some(2)),
-            (Front, Some(3)),
-            (Back, Some(6)),
-            (Back, Some(5)),
-            (Front, Some(4)),
-            (Front, None),
-        ];
-        assert_reads(rt, &ring, &steps);
-        assert_lends(rt, &mut ring, &steps);
-    }
-    on(&rt, ConstGenericRingBuffer::<i64, 8>::new());
-    on(&rt, AllocRingBuffer::new(rt.alloc(), 8)?);
-    on(&rt, GrowableAllocRingBuffer::with_capacity(rt.alloc(), 8)?);
-    on(&rt, ConstGenericRingBuffer::<i64, 7>::new());
-    on(&rt, AllocRingBuffer::new(rt.alloc(), 7)?);
-    on(&rt, GrowableAllocRingBuffer::with_capacity(rt.alloc(), 7)?);
-    Ok(())
+    let items = &[1, 2, 3, 4, 5, 6, 7];
+    let steps = &[
+        (Front, Some(1)),
+        (Back, Some(7)),
+        (Front, Some(2)),
+        (Front, Some(3)),
+        (Back, Some(6)),
+        (Back, Some(5)),
+        (Front, Some(4)),
+        (Front, None),
+    ];
+    on_each::<8>(&rt, &Steps { items, steps })?;
+    on_each::<7>(&rt, &Steps { items, steps })
 }
 
 #[test]
 fn walks_begin_at_either_end(rt: HostRuntime) -> Result<(), AllocError> {
-    fn on<R: RingBuffer<i64> + Drop>(rt: &impl Abort, mut ring: R) {
-        push_all(rt, &mut ring, &[1, 2, 3, 4]);
-        let steps = [
-            (Back, Some(4)),
-            (Back, Some(3)),
-            (Front, Some(1)),
-            (Back, Some(2)),
-            (Back, None),
-        ];
-        assert_reads(rt, &ring, &steps);
-        assert_lends(rt, &mut ring, &steps);
-    }
-    on(&rt, ConstGenericRingBuffer::<i64, 8>::new());
-    on(&rt, AllocRingBuffer::new(rt.alloc(), 8)?);
-    on(&rt, GrowableAllocRingBuffer::with_capacity(rt.alloc(), 8)?);
-    Ok(())
+    let items = &[1, 2, 3, 4];
+    let steps = &[
+        (Back, Some(4)),
+        (Back, Some(3)),
+        (Front, Some(1)),
+        (Back, Some(2)),
+        (Back, None),
+    ];
+    on_each::<8>(&rt, &Steps { items, steps })
 }
 
 #[test]
 fn an_ended_walk_stays_ended(rt: HostRuntime) -> Result<(), AllocError> {
-    fn on<R: RingBuffer<i64> + Drop>(rt: &impl Abort, mut ring: R) {
-        push_all(rt, &mut ring, &[1]);
-        let steps = [(Back, Some(1)), (Front, None), (Back, None), (Front, None)];
-        assert_reads(rt, &ring, &steps);
-        assert_lends(rt, &mut ring, &steps);
-    }
-    on(&rt, ConstGenericRingBuffer::<i64, 8>::new());
-    on(&rt, AllocRingBuffer::new(rt.alloc(), 8)?);
-    on(&rt, GrowableAllocRingBuffer::with_capacity(rt.alloc(), 8)?);
-    Ok(())
+    let items = &[1];
+    let steps = &[(Back, Some(1)), (Front, None), (Back, None), (Front, None)];
+    on_each::<8>(&rt, &Steps { items, steps })
 }
 
-#[test]
-fn an_empty_ring_has_nothing_to_come(rt: HostRuntime) -> Result<(), AllocError> {
-    fn on<R: RingBuffer<i64> + Drop>(rt: &impl Abort, mut ring: R) {
+struct NothingToCome;
+
+impl Case for NothingToCome {
+    fn on<R: RingBuffer<i64> + Drop>(&self, rt: &(impl Abort + AllocGlobal), mut ring: R) {
         assert_reads(rt, &ring, &[(Front, None), (Back, None)]);
         assert_lends(rt, &mut ring, &[(Front, None), (Back, None)]);
         assert!(rt; RingBufferDrainingIterator::new(&mut ring).next().is_none());
         assert!(rt; RingBufferIntoIterator::new(ring).next().is_none());
     }
-    on(&rt, ConstGenericRingBuffer::<i64, 8>::new());
-    on(&rt, AllocRingBuffer::new(rt.alloc(), 8)?);
-    on(&rt, GrowableAllocRingBuffer::with_capacity(rt.alloc(), 8)?);
-    Ok(())
 }
 
 #[test]
-fn a_walk_reads_in_order(rt: HostRuntime) -> Result<(), AllocError> {
-    fn on<R: RingBuffer<i64> + Drop>(rt: &impl Abort, mut ring: R) {
+fn an_empty_ring_has_nothing_to_come(rt: HostRuntime) -> Result<(), AllocError> {
+    on_each::<8>(&rt, &NothingToCome)
+}
+
+struct ReadsInOrder;
+
+impl Case for ReadsInOrder {
+    fn on<R: RingBuffer<i64> + Drop>(&self, rt: &(impl Abort + AllocGlobal), mut ring: R) {
         push_all(rt, &mut ring, &[1, 2, 3, 4, 5, 6, 7]);
         let mut walk = RingBufferIterator::new(&ring);
         for item in 1..8 {
@@ -141,15 +142,17 @@ fn a_walk_reads_in_order(rt: HostRuntime) -> Result<(), AllocError> {
         }
         assert!(rt; walk.next().is_none());
     }
-    on(&rt, ConstGenericRingBuffer::<i64, 7>::new());
-    on(&rt, AllocRingBuffer::new(rt.alloc(), 7)?);
-    on(&rt, GrowableAllocRingBuffer::with_capacity(rt.alloc(), 7)?);
-    Ok(())
 }
 
 #[test]
-fn an_owning_walk_takes_in_order(rt: HostRuntime) -> Result<(), AllocError> {
-    fn on<R: RingBuffer<i64> + Drop>(rt: &impl Abort, mut ring: R) {
+fn a_walk_reads_in_order(rt: HostRuntime) -> Result<(), AllocError> {
+    on_each::<7>(&rt, &ReadsInOrder)
+}
+
+struct TakesInOrder;
+
+impl Case for TakesInOrder {
+    fn on<R: RingBuffer<i64> + Drop>(&self, rt: &(impl Abort + AllocGlobal), mut ring: R) {
         push_all(rt, &mut ring, &[1, 2, 3, 4, 5, 6, 7]);
         let mut walk = RingBufferIntoIterator::new(ring);
         for (item, left) in [(1, 7), (2, 6), (3, 5), (4, 4), (5, 3), (6, 2), (7, 1)] {
@@ -159,10 +162,11 @@ fn an_owning_walk_takes_in_order(rt: HostRuntime) -> Result<(), AllocError> {
         assert_eq!(rt; walk.size_hint(), (0, Some(0)));
         assert!(rt; walk.next().is_none());
     }
-    on(&rt, ConstGenericRingBuffer::<i64, 8>::new());
-    on(&rt, AllocRingBuffer::new(rt.alloc(), 8)?);
-    on(&rt, GrowableAllocRingBuffer::with_capacity(rt.alloc(), 8)?);
-    Ok(())
+}
+
+#[test]
+fn an_owning_walk_takes_in_order(rt: HostRuntime) -> Result<(), AllocError> {
+    on_each::<8>(&rt, &TakesInOrder)
 }
 
 #[test]
@@ -213,77 +217,89 @@ fn items_may_be_references(rt: HostRuntime) -> Result<(), AllocError> {
     Ok(())
 }
 
-#[test]
-fn two_walks_go_side_by_side(rt: HostRuntime) -> Result<(), AllocError> {
-    fn on<R: RingBuffer<i64> + Drop>(rt: &impl Abort, mut ring: R) {
+struct SideBySide;
+
+impl Case for SideBySide {
+    fn on<R: RingBuffer<i64> + Drop>(&self, rt: &(impl Abort + AllocGlobal), mut ring: R) {
         push_all(rt, &mut ring, &[1, 2, 3]);
         let mut one = RingBufferIterator::new(&ring);
         let mut other = RingBufferIterator::new(&ring);
-        for item in 1..4 {
-            assert_eq!(rt; one.next().copied(), Some(item));
-            assert_eq!(rt; other.next().copied(), Some(item));
-        }
+        assert_eq!(rt; one.next().copied(), Some(1));
+        assert_eq!(rt; other.next().copied(), Some(1));
+        assert_eq!(rt; one.next().copied(), Some(2));
+        assert_eq!(rt; other.next().copied(), Some(2));
+        assert_eq!(rt; one.next().copied(), Some(3));
+        assert_eq!(rt; other.next().copied(), Some(3));
     }
-    on(&rt, ConstGenericRingBuffer::<i64, 8>::new());
-    on(&rt, AllocRingBuffer::new(rt.alloc(), 8)?);
-    on(&rt, GrowableAllocRingBuffer::with_capacity(rt.alloc(), 8)?);
-    Ok(())
+}
+
+#[test]
+fn two_walks_go_side_by_side(rt: HostRuntime) -> Result<(), AllocError> {
+    on_each::<8>(&rt, &SideBySide)
+}
+
+/// Pushes 1, 2 and 3. Walks and lists see what is kept of them, and then each item has one added.
+#[derive(Drop)]
+struct Seen {
+    steps: &'static [(End, Option<i64>)],
+    kept: &'static [i64],
+    incremented: &'static [i64],
+}
+
+impl Case for Seen {
+    fn on<R: RingBuffer<i64> + Drop>(&self, rt: &(impl Abort + AllocGlobal), mut ring: R) {
+        push_all(rt, &mut ring, &[1, 2, 3]);
+        assert_reads(rt, &ring, self.steps);
+        assert_lists(rt, &ring, self.kept);
+        increment(rt, &mut ring);
+        assert_holds(rt, &ring, self.incremented);
+    }
 }
 
 #[test]
 fn an_overwritten_item_is_not_seen(rt: HostRuntime) -> Result<(), AllocError> {
-    fn on<R: RingBuffer<i64> + Drop>(
-        rt: &(impl Abort + AllocGlobal),
-        mut ring: R,
-    ) -> Result<(), AllocError> {
-        push_all(rt, &mut ring, &[1, 2, 3]);
-        assert_reads(
-            rt,
-            &ring,
-            &[(Front, Some(2)), (Front, Some(3)), (Front, None)],
-        );
-        assert_eq!(rt; ring.to_vec(rt.alloc())?.as_slice(), [2, 3].as_slice());
-        increment(rt, &mut ring);
-        assert_holds(rt, &ring, &[3, 4]);
-        Ok(())
-    }
-    on(&rt, ConstGenericRingBuffer::<i64, 2>::new())?;
-    on(&rt, AllocRingBuffer::new(rt.alloc(), 2)?)
+    let seen = Seen {
+        steps: &[(Front, Some(2)), (Front, Some(3)), (Front, None)],
+        kept: &[2, 3],
+        incremented: &[3, 4],
+    };
+    on_fixed::<2>(&rt, &seen)
 }
 
 #[test]
 fn all_items_of_a_growable_ring_are_seen(rt: HostRuntime) -> Result<(), AllocError> {
-    let mut ring = GrowableAllocRingBuffer::with_capacity(rt.alloc(), 2)?;
-    push_all(&rt, &mut ring, &[1, 2, 3]);
-    let steps = [
-        (Front, Some(1)),
-        (Front, Some(2)),
-        (Front, Some(3)),
-        (Front, None),
-    ];
-    assert_reads(&rt, &ring, &steps);
-    assert_eq!(rt; ring.to_vec(rt.alloc())?.as_slice(), [1, 2, 3].as_slice());
-    increment(&rt, &mut ring);
-    assert_holds(&rt, &ring, &[2, 3, 4]);
-    Ok(())
+    let seen = Seen {
+        steps: &[
+            (Front, Some(1)),
+            (Front, Some(2)),
+            (Front, Some(3)),
+            (Front, None),
+        ],
+        kept: &[1, 2, 3],
+        incremented: &[2, 3, 4],
+    };
+    on_growable::<2>(&rt, &seen)
 }
 
-#[test]
-fn a_cursor_writes_each_item(rt: HostRuntime) -> Result<(), AllocError> {
-    fn on<R: RingBuffer<i64> + Drop>(rt: &impl Abort, mut ring: R) {
+struct Increments;
+
+impl Case for Increments {
+    fn on<R: RingBuffer<i64> + Drop>(&self, rt: &(impl Abort + AllocGlobal), mut ring: R) {
         push_all(rt, &mut ring, &[1, 2, 3]);
         increment(rt, &mut ring);
         assert_holds(rt, &ring, &[2, 3, 4]);
     }
-    on(&rt, ConstGenericRingBuffer::<i64, 8>::new());
-    on(&rt, AllocRingBuffer::new(rt.alloc(), 8)?);
-    on(&rt, GrowableAllocRingBuffer::with_capacity(rt.alloc(), 8)?);
-    Ok(())
 }
 
 #[test]
-fn a_cursor_writes_from_both_ends(rt: HostRuntime) -> Result<(), AllocError> {
-    fn on<R: RingBuffer<i64> + Drop>(rt: &impl Abort, mut ring: R) {
+fn a_cursor_writes_each_item(rt: HostRuntime) -> Result<(), AllocError> {
+    on_each::<8>(&rt, &Increments)
+}
+
+struct WritesFromBothEnds;
+
+impl Case for WritesFromBothEnds {
+    fn on<R: RingBuffer<i64> + Drop>(&self, rt: &(impl Abort + AllocGlobal), mut ring: R) {
         push_all(rt, &mut ring, &[1, 2, 3, 4]);
         let mut walk = RingBufferMutIterator::new(&mut ring);
         let first = walk.next().expect(rt, "a first item");
@@ -294,30 +310,34 @@ fn a_cursor_writes_from_both_ends(rt: HostRuntime) -> Result<(), AllocError> {
         drop(walk);
         assert_holds(rt, &ring, &[11, 2, 3, 24]);
     }
-    on(&rt, ConstGenericRingBuffer::<i64, 4>::new());
-    on(&rt, AllocRingBuffer::new(rt.alloc(), 4)?);
-    on(&rt, GrowableAllocRingBuffer::with_capacity(rt.alloc(), 4)?);
-    Ok(())
 }
 
 #[test]
-fn a_dropped_cursor_keeps_what_was_written(rt: HostRuntime) -> Result<(), AllocError> {
-    fn on<R: RingBuffer<i64> + Drop>(rt: &impl Abort, mut ring: R) {
+fn a_cursor_writes_from_both_ends(rt: HostRuntime) -> Result<(), AllocError> {
+    on_each::<4>(&rt, &WritesFromBothEnds)
+}
+
+struct WritesTheFirst;
+
+impl Case for WritesTheFirst {
+    fn on<R: RingBuffer<i64> + Drop>(&self, rt: &(impl Abort + AllocGlobal), mut ring: R) {
         push_all(rt, &mut ring, &[1, 2, 3]);
         let mut walk = RingBufferMutIterator::new(&mut ring);
         *walk.next().expect(rt, "a first item") = 5;
         drop(walk);
         assert_holds(rt, &ring, &[5, 2, 3]);
     }
-    on(&rt, ConstGenericRingBuffer::<i64, 3>::new());
-    on(&rt, AllocRingBuffer::new(rt.alloc(), 3)?);
-    on(&rt, GrowableAllocRingBuffer::with_capacity(rt.alloc(), 3)?);
-    Ok(())
 }
 
 #[test]
-fn a_drain_empties_the_ring(rt: HostRuntime) -> Result<(), AllocError> {
-    fn on<R: RingBuffer<i64> + Drop>(rt: &impl Abort, mut ring: R) {
+fn a_dropped_cursor_keeps_what_was_written(rt: HostRuntime) -> Result<(), AllocError> {
+    on_each::<3>(&rt, &WritesTheFirst)
+}
+
+struct DrainsAll;
+
+impl Case for DrainsAll {
+    fn on<R: RingBuffer<i64> + Drop>(&self, rt: &(impl Abort + AllocGlobal), mut ring: R) {
         push_all(rt, &mut ring, &[0, 1, 2, 3, 4, 5, 6, 7]);
         assert_eq!(rt; ring.len(), 8);
         let mut walk = RingBufferDrainingIterator::new(&mut ring);
@@ -338,15 +358,17 @@ fn a_drain_empties_the_ring(rt: HostRuntime) -> Result<(), AllocError> {
         drop(walk);
         assert_eq!(rt; ring.len(), 0);
     }
-    on(&rt, ConstGenericRingBuffer::<i64, 16>::new());
-    on(&rt, AllocRingBuffer::new(rt.alloc(), 16)?);
-    on(&rt, GrowableAllocRingBuffer::with_capacity(rt.alloc(), 16)?);
-    Ok(())
 }
 
 #[test]
-fn a_dropped_drain_leaves_the_rest(rt: HostRuntime) -> Result<(), AllocError> {
-    fn on<R: RingBuffer<i64> + Drop>(rt: &impl Abort, mut ring: R) {
+fn a_drain_empties_the_ring(rt: HostRuntime) -> Result<(), AllocError> {
+    on_each::<16>(&rt, &DrainsAll)
+}
+
+struct DrainsInParts;
+
+impl Case for DrainsInParts {
+    fn on<R: RingBuffer<i64> + Drop>(&self, rt: &(impl Abort + AllocGlobal), mut ring: R) {
         push_all(rt, &mut ring, &[1, 2, 3, 4]);
         drop(RingBufferDrainingIterator::new(&mut ring));
         assert_holds(rt, &ring, &[1, 2, 3, 4]);
@@ -358,57 +380,61 @@ fn a_dropped_drain_leaves_the_rest(rt: HostRuntime) -> Result<(), AllocError> {
         assert_eq!(rt; RingBufferDrainingIterator::new(&mut ring).next(), Some(3));
         assert_holds(rt, &ring, &[4]);
     }
-    on(&rt, ConstGenericRingBuffer::<i64, 4>::new());
-    on(&rt, AllocRingBuffer::new(rt.alloc(), 4)?);
-    on(&rt, GrowableAllocRingBuffer::with_capacity(rt.alloc(), 4)?);
-    Ok(())
+}
+
+#[test]
+fn a_dropped_drain_leaves_the_rest(rt: HostRuntime) -> Result<(), AllocError> {
+    on_each::<4>(&rt, &DrainsInParts)
+}
+
+struct DrainsThree;
+
+impl Case for DrainsThree {
+    fn on<R: RingBuffer<i64> + Drop>(&self, rt: &(impl Abort + AllocGlobal), mut ring: R) {
+        push_all(rt, &mut ring, &[1, 2, 3, 4]);
+        let mut walk = RingBufferDrainingIterator::new(&mut ring);
+        assert_eq!(rt; walk.next(), Some(1));
+        assert_eq!(rt; walk.next(), Some(2));
+        assert_eq!(rt; walk.next(), Some(3));
+        drop(walk);
+        assert_holds(rt, &ring, &[4]);
+    }
 }
 
 #[test]
 fn a_drain_of_three_leaves_the_fourth(rt: HostRuntime) -> Result<(), AllocError> {
-    fn on<R: RingBuffer<i64> + Drop>(rt: &impl Abort, mut ring: R) {
-        push_all(rt, &mut ring, &[1, 2, 3, 4]);
-        let mut walk = RingBufferDrainingIterator::new(&mut ring);
-        for item in 1..4 {
-            assert_eq!(rt; walk.next(), Some(item));
-        }
-        drop(walk);
-        assert_holds(rt, &ring, &[4]);
+    on_each::<4>(&rt, &DrainsThree)
+}
+
+struct Listed;
+
+impl Case for Listed {
+    fn on<R: RingBuffer<i64> + Drop>(&self, rt: &(impl Abort + AllocGlobal), mut ring: R) {
+        push_all(rt, &mut ring, &[1, 2, 3]);
+        assert_lists(rt, &ring, &[1, 2, 3]);
+        assert_holds(rt, &ring, &[1, 2, 3]);
     }
-    on(&rt, ConstGenericRingBuffer::<i64, 4>::new());
-    on(&rt, AllocRingBuffer::new(rt.alloc(), 4)?);
-    on(&rt, GrowableAllocRingBuffer::with_capacity(rt.alloc(), 4)?);
-    Ok(())
 }
 
 #[test]
 fn to_vec_clones_the_items_in_order(rt: HostRuntime) -> Result<(), AllocError> {
-    fn on<R: RingBuffer<i64> + Drop>(
-        rt: &(impl Abort + AllocGlobal),
-        mut ring: R,
-    ) -> Result<(), AllocError> {
-        push_all(rt, &mut ring, &[1, 2, 3]);
-        assert_eq!(rt; ring.to_vec(rt.alloc())?.as_slice(), [1, 2, 3].as_slice());
-        assert_holds(rt, &ring, &[1, 2, 3]);
-        Ok(())
-    }
-    on(&rt, ConstGenericRingBuffer::<i64, 8>::new())?;
-    on(&rt, AllocRingBuffer::new(rt.alloc(), 8)?)?;
-    on(&rt, GrowableAllocRingBuffer::with_capacity(rt.alloc(), 8)?)
+    on_each::<8>(&rt, &Listed)
 }
 
-#[test]
-fn contains_finds_the_items_alone(rt: HostRuntime) -> Result<(), AllocError> {
-    fn on<R: RingBuffer<i64> + Drop>(rt: &impl Abort, mut ring: R) {
+struct Contains;
+
+impl Case for Contains {
+    fn on<R: RingBuffer<i64> + Drop>(&self, rt: &(impl Abort + AllocGlobal), mut ring: R) {
         push_all(rt, &mut ring, &[1, 2]);
         assert!(rt; ring.contains(&1));
         assert!(rt; ring.contains(&2));
         assert!(rt; !ring.contains(&3));
     }
-    on(&rt, ConstGenericRingBuffer::<i64, 8>::new());
-    on(&rt, AllocRingBuffer::new(rt.alloc(), 8)?);
-    on(&rt, GrowableAllocRingBuffer::with_capacity(rt.alloc(), 8)?);
-    Ok(())
+}
+
+#[test]
+fn contains_finds_the_items_alone(rt: HostRuntime) -> Result<(), AllocError> {
+    on_each::<8>(&rt, &Contains)
 }
 
 // No trait that the rings share has these calls, so the body is a macro. Each walk takes 1, 2 and 3.

@@ -55,6 +55,13 @@ impl Drops {
             .get()
     }
 
+    /// Forgets all drops, so that the items can be made anew.
+    pub fn begin_again(&self) {
+        for count in &self.counts {
+            count.set(0);
+        }
+    }
+
     /// Each item was dropped exactly once.
     pub fn assert_each_once(&self, rt: &impl Abort) {
         for (number, count) in self.counts.iter().enumerate() {

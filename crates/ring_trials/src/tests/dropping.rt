@@ -1,5 +1,7 @@
 //! What becomes of items: each is dropped exactly once, also where items have no size.
 
+ghost use Rattle.std.specs.Prelude.{◌<◌, ◌^◌};
+
 use super::counted::{Counted, Drops};
 use ringbuffer::{
     AllocRingBuffer, Command, ConstGenericRingBuffer, GrowableAllocRingBuffer, RingBuffer,
@@ -7,6 +9,55 @@ use ringbuffer::{
 };
 use std::alloc::AllocError;
 use std::process::Abort;
+
+/// What a test does with a ring that is new, and items that count their drops.
+trait DropCase<T: Drop, D> {
+    fn on<R: RingBuffer<T> + Drop>(
+        &self,
+        rt: &(impl Abort + AllocGlobal),
+        ring: R,
+        drops: D,
+    ) -> Result<(), AllocError>;
+}
+
+/// The case on a ring of each type that has a limit. The drops of each are counted from zero on.
+fn on_fixed<'a, const CAP: usize>(
+    rt: &(impl Abort + AllocGlobal),
+    drops: &'a Drops,
+    case: &impl DropCase<Counted<'a>, &'a Drops>,
+) -> Result<(), AllocError>
+    requires some { 0 < CAP }
+    requires few { CAP < 2 ^ 16 }
+{
+    case.on(rt, ConstGenericRingBuffer::<Counted, CAP>::new(), drops)?;
+    drops.begin_again();
+    case.on(rt, AllocRingBuffer::new(rt.alloc(), CAP)?, drops)?;
+    drops.begin_again();
+    Ok(())
+}
+
+/// The case on a growable ring, which has room for so many items.
+fn on_growable<'a, const CAP: usize>(
+    rt: &(impl Abort + AllocGlobal),
+    drops: &'a Drops,
+    case: &impl DropCase<Counted<'a>, &'a Drops>,
+) -> Result<(), AllocError> {
+    let ring = GrowableAllocRingBuffer::with_capacity(rt.alloc(), CAP)?;
+    case.on(rt, ring, drops)
+}
+
+/// The case on a ring of each type.
+fn on_each<'a, const CAP: usize>(
+    rt: &(impl Abort + AllocGlobal),
+    drops: &'a Drops,
+    case: &impl DropCase<Counted<'a>, &'a Drops>,
+) -> Result<(), AllocError>
+    requires some { 0 < CAP }
+    requires few { CAP < 2 ^ 16 }
+{
+    on_fixed::<CAP>(rt, drops, case)?;
+    on_growable::<CAP>(rt, drops, case)
+}
 
 /// Pushes the items whose numbers are below `count`. None is refused.
 fn push_first<'a, R: RingBuffer<Counted<'a>>>(
@@ -20,14 +71,18 @@ fn push_first<'a, R: RingBuffer<Counted<'a>>>(
     }
 }
 
-#[test]
-fn what_a_push_hands_back_lives_until_it_is_dropped(rt: HostRuntime) -> Result<(), AllocError> {
-    fn on<'a, R: RingBuffer<Counted<'a>> + Drop>(
-        rt: &impl Abort,
+#[derive(Drop)]
+struct HandsBack {
+    overwrites: bool,
+}
+
+impl<'a> DropCase<Counted<'a>, &'a Drops> for HandsBack {
+    fn on<R: RingBuffer<Counted<'a>> + Drop>(
+        &self,
+        rt: &(impl Abort + AllocGlobal),
         mut ring: R,
         drops: &'a Drops,
-        overwrites: bool,
-    ) {
+    ) -> Result<(), AllocError> {
         push_first(rt, &mut ring, drops, 1);
         for (old, number) in [(0, 1), (1, 2)] {
             let Ok(overwritten) = ring.push(drops.item(rt, number)) else {
@@ -36,100 +91,99 @@ fn what_a_push_hands_back_lives_until_it_is_dropped(rt: HostRuntime) -> Result<(
             assert_eq!(rt; drops.of(rt, old), 0);
             match overwritten {
                 Some(item) => {
-                    assert!(rt; overwrites);
+                    assert!(rt; self.overwrites);
                     assert_eq!(rt; item.number, old);
                     drop(item);
                     assert_eq!(rt; drops.of(rt, old), 1);
                 }
-                None => assert!(rt; !overwrites),
+                None => assert!(rt; !self.overwrites),
             }
             assert_eq!(rt; drops.of(rt, number), 0);
         }
         drop(ring);
         drops.assert_each_once(rt);
+        Ok(())
     }
+}
+
+#[test]
+fn what_a_push_hands_back_lives_until_it_is_dropped(rt: HostRuntime) -> Result<(), AllocError> {
     let drops = Drops::new(rt.alloc(), 3)?;
-    on(
-        &rt,
-        ConstGenericRingBuffer::<Counted, 1>::new(),
-        &drops,
-        true,
-    );
-    let drops = Drops::new(rt.alloc(), 3)?;
-    on(&rt, AllocRingBuffer::new(rt.alloc(), 1)?, &drops, true);
-    let drops = Drops::new(rt.alloc(), 3)?;
-    on(
-        &rt,
-        GrowableAllocRingBuffer::with_capacity(rt.alloc(), 1)?,
-        &drops,
-        false,
-    );
-    Ok(())
+    on_fixed::<1>(&rt, &drops, &HandsBack { overwrites: true })?;
+    on_growable::<1>(&rt, &drops, &HandsBack { overwrites: false })
+}
+
+#[derive(Drop)]
+struct HandsBackToNobody {
+    overwritten: u8,
+}
+
+impl<'a> DropCase<Counted<'a>, &'a Drops> for HandsBackToNobody {
+    fn on<R: RingBuffer<Counted<'a>> + Drop>(
+        &self,
+        rt: &(impl Abort + AllocGlobal),
+        mut ring: R,
+        drops: &'a Drops,
+    ) -> Result<(), AllocError> {
+        push_first(rt, &mut ring, drops, 1);
+        let _ = ring.push(drops.item(rt, 1));
+        assert_eq!(rt; drops.of(rt, 0), self.overwritten);
+        assert_eq!(rt; drops.of(rt, 1), 0);
+        let _ = ring.enqueue(drops.item(rt, 2));
+        assert_eq!(rt; drops.of(rt, 1), self.overwritten);
+        assert_eq!(rt; drops.of(rt, 2), 0);
+        let _ = apply(&mut ring, Command::Push(drops.item(rt, 3)));
+        assert_eq!(rt; drops.of(rt, 2), self.overwritten);
+        assert_eq!(rt; drops.of(rt, 3), 0);
+        drop(ring);
+        drops.assert_each_once(rt);
+        Ok(())
+    }
 }
 
 #[test]
 fn what_a_push_hands_back_is_dropped_at_once_if_nobody_takes_it(
     rt: HostRuntime,
 ) -> Result<(), AllocError> {
-    fn on<'a, R: RingBuffer<Counted<'a>> + Drop>(
-        rt: &impl Abort,
-        mut ring: R,
-        drops: &'a Drops,
-        overwritten: u8,
-    ) {
-        push_first(rt, &mut ring, drops, 1);
-        let _ = ring.push(drops.item(rt, 1));
-        assert_eq!(rt; drops.of(rt, 0), overwritten);
-        assert_eq!(rt; drops.of(rt, 1), 0);
-        let _ = ring.enqueue(drops.item(rt, 2));
-        assert_eq!(rt; drops.of(rt, 1), overwritten);
-        assert_eq!(rt; drops.of(rt, 2), 0);
-        let _ = apply(&mut ring, Command::Push(drops.item(rt, 3)));
-        assert_eq!(rt; drops.of(rt, 2), overwritten);
-        assert_eq!(rt; drops.of(rt, 3), 0);
-        drop(ring);
-        drops.assert_each_once(rt);
-    }
     let drops = Drops::new(rt.alloc(), 4)?;
-    on(&rt, ConstGenericRingBuffer::<Counted, 1>::new(), &drops, 1);
-    let drops = Drops::new(rt.alloc(), 4)?;
-    on(&rt, AllocRingBuffer::new(rt.alloc(), 1)?, &drops, 1);
-    let drops = Drops::new(rt.alloc(), 4)?;
-    on(
-        &rt,
-        GrowableAllocRingBuffer::with_capacity(rt.alloc(), 1)?,
-        &drops,
-        0,
-    );
-    Ok(())
+    on_fixed::<1>(&rt, &drops, &HandsBackToNobody { overwritten: 1 })?;
+    on_growable::<1>(&rt, &drops, &HandsBackToNobody { overwritten: 0 })
 }
 
-#[test]
-fn a_ring_that_ends_drops_its_items(rt: HostRuntime) -> Result<(), AllocError> {
-    fn on<'a, R: RingBuffer<Counted<'a>> + Drop>(rt: &impl Abort, mut ring: R, drops: &'a Drops) {
+struct Ends;
+
+impl<'a> DropCase<Counted<'a>, &'a Drops> for Ends {
+    fn on<R: RingBuffer<Counted<'a>> + Drop>(
+        &self,
+        rt: &(impl Abort + AllocGlobal),
+        mut ring: R,
+        drops: &'a Drops,
+    ) -> Result<(), AllocError> {
         push_first(rt, &mut ring, drops, 5);
         let taken = ring.dequeue().expect(rt, "an item");
         assert_eq!(rt; drops.of(rt, taken.number), 0);
         drop(taken);
         drop(ring);
         drops.assert_each_once(rt);
+        Ok(())
     }
-    let drops = Drops::new(rt.alloc(), 5)?;
-    on(&rt, ConstGenericRingBuffer::<Counted, 3>::new(), &drops);
-    let drops = Drops::new(rt.alloc(), 5)?;
-    on(&rt, AllocRingBuffer::new(rt.alloc(), 3)?, &drops);
-    let drops = Drops::new(rt.alloc(), 5)?;
-    on(
-        &rt,
-        GrowableAllocRingBuffer::with_capacity(rt.alloc(), 3)?,
-        &drops,
-    );
-    Ok(())
 }
 
 #[test]
-fn a_skip_and_a_clear_drop_at_once(rt: HostRuntime) -> Result<(), AllocError> {
-    fn on<'a, R: RingBuffer<Counted<'a>> + Drop>(rt: &impl Abort, mut ring: R, drops: &'a Drops) {
+fn a_ring_that_ends_drops_its_items(rt: HostRuntime) -> Result<(), AllocError> {
+    let drops = Drops::new(rt.alloc(), 5)?;
+    on_each::<3>(&rt, &drops, &Ends)
+}
+
+struct SkipsAndClears;
+
+impl<'a> DropCase<Counted<'a>, &'a Drops> for SkipsAndClears {
+    fn on<R: RingBuffer<Counted<'a>> + Drop>(
+        &self,
+        rt: &(impl Abort + AllocGlobal),
+        mut ring: R,
+        drops: &'a Drops,
+    ) -> Result<(), AllocError> {
         push_first(rt, &mut ring, drops, 4);
         ring.skip();
         assert_eq!(rt; drops.of(rt, 0), 1);
@@ -139,75 +193,79 @@ fn a_skip_and_a_clear_drop_at_once(rt: HostRuntime) -> Result<(), AllocError> {
         drops.assert_each_once(rt);
         drop(ring);
         drops.assert_each_once(rt);
+        Ok(())
     }
-    let drops = Drops::new(rt.alloc(), 5)?;
-    on(&rt, ConstGenericRingBuffer::<Counted, 4>::new(), &drops);
-    let drops = Drops::new(rt.alloc(), 5)?;
-    on(&rt, AllocRingBuffer::new(rt.alloc(), 4)?, &drops);
-    let drops = Drops::new(rt.alloc(), 5)?;
-    on(
-        &rt,
-        GrowableAllocRingBuffer::with_capacity(rt.alloc(), 4)?,
-        &drops,
-    );
-    Ok(())
 }
 
 #[test]
-fn an_extension_drops_what_it_overwrites(rt: HostRuntime) -> Result<(), AllocError> {
-    fn on<'a, R: RingBuffer<Counted<'a>> + Drop>(
+fn a_skip_and_a_clear_drop_at_once(rt: HostRuntime) -> Result<(), AllocError> {
+    let drops = Drops::new(rt.alloc(), 5)?;
+    on_each::<4>(&rt, &drops, &SkipsAndClears)
+}
+
+#[derive(Drop)]
+struct Extends {
+    overwritten: u8,
+}
+
+impl<'a> DropCase<Counted<'a>, &'a Drops> for Extends {
+    fn on<R: RingBuffer<Counted<'a>> + Drop>(
+        &self,
         rt: &(impl Abort + AllocGlobal),
         mut ring: R,
         drops: &'a Drops,
-        overwritten: u8,
     ) -> Result<(), AllocError> {
         push_first(rt, &mut ring, drops, 1);
         ring.extend(drops.items(rt, 1..5)?)?;
-        assert_eq!(rt; drops.of(rt, 2), overwritten);
+        assert_eq!(rt; drops.of(rt, 2), self.overwritten);
         assert_eq!(rt; drops.of(rt, 3), 0);
         drop(ring);
         drops.assert_each_once(rt);
         Ok(())
     }
-    let drops = Drops::new(rt.alloc(), 5)?;
-    on(&rt, ConstGenericRingBuffer::<Counted, 2>::new(), &drops, 1)?;
-    let drops = Drops::new(rt.alloc(), 5)?;
-    on(&rt, AllocRingBuffer::new(rt.alloc(), 2)?, &drops, 1)?;
-    let drops = Drops::new(rt.alloc(), 5)?;
-    on(
-        &rt,
-        GrowableAllocRingBuffer::with_capacity(rt.alloc(), 2)?,
-        &drops,
-        0,
-    )
 }
 
 #[test]
-fn a_write_drops_the_item_before_it(rt: HostRuntime) -> Result<(), AllocError> {
-    fn on<'a, R: RingBuffer<Counted<'a>> + Drop>(rt: &impl Abort, mut ring: R, drops: &'a Drops) {
+fn an_extension_drops_what_it_overwrites(rt: HostRuntime) -> Result<(), AllocError> {
+    let drops = Drops::new(rt.alloc(), 5)?;
+    on_fixed::<2>(&rt, &drops, &Extends { overwritten: 1 })?;
+    on_growable::<2>(&rt, &drops, &Extends { overwritten: 0 })
+}
+
+struct Writes;
+
+impl<'a> DropCase<Counted<'a>, &'a Drops> for Writes {
+    fn on<R: RingBuffer<Counted<'a>> + Drop>(
+        &self,
+        rt: &(impl Abort + AllocGlobal),
+        mut ring: R,
+        drops: &'a Drops,
+    ) -> Result<(), AllocError> {
         push_first(rt, &mut ring, drops, 2);
         *ring.get_mut(1).expect(rt, "an item") = drops.item(rt, 2);
         assert_eq!(rt; drops.of(rt, 1), 1);
         assert_eq!(rt; drops.of(rt, 2), 0);
         drop(ring);
         drops.assert_each_once(rt);
+        Ok(())
     }
-    let drops = Drops::new(rt.alloc(), 3)?;
-    on(&rt, ConstGenericRingBuffer::<Counted, 2>::new(), &drops);
-    let drops = Drops::new(rt.alloc(), 3)?;
-    on(&rt, AllocRingBuffer::new(rt.alloc(), 2)?, &drops);
-    let drops = Drops::new(rt.alloc(), 3)?;
-    on(
-        &rt,
-        GrowableAllocRingBuffer::with_capacity(rt.alloc(), 2)?,
-        &drops,
-    );
-    Ok(())
 }
 
 #[test]
-fn a_drain_hands_its_items_over(rt: HostRuntime) -> Result<(), AllocError> {
-    fn on<'a, R: RingBuffer<Counted<'a>> + Drop>(rt: &impl Abort, mut ring: R, drops: &'a Drops) {
+fn a_write_drops_the_item_before_it(rt: HostRuntime) -> Result<(), AllocError> {
+    let drops = Drops::new(rt.alloc(), 3)?;
+    on_each::<2>(&rt, &drops, &Writes)
+}
+
+struct Drains;
+
+impl<'a> DropCase<Counted<'a>, &'a Drops> for Drains {
+    fn on<R: RingBuffer<Counted<'a>> + Drop>(
+        &self,
+        rt: &(impl Abort + AllocGlobal),
+        mut ring: R,
+        drops: &'a Drops,
+    ) -> Result<(), AllocError> {
         push_first(rt, &mut ring, drops, 4);
         let mut walk = RingBufferDrainingIterator::new(&mut ring);
         let taken = walk.next().expect(rt, "an item");
@@ -219,23 +277,25 @@ fn a_drain_hands_its_items_over(rt: HostRuntime) -> Result<(), AllocError> {
         assert_eq!(rt; drops.of(rt, 0), 0);
         drop(taken);
         drops.assert_each_once(rt);
+        Ok(())
     }
-    let drops = Drops::new(rt.alloc(), 4)?;
-    on(&rt, ConstGenericRingBuffer::<Counted, 4>::new(), &drops);
-    let drops = Drops::new(rt.alloc(), 4)?;
-    on(&rt, AllocRingBuffer::new(rt.alloc(), 4)?, &drops);
-    let drops = Drops::new(rt.alloc(), 4)?;
-    on(
-        &rt,
-        GrowableAllocRingBuffer::with_capacity(rt.alloc(), 4)?,
-        &drops,
-    );
-    Ok(())
 }
 
 #[test]
-fn an_owning_walk_that_ends_drops_the_rest(rt: HostRuntime) -> Result<(), AllocError> {
-    fn on<'a, R: RingBuffer<Counted<'a>> + Drop>(rt: &impl Abort, mut ring: R, drops: &'a Drops) {
+fn a_drain_hands_its_items_over(rt: HostRuntime) -> Result<(), AllocError> {
+    let drops = Drops::new(rt.alloc(), 4)?;
+    on_each::<4>(&rt, &drops, &Drains)
+}
+
+struct WalksAndEnds;
+
+impl<'a> DropCase<Counted<'a>, &'a Drops> for WalksAndEnds {
+    fn on<R: RingBuffer<Counted<'a>> + Drop>(
+        &self,
+        rt: &(impl Abort + AllocGlobal),
+        mut ring: R,
+        drops: &'a Drops,
+    ) -> Result<(), AllocError> {
         push_first(rt, &mut ring, drops, 4);
         let mut walk = RingBufferIntoIterator::new(ring);
         drop(walk.next());
@@ -243,23 +303,21 @@ fn an_owning_walk_that_ends_drops_the_rest(rt: HostRuntime) -> Result<(), AllocE
         assert_eq!(rt; drops.of(rt, 1), 0);
         drop(walk);
         drops.assert_each_once(rt);
+        Ok(())
     }
-    let drops = Drops::new(rt.alloc(), 4)?;
-    on(&rt, ConstGenericRingBuffer::<Counted, 4>::new(), &drops);
-    let drops = Drops::new(rt.alloc(), 4)?;
-    on(&rt, AllocRingBuffer::new(rt.alloc(), 4)?, &drops);
-    let drops = Drops::new(rt.alloc(), 4)?;
-    on(
-        &rt,
-        GrowableAllocRingBuffer::with_capacity(rt.alloc(), 4)?,
-        &drops,
-    );
-    Ok(())
 }
 
 #[test]
-fn commands_hand_their_items_to_the_ring(rt: HostRuntime) -> Result<(), AllocError> {
-    fn on<'a, R: RingBuffer<Counted<'a>> + Drop>(
+fn an_owning_walk_that_ends_drops_the_rest(rt: HostRuntime) -> Result<(), AllocError> {
+    let drops = Drops::new(rt.alloc(), 4)?;
+    on_each::<4>(&rt, &drops, &WalksAndEnds)
+}
+
+struct Commands;
+
+impl<'a> DropCase<Counted<'a>, &'a Drops> for Commands {
+    fn on<R: RingBuffer<Counted<'a>> + Drop>(
+        &self,
         rt: &(impl Abort + AllocGlobal),
         mut ring: R,
         drops: &'a Drops,
@@ -276,16 +334,12 @@ fn commands_hand_their_items_to_the_ring(rt: HostRuntime) -> Result<(), AllocErr
         drops.assert_each_once(rt);
         Ok(())
     }
+}
+
+#[test]
+fn commands_hand_their_items_to_the_ring(rt: HostRuntime) -> Result<(), AllocError> {
     let drops = Drops::new(rt.alloc(), 4)?;
-    on(&rt, ConstGenericRingBuffer::<Counted, 2>::new(), &drops)?;
-    let drops = Drops::new(rt.alloc(), 4)?;
-    on(&rt, AllocRingBuffer::new(rt.alloc(), 2)?, &drops)?;
-    let drops = Drops::new(rt.alloc(), 4)?;
-    on(
-        &rt,
-        GrowableAllocRingBuffer::with_capacity(rt.alloc(), 2)?,
-        &drops,
-    )
+    on_each::<2>(&rt, &drops, &Commands)
 }
 
 #[test]

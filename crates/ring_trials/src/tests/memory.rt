@@ -2,11 +2,11 @@
 
 use super::counted::{Counted, Drops, assert_numbered};
 use super::drought::Drought;
-use super::{assert_gives, assert_holds, push_all};
+use super::{Case, assert_gives, assert_holds, on_each, on_fixed, push_all};
 use ringbuffer::{
-    AllocRingBuffer, Command, ConstGenericRingBuffer, GrowableAllocRingBuffer, Refused, Reply,
-    RingBuffer, RingBufferDrainingIterator, RingBufferIterator, RingBufferMutIterator, RunFault,
-    apply, run, run_into,
+    AllocRingBuffer, Command, GrowableAllocRingBuffer, Refused, Reply, RingBuffer,
+    RingBufferDrainingIterator, RingBufferIterator, RingBufferMutIterator, RunFault, apply, run,
+    run_into,
 };
 use std::alloc::AllocError;
 use std::process::Abort;
@@ -72,9 +72,11 @@ fn a_refused_push_can_be_tried_again(rt: HostRuntime) -> Result<(), AllocError> 
     Ok(())
 }
 
-#[test]
-fn fixed_rings_take_no_memory(rt: HostRuntime) -> Result<(), AllocError> {
+struct FixedTakesNone;
+
+impl Case for FixedTakesNone {
     fn on<R: RingBuffer<i64> + Drop>(
+        &self,
         rt: &(impl Abort + AllocGlobal),
         mut ring: R,
     ) -> Result<(), AllocError> {
@@ -94,13 +96,18 @@ fn fixed_rings_take_no_memory(rt: HostRuntime) -> Result<(), AllocError> {
         drop(drought);
         Ok(())
     }
-    on(&rt, ConstGenericRingBuffer::<i64, 2>::new())?;
-    on(&rt, AllocRingBuffer::new(rt.alloc(), 2)?)
 }
 
 #[test]
-fn walks_take_no_memory(rt: HostRuntime) -> Result<(), AllocError> {
+fn fixed_rings_take_no_memory(rt: HostRuntime) -> Result<(), AllocError> {
+    on_fixed::<2>(&rt, &FixedTakesNone)
+}
+
+struct WalksTakeNone;
+
+impl Case for WalksTakeNone {
     fn on<R: RingBuffer<i64> + Drop>(
+        &self,
         rt: &(impl Abort + AllocGlobal),
         mut ring: R,
     ) -> Result<(), AllocError> {
@@ -114,14 +121,18 @@ fn walks_take_no_memory(rt: HostRuntime) -> Result<(), AllocError> {
         drop(drought);
         Ok(())
     }
-    on(&rt, ConstGenericRingBuffer::<i64, 3>::new())?;
-    on(&rt, AllocRingBuffer::new(rt.alloc(), 3)?)?;
-    on(&rt, GrowableAllocRingBuffer::with_capacity(rt.alloc(), 3)?)
 }
 
 #[test]
-fn runs_into_places_take_no_memory(rt: HostRuntime) -> Result<(), AllocError> {
+fn walks_take_no_memory(rt: HostRuntime) -> Result<(), AllocError> {
+    on_each::<3>(&rt, &WalksTakeNone)
+}
+
+struct RunsTakeNone;
+
+impl Case for RunsTakeNone {
     fn on<R: RingBuffer<i64> + Drop>(
+        &self,
         rt: &(impl Abort + AllocGlobal),
         mut ring: R,
     ) -> Result<(), AllocError> {
@@ -142,13 +153,18 @@ fn runs_into_places_take_no_memory(rt: HostRuntime) -> Result<(), AllocError> {
         assert_holds(rt, &ring, &[4, 5]);
         Ok(())
     }
-    on(&rt, ConstGenericRingBuffer::<i64, 2>::new())?;
-    on(&rt, AllocRingBuffer::new(rt.alloc(), 2)?)
 }
 
 #[test]
-fn a_refused_to_vec_leaves_the_ring(rt: HostRuntime) -> Result<(), AllocError> {
+fn runs_into_places_take_no_memory(rt: HostRuntime) -> Result<(), AllocError> {
+    on_fixed::<2>(&rt, &RunsTakeNone)
+}
+
+struct ListRefused;
+
+impl Case for ListRefused {
     fn on<R: RingBuffer<i64> + Drop>(
+        &self,
         rt: &(impl Abort + AllocGlobal),
         mut ring: R,
     ) -> Result<(), AllocError> {
@@ -160,14 +176,18 @@ fn a_refused_to_vec_leaves_the_ring(rt: HostRuntime) -> Result<(), AllocError> {
         assert_holds(rt, &ring, &[1, 2, 3]);
         Ok(())
     }
-    on(&rt, ConstGenericRingBuffer::<i64, 3>::new())?;
-    on(&rt, AllocRingBuffer::new(rt.alloc(), 3)?)?;
-    on(&rt, GrowableAllocRingBuffer::with_capacity(rt.alloc(), 3)?)
 }
 
 #[test]
-fn a_run_without_room_hands_its_commands_back(rt: HostRuntime) -> Result<(), AllocError> {
+fn a_refused_to_vec_leaves_the_ring(rt: HostRuntime) -> Result<(), AllocError> {
+    on_each::<3>(&rt, &ListRefused)
+}
+
+struct RunWithoutRoom;
+
+impl Case for RunWithoutRoom {
     fn on<R: RingBuffer<i64> + Drop>(
+        &self,
         rt: &(impl Abort + AllocGlobal),
         mut ring: R,
     ) -> Result<(), AllocError> {
@@ -183,9 +203,11 @@ fn a_run_without_room_hands_its_commands_back(rt: HostRuntime) -> Result<(), All
         assert_holds(rt, &ring, &[8]);
         Ok(())
     }
-    on(&rt, ConstGenericRingBuffer::<i64, 2>::new())?;
-    on(&rt, AllocRingBuffer::new(rt.alloc(), 2)?)?;
-    on(&rt, GrowableAllocRingBuffer::with_capacity(rt.alloc(), 2)?)
+}
+
+#[test]
+fn a_run_without_room_hands_its_commands_back(rt: HostRuntime) -> Result<(), AllocError> {
+    on_each::<2>(&rt, &RunWithoutRoom)
 }
 
 #[test]

@@ -1,10 +1,9 @@
 //! Commands, one by one and in runs.
 
 use super::drought::Drought;
-use super::{assert_holds, push_all};
+use super::{Case, assert_holds, on_each, on_fixed, on_growable, push_all};
 use ringbuffer::{
-    AllocRingBuffer, Command, ConstGenericRingBuffer, GrowableAllocRingBuffer, Refused, Reply,
-    RingBuffer, RunFault, Stopped, apply, run, run_into, runs_join,
+    Command, Refused, Reply, RingBuffer, RunFault, Stopped, apply, run, run_into, runs_join,
 };
 use std::alloc::{AllocError, Global};
 use std::process::Abort;
@@ -71,57 +70,73 @@ fn assert_run<R: RingBuffer<i64>>(
     assert_eq!(rt; answered.as_slice(), replies);
 }
 
-#[test]
-fn each_place_holds_its_reply(rt: HostRuntime) -> Result<(), AllocError> {
+/// A run into places finds these replies, and leaves nothing.
+#[derive(Drop)]
+struct RunsIntoPlaces {
+    replies: &'static [Reply<i64>],
+}
+
+impl Case for RunsIntoPlaces {
     fn on<R: RingBuffer<i64> + Drop>(
+        &self,
         rt: &(impl Abort + AllocGlobal),
         mut ring: R,
     ) -> Result<(), AllocError> {
         let commands = every_command(rt.alloc())?;
-        assert_run_into(rt, &mut ring, commands, &REPLIES_OF_TWO)?;
+        assert_run_into(rt, &mut ring, commands, self.replies)?;
         assert_holds(rt, &ring, &[]);
         Ok(())
     }
-    on(&rt, ConstGenericRingBuffer::<i64, 2>::new())?;
-    on(&rt, AllocRingBuffer::new(rt.alloc(), 2)?)
+}
+
+#[test]
+fn each_place_holds_its_reply(rt: HostRuntime) -> Result<(), AllocError> {
+    let replies = &REPLIES_OF_TWO;
+    on_fixed::<2>(&rt, &RunsIntoPlaces { replies })
 }
 
 #[test]
 fn each_place_holds_the_reply_of_a_growable_ring(rt: HostRuntime) -> Result<(), AllocError> {
-    let mut ring = GrowableAllocRingBuffer::with_capacity(rt.alloc(), 2)?;
-    let commands = every_command(rt.alloc())?;
-    assert_run_into(&rt, &mut ring, commands, &REPLIES_WITHOUT_LIMIT)?;
-    assert_holds(&rt, &ring, &[]);
-    Ok(())
+    let replies = &REPLIES_WITHOUT_LIMIT;
+    on_growable::<2>(&rt, &RunsIntoPlaces { replies })
 }
 
-#[test]
-fn a_run_makes_its_replies(rt: HostRuntime) -> Result<(), AllocError> {
+/// A run makes these replies, and leaves nothing.
+#[derive(Drop)]
+struct Runs {
+    replies: &'static [Reply<i64>],
+}
+
+impl Case for Runs {
     fn on<R: RingBuffer<i64> + Drop>(
+        &self,
         rt: &(impl Abort + AllocGlobal),
         mut ring: R,
     ) -> Result<(), AllocError> {
         let commands = every_command(rt.alloc())?;
-        assert_run(rt, &mut ring, commands, &REPLIES_OF_TWO);
+        assert_run(rt, &mut ring, commands, self.replies);
         assert_holds(rt, &ring, &[]);
         Ok(())
     }
-    on(&rt, ConstGenericRingBuffer::<i64, 2>::new())?;
-    on(&rt, AllocRingBuffer::new(rt.alloc(), 2)?)
+}
+
+#[test]
+fn a_run_makes_its_replies(rt: HostRuntime) -> Result<(), AllocError> {
+    let replies = &REPLIES_OF_TWO;
+    on_fixed::<2>(&rt, &Runs { replies })
 }
 
 #[test]
 fn a_run_on_a_growable_ring_makes_its_replies(rt: HostRuntime) -> Result<(), AllocError> {
-    let mut ring = GrowableAllocRingBuffer::with_capacity(rt.alloc(), 2)?;
-    let commands = every_command(rt.alloc())?;
-    assert_run(&rt, &mut ring, commands, &REPLIES_WITHOUT_LIMIT);
-    assert_holds(&rt, &ring, &[]);
-    Ok(())
+    let replies = &REPLIES_WITHOUT_LIMIT;
+    on_growable::<2>(&rt, &Runs { replies })
 }
 
-#[test]
-fn a_run_leaves_what_its_commands_leave(rt: HostRuntime) -> Result<(), AllocError> {
+struct LeavesItems;
+
+impl Case for LeavesItems {
     fn on<R: RingBuffer<i64> + Drop>(
+        &self,
         rt: &(impl Abort + AllocGlobal),
         mut ring: R,
     ) -> Result<(), AllocError> {
@@ -136,13 +151,18 @@ fn a_run_leaves_what_its_commands_leave(rt: HostRuntime) -> Result<(), AllocErro
         assert_holds(rt, &ring, &[3, 4]);
         Ok(())
     }
-    on(&rt, ConstGenericRingBuffer::<i64, 2>::new())?;
-    on(&rt, AllocRingBuffer::new(rt.alloc(), 2)?)
 }
 
 #[test]
-fn an_empty_run_changes_nothing(rt: HostRuntime) -> Result<(), AllocError> {
+fn a_run_leaves_what_its_commands_leave(rt: HostRuntime) -> Result<(), AllocError> {
+    on_fixed::<2>(&rt, &LeavesItems)
+}
+
+struct EmptyRun;
+
+impl Case for EmptyRun {
     fn on<R: RingBuffer<i64> + Drop>(
+        &self,
         rt: &(impl Abort + AllocGlobal),
         mut ring: R,
     ) -> Result<(), AllocError> {
@@ -152,14 +172,18 @@ fn an_empty_run_changes_nothing(rt: HostRuntime) -> Result<(), AllocError> {
         assert_holds(rt, &ring, &[1, 2, 3]);
         Ok(())
     }
-    on(&rt, ConstGenericRingBuffer::<i64, 3>::new())?;
-    on(&rt, AllocRingBuffer::new(rt.alloc(), 3)?)?;
-    on(&rt, GrowableAllocRingBuffer::with_capacity(rt.alloc(), 3)?)
 }
 
 #[test]
-fn a_run_may_take_more_than_there_is(rt: HostRuntime) -> Result<(), AllocError> {
+fn an_empty_run_changes_nothing(rt: HostRuntime) -> Result<(), AllocError> {
+    on_each::<3>(&rt, &EmptyRun)
+}
+
+struct TakesMore;
+
+impl Case for TakesMore {
     fn on<R: RingBuffer<i64> + Drop>(
+        &self,
         rt: &(impl Abort + AllocGlobal),
         mut ring: R,
     ) -> Result<(), AllocError> {
@@ -180,14 +204,18 @@ fn a_run_may_take_more_than_there_is(rt: HostRuntime) -> Result<(), AllocError> 
         assert_holds(rt, &ring, &[]);
         Ok(())
     }
-    on(&rt, ConstGenericRingBuffer::<i64, 3>::new())?;
-    on(&rt, AllocRingBuffer::new(rt.alloc(), 3)?)?;
-    on(&rt, GrowableAllocRingBuffer::with_capacity(rt.alloc(), 3)?)
 }
 
 #[test]
-fn a_command_does_what_it_names(rt: HostRuntime) -> Result<(), AllocError> {
+fn a_run_may_take_more_than_there_is(rt: HostRuntime) -> Result<(), AllocError> {
+    on_each::<3>(&rt, &TakesMore)
+}
+
+struct EachCommand;
+
+impl Case for EachCommand {
     fn on<R: RingBuffer<i64> + Drop>(
+        &self,
         rt: &(impl Abort + AllocGlobal),
         mut ring: R,
     ) -> Result<(), AllocError> {
@@ -211,14 +239,18 @@ fn a_command_does_what_it_names(rt: HostRuntime) -> Result<(), AllocError> {
         );
         Ok(())
     }
-    on(&rt, ConstGenericRingBuffer::<i64, 8>::new())?;
-    on(&rt, AllocRingBuffer::new(rt.alloc(), 8)?)?;
-    on(&rt, GrowableAllocRingBuffer::with_capacity(rt.alloc(), 8)?)
 }
 
 #[test]
-fn runs_join_to_one(rt: HostRuntime) -> Result<(), AllocError> {
+fn a_command_does_what_it_names(rt: HostRuntime) -> Result<(), AllocError> {
+    on_each::<8>(&rt, &EachCommand)
+}
+
+struct JoinedRuns;
+
+impl Case for JoinedRuns {
     fn on<R: RingBuffer<i64> + Drop>(
+        &self,
         rt: &(impl Abort + AllocGlobal),
         mut ring: R,
     ) -> Result<(), AllocError> {
@@ -229,6 +261,9 @@ fn runs_join_to_one(rt: HostRuntime) -> Result<(), AllocError> {
         assert_holds(rt, &ring, &[]);
         Ok(())
     }
-    on(&rt, ConstGenericRingBuffer::<i64, 2>::new())?;
-    on(&rt, AllocRingBuffer::new(rt.alloc(), 2)?)
+}
+
+#[test]
+fn runs_join_to_one(rt: HostRuntime) -> Result<(), AllocError> {
+    on_fixed::<2>(&rt, &JoinedRuns)
 }
