@@ -15,9 +15,9 @@ use std::{env, fs};
 use work::{Work, CAPACITIES};
 
 extern "C" {
-    fn ring_measure_array(work: u32, capacity: usize, items: usize) -> u64;
-    fn ring_measure_heap(work: u32, capacity: usize, items: usize) -> u64;
-    fn ring_measure_growable(work: u32, capacity: usize, items: usize) -> u64;
+    fn ring_workloads_array(work: u32, capacity: usize, items: usize) -> u64;
+    fn ring_workloads_heap(work: u32, capacity: usize, items: usize) -> u64;
+    fn ring_workloads_growable(work: u32, capacity: usize, items: usize) -> u64;
     #[cfg(feature = "boost")]
     fn boost_side(work: u32, capacity: usize, items: usize) -> u64;
 }
@@ -39,11 +39,11 @@ impl Contender {
 
 // SAFETY of the calls below: the exports take numbers alone and are proved for every number.
 pub const CONTENDERS: &[Contender] = &[
-    Contender { name: "array", run: |work, capacity, items| unsafe { ring_measure_array(work as u32, capacity, items) } },
+    Contender { name: "array", run: |work, capacity, items| unsafe { ring_workloads_array(work as u32, capacity, items) } },
     Contender { name: "Rust array", run: rust_side::array },
-    Contender { name: "heap", run: |work, capacity, items| unsafe { ring_measure_heap(work as u32, capacity, items) } },
+    Contender { name: "heap", run: |work, capacity, items| unsafe { ring_workloads_heap(work as u32, capacity, items) } },
     Contender { name: "Rust heap", run: rust_side::heap },
-    Contender { name: "growable", run: |work, capacity, items| unsafe { ring_measure_growable(work as u32, capacity, items) } },
+    Contender { name: "growable", run: |work, capacity, items| unsafe { ring_workloads_growable(work as u32, capacity, items) } },
     Contender { name: "Rust growable", run: rust_side::growable },
     Contender { name: "VecDeque", run: bounded::deque },
     #[cfg(feature = "boost")]

@@ -11,8 +11,10 @@ use std::alloc::{AllocError, Global};
 /// Pushes two items onto a ring with a limit.
 pub fn push_two<T: Drop, R: RingBuffer<T>>(ring: &mut R, x: T, y: T)
     requires { IsSome (R.limit ring.old) }
-    ensures contents { R.contents ring.new ≡ keep_last (R.limit ring.old) (R.contents ring.old ++ x ∷ y ∷ []) }
-    ensures changes { ChangesSlots (R.slot_changes ring.old) (R.contents ring.old) (R.slot_changes ring.new) (R.contents ring.new) 2 }
+    ensures contents { R.contents ring.new
+        ≡ keep_last (R.limit ring.old) (R.contents ring.old ++ x ∷ y ∷ []) }
+    ensures changes { ChangesSlots (R.slot_changes ring.old) (R.contents ring.old)
+        (R.slot_changes ring.new) (R.contents ring.new) 2 }
 {
     let _ = ring.push(x);
     let _ = ring.push(y);
@@ -20,9 +22,13 @@ pub fn push_two<T: Drop, R: RingBuffer<T>>(ring: &mut R, x: T, y: T)
 
 /// Pushes an item onto a full ring, and what gave way for it onto a second ring: the oldest item moves over.
 pub fn push_through<T: Drop, R: RingBuffer<T>, S: RingBuffer<T>>(near: &mut R, far: &mut S, item: T)
-    requires full { IsSome (R.limit near.old) × IfSome (R.limit near.old) (λ n. length (R.contents near.old) ≡ n) }
+    requires full { IsSome (R.limit near.old)
+        × IfSome (R.limit near.old) (λ n. length (R.contents near.old) ≡ n) }
     requires limit { IsSome (S.limit far.old) }
-    ensures moved { (oldest : T) × (others : List T) × (R.contents near.old ≡ oldest ∷ others) × (R.contents near.new ≡ others ++ item ∷ []) × (S.contents far.new ≡ keep_last (S.limit far.old) (S.contents far.old ++ oldest ∷ [])) }
+    ensures moved { (oldest : T) × (others : List T) × (R.contents near.old ≡ oldest ∷ others)
+        × (R.contents near.new ≡ others ++ item ∷ [])
+        × (S.contents far.new
+        ≡ keep_last (S.limit far.old) (S.contents far.old ++ oldest ∷ [])) }
     ensures limits { (R.limit near.new ≡ R.limit near.old) × (S.limit far.new ≡ S.limit far.old) }
 {
     // Brings in that the limit is above zero.
@@ -35,7 +41,8 @@ pub fn push_through<T: Drop, R: RingBuffer<T>, S: RingBuffer<T>>(near: &mut R, f
 /// Pushes an item onto a ring with a limit, and then replaces the newest item, which is that one.
 pub fn push_then_replace<T: Drop, R: RingBuffer<T>>(ring: &mut R, x: T, y: T)
     requires { IsSome (R.limit ring.old) }
-    ensures contents { R.contents ring.new ≡ keep_last (R.limit ring.old) (R.contents ring.old ++ y ∷ []) }
+    ensures contents { R.contents ring.new
+        ≡ keep_last (R.limit ring.old) (R.contents ring.old ++ y ∷ []) }
     ensures limit { R.limit ring.new ≡ R.limit ring.old }
 {
     let _ = ring.push(x);

@@ -11,9 +11,11 @@ use std::alloc::Global;
 /// Pushes three items onto a ring with a limit.
 fn push_three<R: RingBuffer<u32>>(ring: &mut R, x: u32, y: u32, z: u32)
     requires { IsSome (R.limit ring.old) }
-    ensures contents { R.contents ring.new ≡ keep_last (R.limit ring.old) (R.contents ring.old ++ x ∷ y ∷ z ∷ []) }
+    ensures contents { R.contents ring.new
+        ≡ keep_last (R.limit ring.old) (R.contents ring.old ++ x ∷ y ∷ z ∷ []) }
     ensures limit { R.limit ring.new ≡ R.limit ring.old }
-    ensures changes { ChangesSlots (R.slot_changes ring.old) (R.contents ring.old) (R.slot_changes ring.new) (R.contents ring.new) 3 }
+    ensures changes { ChangesSlots (R.slot_changes ring.old) (R.contents ring.old)
+        (R.slot_changes ring.new) (R.contents ring.new) 3 }
 {
     let _ = ring.push(x);
     let _ = ring.push(y);

@@ -13,9 +13,12 @@ pub fn run_on_fixed<T: Drop, R: RingBuffer<T>>(
 )
     requires fixed { IsSome (R.limit ring.old) }
     requires places { length replies.old ≡ length commands.items }
-    ensures survivors { HoldsSurvivors (R.limit ring.old) (R.contents ring.old) commands.items (R.contents ring.new) }
-    ensures replies { RepliesByNumber (R.limit ring.old) (R.contents ring.old) commands.items replies.new }
-    ensures cheap { IsCheap (R.limit ring.old) (R.contents ring.old) commands.items (R.slot_changes ring.old) (R.slot_changes ring.new) }
+    ensures survivors { HoldsSurvivors (R.limit ring.old) (R.contents ring.old) commands.items
+        (R.contents ring.new) }
+    ensures replies { RepliesByNumber (R.limit ring.old)
+        (R.contents ring.old) commands.items replies.new }
+    ensures cheap { IsCheap (R.limit ring.old) (R.contents ring.old) commands.items
+        (R.slot_changes ring.old) (R.slot_changes ring.new) }
 {
     let _ = run_into(ring, commands, replies);
 }

@@ -53,9 +53,16 @@ impl<'rb, T: Drop, RB: RingBuffer<T>> Iterator for RingBufferIterator<'rb, T, RB
     }
 
     fn size_hint(&self) -> (usize, Option<usize>)
-        ensures lower { IsWithinCount result.0 (at_most (length (iterator_to_come RB.contents self.now))) }
-        ensures upper { IfSome result.1 (UpTo (at_most (length (iterator_to_come RB.contents self.now)))) }
-        ensures exact { result ≡ (length (iterator_to_come RB.contents self.now), Some (length (iterator_to_come RB.contents self.now))) }
+        ensures lower { IsWithinCount result.0
+            (at_most (length (iterator_to_come RB.contents self.now))) }
+        ensures upper { IfSome result.1
+            (UpTo (at_most (length (iterator_to_come RB.contents self.now)))) }
+        ensures exact { result
+            ≡ (
+              length (iterator_to_come RB.contents self.now),
+              Some
+                  (length (iterator_to_come RB.contents self.now)),
+            ) }
     {
         let left = self.len();
         (left, Some(left))
@@ -113,7 +120,8 @@ impl<'rb, T: Drop, RB: RingBuffer<T>> RingBufferMutIterator<'rb, T, RB> {
     /// Lends the first item that is still to come, or answers `None` for good once nothing is left.
     pub fn next(&mut self) -> Option<&mut T>
         ensures* writes_back { sem 𝓛 (lends_front T.row RB.row self.entry RB.with_item result) }
-        ensures value { option_copied_mut result ≡ slice_get (cursor_to_come RB.contents self.old) 0 }
+        ensures value { option_copied_mut result
+            ≡ slice_get (cursor_to_come RB.contents self.old) 0 }
         ensures none { IsNone result ↔ (cursor_to_come RB.contents self.old ≡ []) }
     {
         let at = self.front;
@@ -126,8 +134,11 @@ impl<'rb, T: Drop, RB: RingBuffer<T>> RingBufferMutIterator<'rb, T, RB> {
 
     /// Lends the last item that is still to come, or answers `None` for good once nothing is left.
     pub fn next_back(&mut self) -> Option<&mut T>
-        ensures* writes_back { sem 𝓛 (lends_back T.row RB.row self.entry RB.contents RB.with_item result) }
-        ensures value { option_copied_mut result ≡ slice_get (cursor_to_come RB.contents self.old) (length (cursor_to_come RB.contents self.old) - 1) }
+        ensures* writes_back { sem 𝓛
+            (lends_back T.row RB.row self.entry RB.contents RB.with_item result) }
+        ensures value { option_copied_mut result
+            ≡ slice_get (cursor_to_come RB.contents self.old)
+            (length (cursor_to_come RB.contents self.old) - 1) }
         ensures none { IsNone result ↔ (cursor_to_come RB.contents self.old ≡ []) }
     {
         let end = self.back.min(self.ring.len());
@@ -140,7 +151,11 @@ impl<'rb, T: Drop, RB: RingBuffer<T>> RingBufferMutIterator<'rb, T, RB> {
 
     /// How many items are still to come, as both bounds.
     pub fn size_hint(&self) -> (usize, Option<usize>)
-        ensures { result ≡ (length (cursor_to_come RB.contents self.now), Some (length (cursor_to_come RB.contents self.now))) }
+        ensures { result ≡ (
+          length (cursor_to_come RB.contents self.now),
+          Some
+              (length (cursor_to_come RB.contents self.now)),
+        ) }
     {
         let left = self.back.min(self.ring.len()).saturating_sub(self.front);
         (left, Some(left))
@@ -179,9 +194,16 @@ impl<'rb, T: Drop, RB: RingBuffer<T>> Iterator for RingBufferDrainingIterator<'r
     }
 
     fn size_hint(&self) -> (usize, Option<usize>)
-        ensures lower { IsWithinCount result.0 (at_most (length (drain_to_come RB.contents self.now))) }
-        ensures upper { IfSome result.1 (UpTo (at_most (length (drain_to_come RB.contents self.now)))) }
-        ensures exact { result ≡ (length (drain_to_come RB.contents self.now), Some (length (drain_to_come RB.contents self.now))) }
+        ensures lower { IsWithinCount result.0
+            (at_most (length (drain_to_come RB.contents self.now))) }
+        ensures upper { IfSome result.1
+            (UpTo (at_most (length (drain_to_come RB.contents self.now)))) }
+        ensures exact { result
+            ≡ (
+              length (drain_to_come RB.contents self.now),
+              Some
+                  (length (drain_to_come RB.contents self.now)),
+            ) }
     {
         let left = self.ring.len();
         (left, Some(left))
@@ -219,9 +241,16 @@ impl<T: Drop, RB: RingBuffer<T> + Drop> Iterator for RingBufferIntoIterator<T, R
     }
 
     fn size_hint(&self) -> (usize, Option<usize>)
-        ensures lower { IsWithinCount result.0 (at_most (length (into_iter_to_come RB.contents self.now))) }
-        ensures upper { IfSome result.1 (UpTo (at_most (length (into_iter_to_come RB.contents self.now)))) }
-        ensures exact { result ≡ (length (into_iter_to_come RB.contents self.now), Some (length (into_iter_to_come RB.contents self.now))) }
+        ensures lower { IsWithinCount result.0
+            (at_most (length (into_iter_to_come RB.contents self.now))) }
+        ensures upper { IfSome result.1
+            (UpTo (at_most (length (into_iter_to_come RB.contents self.now)))) }
+        ensures exact { result
+            ≡ (
+              length (into_iter_to_come RB.contents self.now),
+              Some
+                  (length (into_iter_to_come RB.contents self.now)),
+            ) }
     {
         let left = self.ring.len();
         (left, Some(left))

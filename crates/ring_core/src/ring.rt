@@ -69,11 +69,15 @@ pub trait RingBuffer<T: Drop>: Sized {
     ///
     /// Hands `item` back where memory was refused, which no ring with a limit meets.
     fn push(&mut self, item: T) -> Result<Option<T>, T>
-        ensures overwrites { IfOk result (λ old. old ≡ overwritten (limit self.old) (contents self.old)) }
-        ensures ok { IsOk result → contents self.new ≡ keep_last (limit self.old) (contents self.old ++ item ∷ []) }
+        ensures overwrites { IfOk result
+            (λ old. old ≡ overwritten (limit self.old) (contents self.old)) }
+        ensures ok { IsOk result
+            → contents self.new ≡ keep_last (limit self.old) (contents self.old ++ item ∷ []) }
         ensures err { IfErr result (λ x. (x ≡ item) × (contents self.new ≡ contents self.old)) }
         ensures limit { limit self.new ≡ limit self.old }
-        ensures changes { IsSome (limit self.old) → ChangesSlots (slot_changes self.old) (contents self.old) (slot_changes self.new) (contents self.new) 1 }
+        ensures changes { IsSome (limit self.old)
+            → ChangesSlots (slot_changes self.old) (contents self.old) (slot_changes self.new)
+            (contents self.new) 1 }
         ensures succeeds { IsSome (limit self.old) → IsOk result };
 
     /// Another name for `push`.
@@ -82,11 +86,15 @@ pub trait RingBuffer<T: Drop>: Sized {
     ///
     /// As `push`.
     fn enqueue(&mut self, item: T) -> Result<Option<T>, T>
-        ensures overwrites { IfOk result (λ old. old ≡ overwritten (limit self.old) (contents self.old)) }
-        ensures ok { IsOk result → contents self.new ≡ keep_last (limit self.old) (contents self.old ++ item ∷ []) }
+        ensures overwrites { IfOk result
+            (λ old. old ≡ overwritten (limit self.old) (contents self.old)) }
+        ensures ok { IsOk result
+            → contents self.new ≡ keep_last (limit self.old) (contents self.old ++ item ∷ []) }
         ensures err { IfErr result (λ x. (x ≡ item) × (contents self.new ≡ contents self.old)) }
         ensures limit { limit self.new ≡ limit self.old }
-        ensures changes { IsSome (limit self.old) → ChangesSlots (slot_changes self.old) (contents self.old) (slot_changes self.new) (contents self.new) 1 }
+        ensures changes { IsSome (limit self.old)
+            → ChangesSlots (slot_changes self.old) (contents self.old) (slot_changes self.new)
+            (contents self.new) 1 }
         ensures succeeds { IsSome (limit self.old) → IsOk result }
     {
         self.push(item)
@@ -101,8 +109,11 @@ pub trait RingBuffer<T: Drop>: Sized {
     fn extend<I: IntoIterator<Item = T>>(&mut self, items: I) -> Result<(), AllocError>
     where
         I::IntoIter: Drop,
-        requires { IsFiniteIterable I.into_iter_gives I.IntoIter.can_next I.IntoIter.remaining items }
-        ensures extends { Extends I.into_iter_gives I.IntoIter.next_gives items (limit self.old) (contents self.old) (contents self.new) (slot_changes self.old) (slot_changes self.new) result }
+        requires { IsFiniteIterable I.into_iter_gives I.IntoIter.can_next I.IntoIter.remaining
+            items }
+        ensures extends { Extends I.into_iter_gives I.IntoIter.next_gives items (limit self.old)
+            (contents self.old) (contents self.new) (slot_changes self.old)
+            (slot_changes self.new) result }
         ensures limit { limit self.new ≡ limit self.old }
         ensures succeeds { IsSome (limit self.old) → IsOk result };
 
@@ -111,13 +122,17 @@ pub trait RingBuffer<T: Drop>: Sized {
         ensures value { result ≡ slice_get (contents self.old) 0 }
         ensures rest { contents self.new ≡ drop 1 (contents self.old) }
         ensures limit { limit self.new ≡ limit self.old }
-        ensures changes { IsSome (limit self.old) → ChangesSlots (slot_changes self.old) (contents self.old) (slot_changes self.new) (contents self.new) 0 };
+        ensures changes { IsSome (limit self.old)
+            → ChangesSlots (slot_changes self.old) (contents self.old) (slot_changes self.new)
+            (contents self.new) 0 };
 
     /// Drops the oldest item. Does nothing to an empty ring.
     fn skip(&mut self)
         ensures rest { contents self.new ≡ drop 1 (contents self.old) }
         ensures limit { limit self.new ≡ limit self.old }
-        ensures changes { IsSome (limit self.old) → ChangesSlots (slot_changes self.old) (contents self.old) (slot_changes self.new) (contents self.new) 0 }
+        ensures changes { IsSome (limit self.old)
+            → ChangesSlots (slot_changes self.old) (contents self.old) (slot_changes self.new)
+            (contents self.new) 0 }
     {
         let _ = self.dequeue();
     }
@@ -126,7 +141,9 @@ pub trait RingBuffer<T: Drop>: Sized {
     fn clear(&mut self)
         ensures empty { contents self.new ≡ [] }
         ensures limit { limit self.new ≡ limit self.old }
-        ensures changes { IsSome (limit self.old) → ChangesSlots (slot_changes self.old) (contents self.old) (slot_changes self.new) (contents self.new) 0 };
+        ensures changes { IsSome (limit self.old)
+            → ChangesSlots (slot_changes self.old) (contents self.old) (slot_changes self.new)
+            (contents self.new) 0 };
 
     /// Drops all items, and then pushes as many answers of `make` as `capacity` said before. An item counts as held
     /// only after it is stored.
@@ -139,7 +156,9 @@ pub trait RingBuffer<T: Drop>: Sized {
         ensures made { (last : F) × FoldsTo F.step make (contents self.new) last }
         ensures full { IfSome (limit self.old) (λ n. length (contents self.new) ≡ n) }
         ensures limit { limit self.new ≡ limit self.old }
-        ensures changes { IsSome (limit self.old) → ChangesSlots (slot_changes self.old) (contents self.old) (slot_changes self.new) (contents self.new) (length (contents self.new)) }
+        ensures changes { IsSome (limit self.old)
+            → ChangesSlots (slot_changes self.old) (contents self.old) (slot_changes self.new)
+            (contents self.new) (length (contents self.new)) }
         ensures succeeds { IsSome (limit self.old) → IsOk result };
 
     /// Fills the ring with default values, as `fill_with` does.
@@ -153,7 +172,9 @@ pub trait RingBuffer<T: Drop>: Sized {
         ensures items { All T.is_default (contents self.new) }
         ensures full { IfSome (limit self.old) (λ n. length (contents self.new) ≡ n) }
         ensures limit { limit self.new ≡ limit self.old }
-        ensures changes { IsSome (limit self.old) → ChangesSlots (slot_changes self.old) (contents self.old) (slot_changes self.new) (contents self.new) (length (contents self.new)) }
+        ensures changes { IsSome (limit self.old)
+            → ChangesSlots (slot_changes self.old) (contents self.old) (slot_changes self.new)
+            (contents self.new) (length (contents self.new)) }
         ensures succeeds { IsSome (limit self.old) → IsOk result }
     {
         self.fill_with(|| T::default())
@@ -169,9 +190,12 @@ pub trait RingBuffer<T: Drop>: Sized {
         T: Clone,
         ensures items { All (T.is_clone value) (contents self.new) }
         ensures full { OnOk result (IfSome (limit self.old) (λ n. length (contents self.new) ≡ n)) }
-        ensures short { OnErr result (IfSome (limit self.old) (λ n. length (contents self.new) < n)) }
+        ensures short { OnErr result
+            (IfSome (limit self.old) (λ n. length (contents self.new) < n)) }
         ensures limit { limit self.new ≡ limit self.old }
-        ensures changes { IsSome (limit self.old) → ChangesSlots (slot_changes self.old) (contents self.old) (slot_changes self.new) (contents self.new) (length (contents self.new)) }
+        ensures changes { IsSome (limit self.old)
+            → ChangesSlots (slot_changes self.old) (contents self.old) (slot_changes self.new)
+            (contents self.new) (length (contents self.new)) }
     {
         self.clear();
         for _ in 0..self.capacity() {
@@ -184,22 +208,30 @@ pub trait RingBuffer<T: Drop>: Sized {
 
     /// The item at a position, or `None` if the ring is empty.
     fn get(&self, index: usize) -> Option<&T>
-        ensures { option_copied result ≡ slice_get (contents self.now) (place (length (contents self.now)) index) };
+        ensures { option_copied result
+            ≡ slice_get (contents self.now) (place (length (contents self.now)) index) };
 
     /// The item at a position that may be negative, or `None` if the ring is empty.
     fn get_signed(&self, index: isize) -> Option<&T>
-        ensures { option_copied result ≡ slice_get (contents self.now) (signed_place (length (contents self.now)) index) };
+        ensures { option_copied result
+            ≡ slice_get (contents self.now) (signed_place (length (contents self.now)) index) };
 
     /// The item that `get` answers, for writing. A write changes that place alone.
     fn get_mut(&mut self, index: usize) -> Option<&mut T>
-        ensures* writes_back { sem 𝓛 (LendsIf Self.row T.row self.entry result (with_item self.old (place (length (contents self.old)) index)) self.old) }
-        ensures value { option_copied_mut result ≡ slice_get (contents self.old) (place (length (contents self.old)) index) }
+        ensures* writes_back { sem 𝓛
+            (LendsIf Self.row T.row self.entry result
+            (with_item self.old (place (length (contents self.old)) index)) self.old) }
+        ensures value { option_copied_mut result
+            ≡ slice_get (contents self.old) (place (length (contents self.old)) index) }
         ensures none { IsNone result ↔ (contents self.old ≡ []) };
 
     /// The item that `get_signed` answers, for writing. A write changes that place alone.
     fn get_mut_signed(&mut self, index: isize) -> Option<&mut T>
-        ensures* writes_back { sem 𝓛 (LendsIf Self.row T.row self.entry result (with_item self.old (signed_place (length (contents self.old)) index)) self.old) }
-        ensures value { option_copied_mut result ≡ slice_get (contents self.old) (signed_place (length (contents self.old)) index) }
+        ensures* writes_back { sem 𝓛
+            (LendsIf Self.row T.row self.entry result
+            (with_item self.old (signed_place (length (contents self.old)) index)) self.old) }
+        ensures value { option_copied_mut result
+            ≡ slice_get (contents self.old) (signed_place (length (contents self.old)) index) }
         ensures none { IsNone result ↔ (contents self.old ≡ []) };
 
     /// The oldest item. The next push overwrites it only if the ring is full and has a limit.
@@ -218,7 +250,8 @@ pub trait RingBuffer<T: Drop>: Sized {
 
     /// The oldest item, for writing.
     fn front_mut(&mut self) -> Option<&mut T>
-        ensures* writes_back { sem 𝓛 (LendsIf Self.row T.row self.entry result (with_item self.old 0) self.old) }
+        ensures* writes_back { sem 𝓛
+            (LendsIf Self.row T.row self.entry result (with_item self.old 0) self.old) }
         ensures value { option_copied_mut result ≡ slice_get (contents self.old) 0 }
         ensures none { IsNone result ↔ (contents self.old ≡ []) }
     {
@@ -227,15 +260,19 @@ pub trait RingBuffer<T: Drop>: Sized {
 
     /// The newest item.
     fn back(&self) -> Option<&T>
-        ensures { option_copied result ≡ slice_get (contents self.now) (length (contents self.now) - 1) }
+        ensures { option_copied result
+            ≡ slice_get (contents self.now) (length (contents self.now) - 1) }
     {
         self.get_signed(-1)
     }
 
     /// The newest item, for writing.
     fn back_mut(&mut self) -> Option<&mut T>
-        ensures* writes_back { sem 𝓛 (LendsIf Self.row T.row self.entry result (with_item self.old (length (contents self.old) - 1)) self.old) }
-        ensures value { option_copied_mut result ≡ slice_get (contents self.old) (length (contents self.old) - 1) }
+        ensures* writes_back { sem 𝓛
+            (LendsIf Self.row T.row self.entry result
+            (with_item self.old (length (contents self.old) - 1)) self.old) }
+        ensures value { option_copied_mut result
+            ≡ slice_get (contents self.old) (length (contents self.old) - 1) }
         ensures none { IsNone result ↔ (contents self.old ≡ []) }
     {
         self.get_mut_signed(-1)

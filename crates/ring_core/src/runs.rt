@@ -77,11 +77,15 @@ pub fn apply<T: Drop, R: RingBuffer<T>>(
     ring: &mut R,
     command: Command<T>,
 ) -> Result<Reply<T>, Refused<T>>
-    ensures contents { OnOk result (R.contents ring.new ≡ after_one (R.limit ring.old) (R.contents ring.old) command) }
-    ensures reply { IfOk result (λ reply. reply ≡ reply_to (R.limit ring.old) (R.contents ring.old) command) }
+    ensures contents { OnOk result (R.contents ring.new
+        ≡ after_one (R.limit ring.old) (R.contents ring.old) command) }
+    ensures reply { IfOk result
+        (λ reply. reply ≡ reply_to (R.limit ring.old) (R.contents ring.old) command) }
     ensures refused { IfErr result (IsRefused command (R.contents ring.old) (R.contents ring.new)) }
     ensures limit { R.limit ring.new ≡ R.limit ring.old }
-    ensures changes { IsSome (R.limit ring.old) → ChangesSlots (R.slot_changes ring.old) (R.contents ring.old) (R.slot_changes ring.new) (R.contents ring.new) (length (puts command)) }
+    ensures changes { IsSome (R.limit ring.old)
+        → ChangesSlots (R.slot_changes ring.old) (R.contents ring.old) (R.slot_changes ring.new)
+        (R.contents ring.new) (length (puts command)) }
     ensures succeeds { IsSome (R.limit ring.old) → IsOk result }
 {
     match command {
@@ -138,19 +142,33 @@ pub fn run_into<T: Drop, R: RingBuffer<T>>(
     ensures same_limit { R.limit ring.new ≡ R.limit ring.old }
 
     // Each command in turn does what it does to a list.
-    ensures in_turn { OnOk result (R.contents ring.new ≡ after_all (R.limit ring.old) (R.contents ring.old) commands.items) }
-    ensures replies_in_turn { OnOk result (replies.new ≡ map Some (replies_to (R.limit ring.old) (R.contents ring.old) commands.items)) }
+    ensures in_turn { OnOk result (R.contents ring.new
+        ≡ after_all (R.limit ring.old) (R.contents ring.old) commands.items) }
+    ensures replies_in_turn { OnOk result (replies.new
+        ≡ map Some (replies_to (R.limit ring.old) (R.contents ring.old) commands.items)) }
 
     // By item numbers: what is left and answered is what the numbers held after each step say.
-    ensures contents { OnOk result (R.contents ring.new ≡ contents_after (R.limit ring.old) (R.contents ring.old) commands.items) }
-    ensures replies { OnOk result (replies.new ≡ map Some (replies_of (R.limit ring.old) (R.contents ring.old) commands.items)) }
-    ensures numbers { KeepsToNumbers (R.limit ring.old) (R.contents ring.old) (steps commands.items) }
-    ensures few_changes { IsSome (R.limit ring.old) → ChangesFewSlots (R.limit ring.old) (R.contents ring.old) (steps commands.items) (R.slot_changes ring.old) (R.slot_changes ring.new) }
-    ensures twice { IsSome (R.limit ring.old) → R.slot_changes ring.new ≤ R.slot_changes ring.old + 2 * length (all_items (R.contents ring.old) (steps commands.items)) }
+    ensures contents { OnOk result (R.contents ring.new
+        ≡ contents_after (R.limit ring.old) (R.contents ring.old) commands.items) }
+    ensures replies { OnOk result (replies.new
+        ≡ map Some (replies_of (R.limit ring.old) (R.contents ring.old) commands.items)) }
+    ensures numbers { KeepsToNumbers (R.limit ring.old) (R.contents ring.old)
+        (steps commands.items) }
+    ensures few_changes { IsSome (R.limit ring.old)
+        → ChangesFewSlots (R.limit ring.old) (R.contents ring.old) (steps commands.items)
+        (R.slot_changes ring.old) (R.slot_changes ring.new) }
+    ensures twice { IsSome (R.limit ring.old)
+        → R.slot_changes ring.new
+        ≤ R.slot_changes ring.old + 2 * length
+        (all_items (R.contents ring.old) (steps commands.items)) }
 
     // A run that stopped did the commands before, and part of the one that was refused.
-    ensures stopped { IfErr result (λ s. StopsAt (R.limit ring.old) (R.contents ring.old) commands.items s.at (R.contents ring.new)) }
-    ensures replies_before { IfErr result (λ s. replies.new ≡ places (length commands.items) (replies_to (R.limit ring.old) (R.contents ring.old) (take s.at commands.items))) }
+    ensures stopped { IfErr result
+        (λ s. StopsAt (R.limit ring.old) (R.contents ring.old) commands.items s.at
+        (R.contents ring.new)) }
+    ensures replies_before { IfErr result
+        (λ s. replies.new ≡ places (length commands.items)
+        (replies_to (R.limit ring.old) (R.contents ring.old) (take s.at commands.items))) }
 {
     // Brings in that the contents are within the limit.
     let _ = ring.len();
@@ -190,22 +208,37 @@ pub fn run<T: Drop, R: RingBuffer<T>>(
     ensures same_limit { R.limit ring.new ≡ R.limit ring.old }
 
     // Each command in turn does what it does to a list.
-    ensures in_turn { OnOk result (R.contents ring.new ≡ after_all (R.limit ring.old) (R.contents ring.old) commands.items) }
-    ensures replies_in_turn { IfOk result (λ r. r.items ≡ replies_to (R.limit ring.old) (R.contents ring.old) commands.items) }
+    ensures in_turn { OnOk result (R.contents ring.new
+        ≡ after_all (R.limit ring.old) (R.contents ring.old) commands.items) }
+    ensures replies_in_turn { IfOk result
+        (λ r. r.items ≡ replies_to (R.limit ring.old) (R.contents ring.old) commands.items) }
 
     // By item numbers: what is left and answered is what the numbers held after each step say.
-    ensures contents { OnOk result (R.contents ring.new ≡ contents_after (R.limit ring.old) (R.contents ring.old) commands.items) }
-    ensures replies { IfOk result (λ r. r.items ≡ replies_of (R.limit ring.old) (R.contents ring.old) commands.items) }
-    ensures numbers { KeepsToNumbers (R.limit ring.old) (R.contents ring.old) (steps commands.items) }
-    ensures few_changes { IsSome (R.limit ring.old) → ChangesFewSlots (R.limit ring.old) (R.contents ring.old) (steps commands.items) (R.slot_changes ring.old) (R.slot_changes ring.new) }
-    ensures twice { IsSome (R.limit ring.old) → R.slot_changes ring.new ≤ R.slot_changes ring.old + 2 * length (all_items (R.contents ring.old) (steps commands.items)) }
+    ensures contents { OnOk result (R.contents ring.new
+        ≡ contents_after (R.limit ring.old) (R.contents ring.old) commands.items) }
+    ensures replies { IfOk result
+        (λ r. r.items ≡ replies_of (R.limit ring.old) (R.contents ring.old) commands.items) }
+    ensures numbers { KeepsToNumbers (R.limit ring.old) (R.contents ring.old)
+        (steps commands.items) }
+    ensures few_changes { IsSome (R.limit ring.old)
+        → ChangesFewSlots (R.limit ring.old) (R.contents ring.old) (steps commands.items)
+        (R.slot_changes ring.old) (R.slot_changes ring.new) }
+    ensures twice { IsSome (R.limit ring.old)
+        → R.slot_changes ring.new
+        ≤ R.slot_changes ring.old + 2 * length
+        (all_items (R.contents ring.old) (steps commands.items)) }
 
     // A run that found no room did nothing.
-    ensures no_room { IfErr result (λ f. IfNoRoom f (λ back. (back ≡ commands) × (ring.new ≡ ring.old))) }
+    ensures no_room { IfErr result
+        (λ f. IfNoRoom f (λ back. (back ≡ commands) × (ring.new ≡ ring.old))) }
 
     // A run that stopped did the commands before, and part of the one that was refused.
-    ensures stopped { IfErr result (λ f. IfStopped f (λ at _. StopsAt (R.limit ring.old) (R.contents ring.old) commands.items at (R.contents ring.new))) }
-    ensures replies_before { IfErr result (λ f. IfStopped f (λ at r. r ≡ replies_to (R.limit ring.old) (R.contents ring.old) (take at commands.items))) }
+    ensures stopped { IfErr result
+        (λ f. IfStopped f (λ at _. StopsAt (R.limit ring.old)
+        (R.contents ring.old) commands.items at (R.contents ring.new))) }
+    ensures replies_before { IfErr result
+        (λ f. IfStopped f (λ at r. r
+        ≡ replies_to (R.limit ring.old) (R.contents ring.old) (take at commands.items))) }
 {
     // Brings in that the contents are within the limit.
     let _ = ring.len();

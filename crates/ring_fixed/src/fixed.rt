@@ -67,7 +67,8 @@ impl<T: Drop, S: RingSlots<T>> Fixed<T, S> {
         requires within { self.old.len ≤ capacity }
         requires room { capacity ≤ (view_of S.seen self.old).capacity }
         ensures value { result ≡ overwritten (Some capacity) (view_of S.seen self.old).items }
-        ensures after { ChangesTo S.seen S.is_size self.old self.new (after_push capacity (view_of S.seen self.old) item) }
+        ensures after { ChangesTo S.seen S.is_size self.old self.new
+            (after_push capacity (view_of S.seen self.old) item) }
     {
         let before = self.len;
         let (start, len, old) = Self::push_from(
@@ -90,7 +91,8 @@ impl<T: Drop, S: RingSlots<T>> Fixed<T, S> {
     pub fn dequeue(&mut self) -> Option<T>
         requires { IsSound S.seen S.is_size self.old }
         ensures value { result ≡ slice_get (view_of S.seen self.old).items 0 }
-        ensures after { ChangesTo S.seen S.is_size self.old self.new (after_take (view_of S.seen self.old)) }
+        ensures after { ChangesTo S.seen S.is_size self.old self.new
+            (after_take (view_of S.seen self.old)) }
     {
         let len = self.len;
         if len == 0 {
@@ -105,7 +107,8 @@ impl<T: Drop, S: RingSlots<T>> Fixed<T, S> {
     /// Drops all items.
     pub fn clear(&mut self)
         requires { IsSound S.seen S.is_size self.old }
-        ensures { ChangesTo S.seen S.is_size self.old self.new (after_clear (view_of S.seen self.old)) }
+        ensures { ChangesTo S.seen S.is_size self.old self.new
+            (after_clear (view_of S.seen self.old)) }
     {
         let mut start = self.start;
         for _ in 0..self.len {
@@ -120,12 +123,16 @@ impl<T: Drop, S: RingSlots<T>> Fixed<T, S> {
     pub fn extend<I: IntoIterator<Item = T>>(&mut self, items: I, capacity: usize)
     where
         I::IntoIter: Drop,
-        requires ends { IsFiniteIterable I.into_iter_gives I.IntoIter.can_next I.IntoIter.remaining items }
+        requires ends { IsFiniteIterable I.into_iter_gives I.IntoIter.can_next I.IntoIter.remaining
+            items }
         requires sound { IsSound S.seen S.is_size self.old }
         requires some { 0 < capacity }
         requires within { self.old.len ≤ capacity }
         requires room { capacity ≤ (view_of S.seen self.old).capacity }
-        ensures { (it : I.IntoIter) × (xs : List T) × I.into_iter_gives items it × Drains I.IntoIter.next_gives it xs × ChangesTo S.seen S.is_size self.old self.new (after_extend capacity (view_of S.seen self.old) xs) }
+        ensures { (it : I.IntoIter) × (xs : List T) × I.into_iter_gives items it
+            × Drains I.IntoIter.next_gives it xs
+            × ChangesTo S.seen S.is_size self.old self.new
+            (after_extend capacity (view_of S.seen self.old) xs) }
     {
         let mut start = self.start;
         let mut len = self.len;
@@ -143,7 +150,9 @@ impl<T: Drop, S: RingSlots<T>> Fixed<T, S> {
         requires callable { F.IsAlwaysCallable make }
         requires sound { IsSound S.seen S.is_size self.old }
         requires room { capacity ≤ (view_of S.seen self.old).capacity }
-        ensures { (xs : List T) × (last : F) × FoldsTo F.step make xs last × (length xs ≡ capacity) × ChangesTo S.seen S.is_size self.old self.new (after_fill (view_of S.seen self.old) xs) }
+        ensures { (xs : List T) × (last : F) × FoldsTo F.step make xs last × (length xs ≡ capacity)
+            × ChangesTo S.seen S.is_size self.old self.new
+            (after_fill (view_of S.seen self.old) xs) }
     {
         self.clear();
         let start = self.start;
@@ -157,7 +166,9 @@ impl<T: Drop, S: RingSlots<T>> Fixed<T, S> {
     #[inline]
     pub fn get(&self, index: usize) -> Option<&T>
         requires { IsSound S.seen S.is_size self.now }
-        ensures { option_copied result ≡ slice_get (view_of S.seen self.now).items (place (length (view_of S.seen self.now).items) index) }
+        ensures { option_copied result
+            ≡ slice_get (view_of S.seen self.now).items
+            (place (length (view_of S.seen self.now).items) index) }
     {
         let index = position(index, self.len)?;
         Some(self.at(index))
@@ -167,7 +178,9 @@ impl<T: Drop, S: RingSlots<T>> Fixed<T, S> {
     #[inline]
     pub fn get_signed(&self, index: isize) -> Option<&T>
         requires { IsSound S.seen S.is_size self.now }
-        ensures { option_copied result ≡ slice_get (view_of S.seen self.now).items (signed_place (length (view_of S.seen self.now).items) index) }
+        ensures { option_copied result
+            ≡ slice_get (view_of S.seen self.now).items
+            (signed_place (length (view_of S.seen self.now).items) index) }
     {
         let index = signed_position(index, self.len)?;
         Some(self.at(index))
@@ -187,8 +200,11 @@ impl<T: Drop, S: RingSlots<T>> Fixed<T, S> {
     #[inline]
     pub fn get_mut(&mut self, index: usize) -> Option<&mut T>
         requires { IsSound S.seen S.is_size self.old }
-        ensures* writes_back { sem 𝓛 (LendsIf (the_row T.row S.row) T.row self.entry result (with_item S.seen S.with_slot self.old (place self.old.len index)) self.old) }
-        ensures value { option_copied_mut result ≡ slice_get (view_of S.seen self.old).items (place self.old.len index) }
+        ensures* writes_back { sem 𝓛
+            (LendsIf (the_row T.row S.row) T.row self.entry result
+            (with_item S.seen S.with_slot self.old (place self.old.len index)) self.old) }
+        ensures value { option_copied_mut result
+            ≡ slice_get (view_of S.seen self.old).items (place self.old.len index) }
         ensures within { IfSome result (λ _. place self.old.len index < self.old.len) }
         ensures none { IsNone result ↔ ((view_of S.seen self.old).items ≡ []) }
     {
@@ -200,8 +216,12 @@ impl<T: Drop, S: RingSlots<T>> Fixed<T, S> {
     #[inline]
     pub fn get_mut_signed(&mut self, index: isize) -> Option<&mut T>
         requires { IsSound S.seen S.is_size self.old }
-        ensures* writes_back { sem 𝓛 (LendsIf (the_row T.row S.row) T.row self.entry result (with_item S.seen S.with_slot self.old (signed_place self.old.len index)) self.old) }
-        ensures value { option_copied_mut result ≡ slice_get (view_of S.seen self.old).items (signed_place self.old.len index) }
+        ensures* writes_back { sem 𝓛
+            (LendsIf (the_row T.row S.row) T.row self.entry result
+            (with_item S.seen S.with_slot self.old (signed_place self.old.len index))
+            self.old) }
+        ensures value { option_copied_mut result
+            ≡ slice_get (view_of S.seen self.old).items (signed_place self.old.len index) }
         ensures within { IfSome result (λ _. signed_place self.old.len index < self.old.len) }
         ensures none { IsNone result ↔ ((view_of S.seen self.old).items ≡ []) }
     {
@@ -214,7 +234,9 @@ impl<T: Drop, S: RingSlots<T>> Fixed<T, S> {
     fn at_mut(&mut self, index: usize) -> &mut T
         requires sound { IsSound S.seen S.is_size self.old }
         requires within { index < self.old.len }
-        ensures* writes_back { sem 𝓛 (Lends (the_row T.row S.row) T.row self.entry result (with_item S.seen S.with_slot self.old index)) }
+        ensures* writes_back { sem 𝓛
+            (Lends (the_row T.row S.row) T.row self.entry result
+            (with_item S.seen S.with_slot self.old index)) }
         ensures value { slice_get (view_of S.seen self.old).items index ≡ Some result.now }
     {
         let place = self.slots.place(self.start, index);
@@ -235,9 +257,12 @@ impl<T: Drop, S: RingSlots<T>> Fixed<T, S> {
         requires some { 0 < capacity }
         requires within { len ≤ capacity }
         requires room { capacity ≤ length (S.seen slots.old).slots }
-        ensures after { LaysOut S.is_size (S.seen slots.old) (S.seen slots.new) result.0 (after_push capacity (view_from (S.seen slots.old) start) item) }
-        ensures len { result.1 ≡ length (after_push capacity (view_from (S.seen slots.old) start) item).items }
-        ensures value { result.2 ≡ overwritten (Some capacity) (view_from (S.seen slots.old) start).items }
+        ensures after { LaysOut S.is_size (S.seen slots.old) (S.seen slots.new) result.0
+            (after_push capacity (view_from (S.seen slots.old) start) item) }
+        ensures len { result.1
+            ≡ length (after_push capacity (view_from (S.seen slots.old) start) item).items }
+        ensures value { result.2
+            ≡ overwritten (Some capacity) (view_from (S.seen slots.old) start).items }
     {
         if len == capacity {
             let (next, old) = Self::put_over(slots, start, len, item);
@@ -254,7 +279,8 @@ impl<T: Drop, S: RingSlots<T>> Fixed<T, S> {
         requires laid_out { IsLaidOut S.is_size (S.seen slots.old) start }
         requires len { len ≡ length (view_from (S.seen slots.old) start).items }
         requires room { len < length (S.seen slots.old).slots }
-        ensures { LaysOut S.is_size (S.seen slots.old) (S.seen slots.new) start (after_put (view_from (S.seen slots.old) start) item) }
+        ensures { LaysOut S.is_size (S.seen slots.old) (S.seen slots.new) start
+            (after_put (view_from (S.seen slots.old) start) item) }
     {
         let place = slots.place(start, len);
         slots.put(place, item);
@@ -267,7 +293,8 @@ impl<T: Drop, S: RingSlots<T>> Fixed<T, S> {
         requires len { len ≡ length (view_from (S.seen slots.old) start).items }
         requires some { 0 < len }
         ensures value { slice_get (view_from (S.seen slots.old) start).items 0 ≡ Some result.1 }
-        ensures after { LaysOut S.is_size (S.seen slots.old) (S.seen slots.new) result.0 (after_put (after_take (view_from (S.seen slots.old) start)) item) }
+        ensures after { LaysOut S.is_size (S.seen slots.old) (S.seen slots.new) result.0
+            (after_put (after_take (view_from (S.seen slots.old) start)) item) }
     {
         let place = slots.place_after(start, len);
         let (next, old) = Self::take_from(slots, start);
@@ -282,7 +309,8 @@ impl<T: Drop, S: RingSlots<T>> Fixed<T, S> {
         requires some { 0 < length (view_from (S.seen slots.old) start).items }
         ensures value { slice_get (view_from (S.seen slots.old) start).items 0 ≡ Some result.1 }
         ensures next { result.0 ≡ (start + 1) % length (S.seen slots.old).slots }
-        ensures after { LaysOut S.is_size (S.seen slots.old) (S.seen slots.new) result.0 (after_take (view_from (S.seen slots.old) start)) }
+        ensures after { LaysOut S.is_size (S.seen slots.old) (S.seen slots.new) result.0
+            (after_take (view_from (S.seen slots.old) start)) }
     {
         let next = slots.next(start);
         (next, slots.take(start))

@@ -20,7 +20,8 @@ pub fn same_items<T: PartialEq + Drop, R: RingBuffer<T>>(a: &R, b: &R) -> bool
 
 // Pushes an item, and drops the one that it overwrites. An item that is refused is dropped too.
 fn push_item<T: Drop, R: RingBuffer<T>>(ring: &mut R, item: T) -> Result<(), AllocError>
-    ensures contents { OnOk result (R.contents ring.new ≡ keep_last (R.limit ring.old) (R.contents ring.old ++ item ∷ [])) }
+    ensures contents { OnOk result (R.contents ring.new
+        ≡ keep_last (R.limit ring.old) (R.contents ring.old ++ item ∷ [])) }
     ensures limit { R.limit ring.new ≡ R.limit ring.old }
     ensures succeeds { IsSome (R.limit ring.old) → IsOk result }
 {
@@ -41,7 +42,9 @@ pub fn extend_cloned<'a, T: Clone + Drop + 'a, I: Iterator<Item = &'a T>, R: Rin
 ) -> Result<(), AllocError>
     requires can { I.can_next items }
     requires ends { IsFinite (I.remaining items) }
-    ensures items { OnOk result ((xs : List (Bor T)) × (ys : List T) × Drains I.next_gives items xs × AllZip T.is_clone (map (λ x. x.now) xs) ys × (R.contents ring.new ≡ keep_last (R.limit ring.old) (R.contents ring.old ++ ys))) }
+    ensures items { OnOk result ((xs : List (Bor T)) × (ys : List T) × Drains I.next_gives items xs
+        × AllZip T.is_clone (map (λ x. x.now) xs) ys
+        × (R.contents ring.new ≡ keep_last (R.limit ring.old) (R.contents ring.old ++ ys))) }
     ensures limit { R.limit ring.new ≡ R.limit ring.old }
 {
     let _held = ring.len();
@@ -60,7 +63,8 @@ pub fn extend_somes<T: Drop, R: RingBuffer<T>, const N: usize>(
     ring: &mut R,
     items: [Option<T>; N],
 ) -> Result<(), AllocError>
-    ensures items { OnOk result (R.contents ring.new ≡ keep_last (R.limit ring.old) (R.contents ring.old ++ somes items)) }
+    ensures items { OnOk result (R.contents ring.new
+        ≡ keep_last (R.limit ring.old) (R.contents ring.old ++ somes items)) }
     ensures limit { R.limit ring.new ≡ R.limit ring.old }
     ensures places { length items ≡ N }
     ensures succeeds { IsSome (R.limit ring.old) → IsOk result }

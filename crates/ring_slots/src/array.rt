@@ -3,9 +3,9 @@ ghost use Rattle.std.specs.Prelude.{◌≡◌, ◌<◌, ℕ, length, replicate, 
 ghost use Rattle.std.specs.Borrow.{sem};
 ghost use Rattle.ring_slots.specs.Slots.{IsEmptyAt, IsFullAt, changed, slot_at};
 
+use crate::change_count::ChangeCount;
 use crate::place::{wrapped, wrapped_after, wrapped_next};
 use crate::slots::RingSlots;
-use crate::change_count::ChangeCount;
 use std::marker::Model;
 
 // An array in a struct of its own, so that a contract can say what a loan of one element leaves.

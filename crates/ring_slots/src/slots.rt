@@ -59,7 +59,8 @@ pub trait RingSlots<T: Drop>: Sized {
     /// The item of a full slot, for writing.
     fn get_mut(&mut self, place: usize) -> &mut T
         requires { IsFullAt (seen self.old) place }
-        ensures* writes_back { sem 𝓛 (Lends Self.row T.row self.entry result (with_slot self.old place)) }
+        ensures* writes_back { sem 𝓛
+            (Lends Self.row T.row self.entry result (with_slot self.old place)) }
         ensures value { slot_at (seen self.old) place ≡ Some result.now };
 
     ghost sees_write: { (s : Self) (place : ℕ) (x : T) → seen (with_slot s place x) ≡ changed (seen s) place (Some x) };

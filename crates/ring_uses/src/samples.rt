@@ -32,7 +32,8 @@ impl SampleBuffer {
     pub fn new(alloc: Global, rate: u32, seconds: u32) -> Result<Self, AllocError>
         requires rate { 0 < rate }
         requires seconds { 0 < seconds }
-        ensures { IfOk result (λ buffer. buffer ≡ record { samples = []; rate = rate; limit = rate * seconds }) }
+        ensures { IfOk result
+            (λ buffer. buffer ≡ record { samples = []; rate = rate; limit = rate * seconds }) }
     {
         let samples = AllocRingBuffer::new(alloc, rate as usize * seconds as usize)?;
         Ok(SampleBuffer { samples, rate })
@@ -47,7 +48,8 @@ impl SampleBuffer {
 
     /// Takes in a sample. A full buffer forgets its oldest one.
     pub fn record(&mut self, sample: i32)
-        ensures { self.new ≡ record self.old { samples = keep_last (Some self.old.limit) (self.old.samples ++ sample ∷ []) } }
+        ensures { self.new ≡ record self.old
+            { samples = keep_last (Some self.old.limit) (self.old.samples ++ sample ∷ []) } }
     {
         let _ = self.samples.push(sample);
     }

@@ -41,14 +41,17 @@ impl LogTail {
 
     /// Takes in a line. At the limit the oldest line is dropped.
     pub fn feed(&mut self, line: String)
-        ensures { self.new ≡ record self.old { lines = keep_last (Some self.old.limit) (self.old.lines ++ string_bytes line ∷ []) } }
+        ensures { self.new ≡ record self.old
+            { lines = keep_last (Some self.old.limit) (self.old.lines ++ string_bytes line ∷ []) } }
     {
         let _ = self.lines.push(line);
     }
 
     /// A walk over the lines, oldest first.
     pub fn iter(&self) -> RingBufferIterator<'_, String, AllocRingBuffer<String>>
-        ensures left { map string_bytes (iterator_to_come ⟦<AllocRingBuffer<String> as RingBuffer<String>>⟧.contents result) ≡ self.now.lines }
+        ensures left { map string_bytes
+            (iterator_to_come ⟦<AllocRingBuffer<String> as RingBuffer<String>>⟧.contents result)
+            ≡ self.now.lines }
         ensures runs { ReadsInOrder ⟦<AllocRingBuffer<String> as RingBuffer<String>>⟧.contents }
     {
         self.lines.iter()
@@ -61,7 +64,8 @@ impl LogTail {
 ///
 /// Where memory was refused. There must be room for `n` lines, also where the text has fewer.
 pub fn tail<'a>(alloc: Global, text: &'a str, n: usize) -> Result<Vec<&'a str>, AllocError>
-    ensures { IfOk result (λ last. map (λ line. line.now) last.items ≡ keep_last (Some n) (lines text.now)) }
+    ensures { IfOk result
+        (λ last. map (λ line. line.now) last.items ≡ keep_last (Some n) (lines text.now)) }
 {
     if n == 0 {
         return Ok(Vec::new(alloc));

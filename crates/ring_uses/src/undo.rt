@@ -51,7 +51,11 @@ impl<T: Drop> History<T> {
     ///
     /// Hands the state back where memory was refused.
     pub fn record(&mut self, state: T) -> Result<(), T>
-        ensures ok { OnOk result (self.new ≡ record self.old { states = keep_last (Some self.old.depth) (self.old.states ++ state ∷ []) }) }
+        ensures ok { OnOk result (self.new
+            ≡ record self.old {
+              states = keep_last (Some self.old.depth)
+                  (self.old.states ++ state ∷ []);
+            }) }
         ensures err { IfErr result (λ back. (back ≡ state) × (self.new ≡ self.old)) }
     {
         self.states.push(state)?;

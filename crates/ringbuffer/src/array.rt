@@ -98,14 +98,17 @@ impl<T: Drop, const CAP: usize> RingBuffer<T> for ConstGenericRingBuffer<T, CAP>
     #[inline]
     fn push(&mut self, item: T) -> Result<Option<T>, T>
         ensures overwrites { IfOk result (λ old. old ≡ overwritten (Some CAP) self.old.items) }
-        ensures ok { IsOk result → self.new.items ≡ keep_last (Some CAP) (self.old.items ++ item ∷ []) }
+        ensures ok { IsOk result
+            → self.new.items ≡ keep_last (Some CAP) (self.old.items ++ item ∷ []) }
         ensures err { IfErr result (λ x. (x ≡ item) × (self.new.items ≡ self.old.items)) }
-        ensures changes { IsSome (Some CAP) → ChangesSlots self.old.changes self.old.items self.new.changes self.new.items 1 }
+        ensures changes { IsSome (Some CAP)
+            → ChangesSlots self.old.changes self.old.items self.new.changes self.new.items 1 }
         ensures succeeds { IsSome (Some CAP) → IsOk result }
         ensures pushes { self.new ≡ after_push CAP self.old item }
 
         // The count that the trait shows is the count of the slots themselves.
-        ensures counts { ⟦<ConstGenericRingBuffer<T, CAP> as RingBuffer<T>>⟧.slot_changes self.new ≡ self.new.changes }
+        ensures counts { ⟦<ConstGenericRingBuffer<T, CAP> as RingBuffer<T>>⟧.slot_changes self.new
+            ≡ self.new.changes }
     {
         Ok(self.ring.push(item, CAP))
     }
@@ -174,8 +177,11 @@ impl<T: Drop, const CAP: usize> IndexMut<usize> for ConstGenericRingBuffer<T, CA
     #[inline]
     fn index_mut(&mut self, index: usize) -> &mut T
         requires { 0 < length self.old.items }
-        ensures* writes_back { sem 𝓛 (Lends (the_row T.row CAP.row) T.row self.entry result (after_write self.old (place (length self.old.items) index))) }
-        ensures value { slice_get self.old.items (place (length self.old.items) index) ≡ Some result.now }
+        ensures* writes_back { sem 𝓛
+            (Lends (the_row T.row CAP.row) T.row self.entry result
+            (after_write self.old (place (length self.old.items) index))) }
+        ensures value { slice_get self.old.items (place (length self.old.items) index)
+            ≡ Some result.now }
     {
         self.get_mut(index).unwrap()
     }
@@ -185,7 +191,8 @@ impl<T: Drop, const CAP: usize> ConstGenericRingBuffer<T, CAP> {
     /// A walk over the items, oldest first, from either end.
     #[inline]
     pub fn iter(&self) -> RingBufferIterator<'_, T, Self>
-        ensures left { iterator_to_come ⟦<ConstGenericRingBuffer<T, CAP> as RingBuffer<T>>⟧.contents result ≡ self.now.items }
+        ensures left { iterator_to_come ⟦<ConstGenericRingBuffer<T, CAP> as RingBuffer<T>>⟧.contents
+            result ≡ self.now.items }
         ensures runs { ReadsInOrder ⟦<ConstGenericRingBuffer<T, CAP> as RingBuffer<T>>⟧.contents }
         ensures runs_back { ReadsInReverse ⟦<ConstGenericRingBuffer<T, CAP> as RingBuffer<T>>⟧.contents }
     {
@@ -197,7 +204,8 @@ impl<T: Drop, const CAP: usize> ConstGenericRingBuffer<T, CAP> {
     pub fn iter_mut(&mut self) -> RingBufferMutIterator<'_, T, Self>
         ensures same_reference { result.ring.ghost_name ≡ self.entry.ghost_name }
         ensures ring { result.ring.now ≡ self.entry.now }
-        ensures starts { StartsOver ⟦<ConstGenericRingBuffer<T, CAP> as RingBuffer<T>>⟧.contents result }
+        ensures starts { StartsOver ⟦<ConstGenericRingBuffer<T, CAP> as RingBuffer<T>>⟧.contents
+            result }
     {
         RingBufferMutIterator::new(self)
     }
@@ -214,7 +222,8 @@ impl<T: Drop, const CAP: usize> ConstGenericRingBuffer<T, CAP> {
     /// A walk that owns the ring, oldest item first.
     #[inline]
     pub fn into_iter(self) -> RingBufferIntoIterator<T, Self>
-        ensures { into_iter_to_come ⟦<ConstGenericRingBuffer<T, CAP> as RingBuffer<T>>⟧.contents result ≡ self.items }
+        ensures { into_iter_to_come ⟦<ConstGenericRingBuffer<T, CAP> as RingBuffer<T>>⟧.contents
+            result ≡ self.items }
     {
         RingBufferIntoIterator::new(self)
     }

@@ -170,7 +170,8 @@ impl<T: Drop> GrowableAllocRingBuffer<T> {
     /// A walk over the items, oldest first, from either end.
     #[inline]
     pub fn iter(&self) -> RingBufferIterator<'_, T, Self>
-        ensures left { iterator_to_come ⟦<GrowableAllocRingBuffer<T> as RingBuffer<T>>⟧.contents result ≡ self.now }
+        ensures left { iterator_to_come ⟦<GrowableAllocRingBuffer<T> as RingBuffer<T>>⟧.contents
+            result ≡ self.now }
         ensures runs { ReadsInOrder ⟦<GrowableAllocRingBuffer<T> as RingBuffer<T>>⟧.contents }
         ensures runs_back { ReadsInReverse ⟦<GrowableAllocRingBuffer<T> as RingBuffer<T>>⟧.contents }
     {
@@ -182,7 +183,8 @@ impl<T: Drop> GrowableAllocRingBuffer<T> {
     pub fn iter_mut(&mut self) -> RingBufferMutIterator<'_, T, Self>
         ensures same_reference { result.ring.ghost_name ≡ self.entry.ghost_name }
         ensures ring { result.ring.now ≡ self.entry.now }
-        ensures starts { StartsOver ⟦<GrowableAllocRingBuffer<T> as RingBuffer<T>>⟧.contents result }
+        ensures starts { StartsOver ⟦<GrowableAllocRingBuffer<T> as RingBuffer<T>>⟧.contents
+            result }
     {
         RingBufferMutIterator::new(self)
     }
@@ -199,7 +201,8 @@ impl<T: Drop> GrowableAllocRingBuffer<T> {
     /// A walk that owns the ring, oldest item first.
     #[inline]
     pub fn into_iter(self) -> RingBufferIntoIterator<T, Self>
-        ensures { into_iter_to_come ⟦<GrowableAllocRingBuffer<T> as RingBuffer<T>>⟧.contents result ≡ self }
+        ensures { into_iter_to_come ⟦<GrowableAllocRingBuffer<T> as RingBuffer<T>>⟧.contents result
+            ≡ self }
     {
         RingBufferIntoIterator::new(self)
     }

@@ -56,7 +56,8 @@ impl<T: Drop> AllocRingBuffer<T> {
     /// Where memory was refused or the bytes can't be asked for, and for every capacity above the greatest power of two.
     pub fn new(alloc: Global, capacity: usize) -> Result<Self, AllocError>
         requires { 0 < capacity }
-        ensures made { IfOk result (λ ring. ring ≡ record { items = []; changes = 0; capacity = capacity }) }
+        ensures made { IfOk result
+            (λ ring. ring ≡ record { items = []; changes = 0; capacity = capacity }) }
         ensures too_large { 2 ^ 63 < capacity → IsErr result }
     {
         if capacity > GREATEST_POWER_OF_TWO {
@@ -78,7 +79,8 @@ impl<T: Drop> AllocRingBuffer<T> {
     /// As `new`.
     pub fn with_capacity(alloc: Global, capacity: usize) -> Result<Self, AllocError>
         requires { 0 < capacity }
-        ensures made { IfOk result (λ ring. ring ≡ record { items = []; changes = 0; capacity = capacity }) }
+        ensures made { IfOk result
+            (λ ring. ring ≡ record { items = []; changes = 0; capacity = capacity }) }
         ensures too_large { 2 ^ 63 < capacity → IsErr result }
     {
         Self::new(alloc, capacity)
@@ -91,7 +93,8 @@ impl<T: Drop> AllocRingBuffer<T> {
     /// As `new`.
     pub fn with_capacity_power_of_2(alloc: Global, exponent: usize) -> Result<Self, AllocError>
         requires { exponent < 64 }
-        ensures { IfOk result (λ ring. ring ≡ record { items = []; changes = 0; capacity = 2 ^ exponent }) }
+        ensures { IfOk result
+            (λ ring. ring ≡ record { items = []; changes = 0; capacity = 2 ^ exponent }) }
     {
         Self::new(alloc, 1 << exponent)
     }
@@ -141,12 +144,14 @@ impl<T: Drop> RingBuffer<T> for AllocRingBuffer<T> {
 
     #[inline]
     fn push(&mut self, item: T) -> Result<Option<T>, T>
-        ensures overwrites { IfOk result (λ old. old ≡ overwritten (Some self.old.capacity) self.old.items) }
+        ensures overwrites { IfOk result
+            (λ old. old ≡ overwritten (Some self.old.capacity) self.old.items) }
         ensures pushes { self.new ≡ after_push self.old.capacity self.old item }
         ensures ok { IsOk result }
 
         // The count that the trait shows is the count of the slots themselves.
-        ensures counts { ⟦<AllocRingBuffer<T> as RingBuffer<T>>⟧.slot_changes self.new ≡ self.new.changes }
+        ensures counts { ⟦<AllocRingBuffer<T> as RingBuffer<T>>⟧.slot_changes self.new
+            ≡ self.new.changes }
     {
         let len = self.ring.len();
         let capacity = self.capacity;
@@ -236,8 +241,11 @@ impl<T: Drop> IndexMut<usize> for AllocRingBuffer<T> {
     #[inline]
     fn index_mut(&mut self, index: usize) -> &mut T
         requires { 0 < length self.old.items }
-        ensures* writes_back { sem 𝓛 (Lends (the_row T.row) T.row self.entry result (after_write self.old (place (length self.old.items) index))) }
-        ensures value { slice_get self.old.items (place (length self.old.items) index) ≡ Some result.now }
+        ensures* writes_back { sem 𝓛
+            (Lends (the_row T.row) T.row self.entry result
+            (after_write self.old (place (length self.old.items) index))) }
+        ensures value { slice_get self.old.items (place (length self.old.items) index)
+            ≡ Some result.now }
     {
         self.get_mut(index).unwrap()
     }
@@ -247,7 +255,8 @@ impl<T: Drop> AllocRingBuffer<T> {
     /// A walk over the items, oldest first, from either end.
     #[inline]
     pub fn iter(&self) -> RingBufferIterator<'_, T, Self>
-        ensures left { iterator_to_come ⟦<AllocRingBuffer<T> as RingBuffer<T>>⟧.contents result ≡ self.now.items }
+        ensures left { iterator_to_come ⟦<AllocRingBuffer<T> as RingBuffer<T>>⟧.contents result
+            ≡ self.now.items }
         ensures runs { ReadsInOrder ⟦<AllocRingBuffer<T> as RingBuffer<T>>⟧.contents }
         ensures runs_back { ReadsInReverse ⟦<AllocRingBuffer<T> as RingBuffer<T>>⟧.contents }
     {
@@ -276,7 +285,8 @@ impl<T: Drop> AllocRingBuffer<T> {
     /// A walk that owns the ring, oldest item first.
     #[inline]
     pub fn into_iter(self) -> RingBufferIntoIterator<T, Self>
-        ensures { into_iter_to_come ⟦<AllocRingBuffer<T> as RingBuffer<T>>⟧.contents result ≡ self.items }
+        ensures { into_iter_to_come ⟦<AllocRingBuffer<T> as RingBuffer<T>>⟧.contents result
+            ≡ self.items }
     {
         RingBufferIntoIterator::new(self)
     }

@@ -34,7 +34,8 @@ impl Arguments {
     pub fn parse(words: &[String]) -> Result<Arguments, Fault>
         ensures ok { IfOk result (AsksFor (map string_bytes words.now)) }
         ensures err { IfErr result (λ fault. fault ≡ Fault.BadArguments) }
-        ensures asks_for_none { IsErr result → (a : Arguments) → ¬ AsksFor (map string_bytes words.now) a }
+        ensures asks_for_none { IsErr result → (a : Arguments)
+            → ¬ AsksFor (map string_bytes words.now) a }
     {
         let [kind, capacity] = words else {
             return Err(Fault::BadArguments);

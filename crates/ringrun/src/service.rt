@@ -53,7 +53,8 @@ fn attempt<I: Read, O: Write>(
     input: &mut I,
     output: &mut O,
 ) -> Result<(), Fault>
-    ensures arguments { IsErrOf result Fault.BadArguments ↔ (¬ NamesRing (map string_bytes words.now)) }
+    ensures arguments { IsErrOf result Fault.BadArguments
+        ↔ (¬ NamesRing (map string_bytes words.now)) }
     ensures unread { IsErrOf result Fault.BadArguments → input.new ≡ input.old }
     ensures unwritten { IfErr result (λ fault. status_of fault < 4 → output.new ≡ output.old) }
 {
@@ -63,7 +64,8 @@ fn attempt<I: Read, O: Write>(
 
 /// The text that the program prints. No byte of the input is read before the arguments are checked.
 fn answer<I: Read>(alloc: Global, words: &[String], input: &mut I) -> Result<String, Fault>
-    ensures arguments { IsErrOf result Fault.BadArguments ↔ (¬ NamesRing (map string_bytes words.now)) }
+    ensures arguments { IsErrOf result Fault.BadArguments
+        ↔ (¬ NamesRing (map string_bytes words.now)) }
     ensures unread { IsErrOf result Fault.BadArguments → input.new ≡ input.old }
 {
     let Arguments { kind, capacity } = Arguments::parse(words)?;

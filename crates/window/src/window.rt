@@ -43,7 +43,8 @@ impl<R: RingBuffer<i64>> WindowSum<R> {
     /// Hands `sample` back where the ring was refused memory, which no ring with a limit meets. The window, its sum too,
     /// is as it was.
     pub fn push(&mut self, sample: i64) -> Result<Option<i64>, i64>
-        ensures overwrites { IfOk result (λ old. old ≡ overwritten self.old.limit self.old.contents) }
+        ensures overwrites { IfOk result
+            (λ old. old ≡ overwritten self.old.limit self.old.contents) }
         ensures ok { OnOk result
             (self.new.contents ≡ keep_last self.old.limit (self.old.contents ++ sample ∷ [])) }
         ensures err { IfErr result (λ back. (back ≡ sample) × (self.new ≡ self.old)) }

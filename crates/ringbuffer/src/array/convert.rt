@@ -18,8 +18,10 @@ impl<T: Drop, const CAP: usize> ConstGenericRingBuffer<T, CAP> {
     where
         I::IntoIter: Drop,
         requires capacity { 0 < CAP }
-        requires ends { IsFiniteIterable I.into_iter_gives I.IntoIter.can_next I.IntoIter.remaining items }
-        ensures { (it : I.IntoIter) × (xs : List T) × I.into_iter_gives items it × Drains I.IntoIter.next_gives it xs × HoldsLast CAP xs result }
+        requires ends { IsFiniteIterable I.into_iter_gives I.IntoIter.can_next I.IntoIter.remaining
+            items }
+        ensures { (it : I.IntoIter) × (xs : List T) × I.into_iter_gives items it
+            × Drains I.IntoIter.next_gives it xs × HoldsLast CAP xs result }
     {
         let mut ring = Self::new();
         let _ = ring.extend(items);
@@ -104,7 +106,8 @@ impl<T: Clone + Drop, const CAP: usize> ConstGenericRingBuffer<T, CAP> {
     /// Where a clone was refused.
     pub fn from_slice(items: &[T]) -> Result<Self, AllocError>
         requires { 0 < CAP }
-        ensures { IfOk result (λ ring. ClonesMeet T.is_clone items.now (λ ys. HoldsLast CAP ys ring)) }
+        ensures { IfOk result
+            (λ ring. ClonesMeet T.is_clone items.now (λ ys. HoldsLast CAP ys ring)) }
     {
         let mut ring = Self::new();
         extend_cloned(&mut ring, items.iter())?;
@@ -118,7 +121,8 @@ impl<T: Clone + Drop, const CAP: usize> ConstGenericRingBuffer<T, CAP> {
     /// As `from_slice`.
     pub fn from_mut_slice(items: &mut [T]) -> Result<Self, AllocError>
         requires { 0 < CAP }
-        ensures items { IfOk result (λ ring. ClonesMeet T.is_clone items.old (λ ys. HoldsLast CAP ys ring)) }
+        ensures items { IfOk result
+            (λ ring. ClonesMeet T.is_clone items.old (λ ys. HoldsLast CAP ys ring)) }
         ensures unchanged { items.new ≡ items.old }
     {
         Self::from_slice(items)
@@ -131,7 +135,8 @@ impl<T: Clone + Drop, const CAP: usize> ConstGenericRingBuffer<T, CAP> {
     /// As `from_slice`.
     pub fn from_array_ref(items: &[T; CAP]) -> Result<Self, AllocError>
         requires { 0 < CAP }
-        ensures { IfOk result (λ ring. ClonesMeet T.is_clone items.now (λ ys. HoldsLast CAP ys ring)) }
+        ensures { IfOk result
+            (λ ring. ClonesMeet T.is_clone items.now (λ ys. HoldsLast CAP ys ring)) }
     {
         Self::from_slice(items)
     }
@@ -143,7 +148,8 @@ impl<T: Clone + Drop, const CAP: usize> ConstGenericRingBuffer<T, CAP> {
     /// As `from_slice`.
     pub fn from_mut_array(items: &mut [T; CAP]) -> Result<Self, AllocError>
         requires { 0 < CAP }
-        ensures items { IfOk result (λ ring. ClonesMeet T.is_clone items.old (λ ys. HoldsLast CAP ys ring)) }
+        ensures items { IfOk result
+            (λ ring. ClonesMeet T.is_clone items.old (λ ys. HoldsLast CAP ys ring)) }
         ensures unchanged { items.new ≡ items.old }
     {
         Self::from_slice(items)

@@ -21,8 +21,11 @@ impl<T: Drop> GrowableAllocRingBuffer<T> {
     pub fn from_iter<I: IntoIterator<Item = T>>(alloc: Global, items: I) -> Result<Self, AllocError>
     where
         I::IntoIter: Drop,
-        requires { IsFiniteIterable I.into_iter_gives I.IntoIter.can_next I.IntoIter.remaining items }
-        ensures { IfOk result (λ ring. (it : I.IntoIter) × I.into_iter_gives items it × Drains I.IntoIter.next_gives it ring) }
+        requires { IsFiniteIterable I.into_iter_gives I.IntoIter.can_next I.IntoIter.remaining
+            items }
+        ensures { IfOk result
+            (λ ring. (it : I.IntoIter) × I.into_iter_gives items it
+            × Drains I.IntoIter.next_gives it ring) }
     {
         let mut ring = Self::new(alloc);
         ring.extend(items)?;

@@ -23,8 +23,12 @@ impl<T: Drop> AllocRingBuffer<T> {
     where
         I::IntoIter: Drop,
         requires capacity { 0 < capacity }
-        requires ends { IsFiniteIterable I.into_iter_gives I.IntoIter.can_next I.IntoIter.remaining items }
-        ensures { IfOk result (λ ring. (it : I.IntoIter) × (xs : List T) × I.into_iter_gives items it × Drains I.IntoIter.next_gives it xs × (ring.items ≡ keep_last (Some capacity) xs) × (ring.capacity ≡ capacity)) }
+        requires ends { IsFiniteIterable I.into_iter_gives I.IntoIter.can_next I.IntoIter.remaining
+            items }
+        ensures { IfOk result
+            (λ ring. (it : I.IntoIter) × (xs : List T) × I.into_iter_gives items it
+            × Drains I.IntoIter.next_gives it xs × (ring.items ≡ keep_last (Some capacity) xs)
+            × (ring.capacity ≡ capacity)) }
     {
         let mut ring = Self::new(alloc, capacity)?;
         let _ = ring.extend(items);
@@ -166,7 +170,8 @@ impl<T: Clone + Drop> AllocRingBuffer<T> {
     /// As `from_slice`.
     pub fn from_mut_slice(alloc: Global, items: &mut [T]) -> Result<Self, AllocError>
         requires { 0 < length items.old }
-        ensures items { IfOk result (λ ring. ClonesMeet T.is_clone items.old (λ ys. HoldsAll ys ring)) }
+        ensures items { IfOk result
+            (λ ring. ClonesMeet T.is_clone items.old (λ ys. HoldsAll ys ring)) }
         ensures unchanged { items.new ≡ items.old }
     {
         Self::from_slice(alloc, items)
@@ -194,7 +199,8 @@ impl<T: Clone + Drop> AllocRingBuffer<T> {
         items: &mut [T; N],
     ) -> Result<Self, AllocError>
         requires { 0 < N }
-        ensures items { IfOk result (λ ring. ClonesMeet T.is_clone items.old (λ ys. HoldsAll ys ring)) }
+        ensures items { IfOk result
+            (λ ring. ClonesMeet T.is_clone items.old (λ ys. HoldsAll ys ring)) }
         ensures unchanged { items.new ≡ items.old }
     {
         Self::from_slice(alloc, items)

@@ -17,7 +17,7 @@ use work::Work;
 
 /// Work on an array ring. The capacity is 7, 1000, 1024 or 65536.
 #[unsafe(no_mangle)]
-pub extern "C" fn ring_measure_array(work: u32, capacity: usize, items: usize) -> u64 {
+pub extern "C" fn ring_workloads_array(work: u32, capacity: usize, items: usize) -> u64 {
     let Some(work) = Work::numbered(work) else {
         return 0;
     };
@@ -50,7 +50,7 @@ pub extern "C" fn ring_measure_array(work: u32, capacity: usize, items: usize) -
 
 /// Work on a heap ring of this capacity.
 #[unsafe(no_mangle)]
-pub extern "C" fn ring_measure_heap(
+pub extern "C" fn ring_workloads_heap(
     alloc: Global,
     work: u32,
     capacity: usize,
@@ -65,7 +65,7 @@ pub extern "C" fn ring_measure_heap(
 
 /// Work on a growable ring, which is kept to this capacity by hand.
 #[unsafe(no_mangle)]
-pub extern "C" fn ring_measure_growable(
+pub extern "C" fn ring_workloads_growable(
     alloc: Global,
     work: u32,
     capacity: usize,
