@@ -35,28 +35,7 @@ from_next start k size within low =
           elim (wrap start (suc k) size within (omega arith)) [ inl b ↦ omega arith | inr b ↦ omega arith ]
     ]
 
--- a list with an item more, or with one written, is the same at every other index
-module _ {A : Type 0} (xs : List A) (x : A) where
-  slice_get-push_other : (k : ℕ) → k ≢ length xs → slice_get (xs ++ x ∷ []) k ≡ slice_get xs k
-  slice_get-push_other k other = grind (arith, common_steps, slice_get_cases)
-
-  slice_get-set_other : (k j : ℕ) → j ≢ k → slice_get (set xs k x) j ≡ slice_get xs j
-  slice_get-set_other k j other = grind (arith, common_steps, slice_get_cases)
-
 module _ {X : Type 0} (slots : List (Option X)) (start : ℕ) (within : start < length slots) where
-  -- a change of the slot at a count changes what lies there ..
-  slot_after-set_same : (k : ℕ) (slot : Option X) → k < length slots → slot_after (set slots ((start + k) % length slots) slot) start k ≡ slot
-  slot_after-set_same k slot low =
-      let here : (start + k) % length slots < length slots = mod-lt (start + k) (omega arith) in
-      rw (length-set slots ((start + k) % length slots) slot) (get_or-set_same slots ((start + k) % length slots) slot None here)
-
-  -- .. and nothing else
-  slot_after-set_other : (j k : ℕ) (slot : Option X) → j < length slots → k < length slots → j ≢ k
-      → slot_after (set slots ((start + k) % length slots) slot) start j ≡ slot_after slots start j
-  slot_after-set_other j k slot low low' other =
-      rw (length-set slots ((start + k) % length slots) slot)
-      (get_or-set_other slots ((start + k) % length slots) ((start + j) % length slots) slot None (λ e. other (same_count start j k (length slots) within low low' e)))
-
   -- no place after the start is the start ..
   apart : (k : ℕ) → suc k < length slots → (start + suc k) % length slots ≢ start
   apart k more e = elim (wrap start (suc k) (length slots) within (omega arith)) [ inl a ↦ omega arith | inr a ↦ omega arith ]
@@ -84,20 +63,22 @@ module _ {X : Type 0} (slots : List (Option X)) (start : ℕ) (within : start < 
       → SlotsHold (set slots ((start + k) % length slots) slot) start ys
   SlotsHold-set xs ys k slot hold low here others j within' =
       let low' : j < length slots = rw (length-set slots ((start + k) % length slots) slot) at within' in
+      let place = (start + k) % length slots in
       elim (ℕ_discrete j k) [
-        | yes same ↦ rw same (slot_after-set_same k slot low ∙ sym here)
-        | no other ↦ slot_after-set_other j k slot low' low other ∙ hold j low' ∙ sym (others j other)
+        | yes same ↦ rw (same, length-set slots place slot) (get_or-set_same slots place slot None (mod-lt (start + k) (omega arith)) ∙ sym here)
+        | no other ↦ rw (length-set slots place slot)
+            (get_or-set_other slots place ((start + j) % length slots) slot None (λ e. other (same_count start j k (length slots) within low' low e)) ∙ hold j low' ∙ sym (others j other))
       ]
 
   -- an item put after the last
   pub SlotsHold-put : (xs : List X) (x : X) → SlotsHold slots start xs → length xs < length slots
       → SlotsHold (set slots ((start + length xs) % length slots) (Some x)) start (xs ++ x ∷ [])
-  SlotsHold-put xs x hold room = SlotsHold-set xs (xs ++ x ∷ []) (length xs) (Some x) hold room (grind (arith, common_steps, slice_get_cases)) (λ j other. slice_get-push_other xs x j other)
+  SlotsHold-put xs x hold room = SlotsHold-set xs (xs ++ x ∷ []) (length xs) (Some x) hold room (grind (arith, common_steps, slice_get_cases)) (λ j other. grind (arith, common_steps, slice_get_cases))
 
   -- an item written
   pub SlotsHold-write : (xs : List X) (i : ℕ) (x : X) → SlotsHold slots start xs → i < length xs → length xs ≤ length slots
       → SlotsHold (set slots ((start + i) % length slots) (Some x)) start (set xs i x)
-  SlotsHold-write xs i x hold there fit = SlotsHold-set xs (set xs i x) i (Some x) hold (omega arith) (grind (arith, common_steps, slice_get_cases)) (λ j other. slice_get-set_other xs x i j other)
+  SlotsHold-write xs i x hold there fit = SlotsHold-set xs (set xs i x) i (Some x) hold (omega arith) (grind (arith, common_steps, slice_get_cases)) (λ j other. grind (arith, common_steps, slice_get_cases))
 
   -- the first item taken
   pub SlotsHold-take : (x : X) (xs : List X) → SlotsHold slots start (x ∷ xs) → length xs < length slots

@@ -64,7 +64,7 @@ impl<T: Drop, S: RingSlots<T>> Fixed<T, S> {
     pub fn push(&mut self, item: T, capacity: usize) -> Option<T>
         requires sound { IsSound S.seen S.is_size self.old }
         requires some { 0 < capacity }
-        requires within { self.old.len ≤ capacity }
+        requires within { length (view_of S.seen self.old).items ≤ capacity }
         requires room { capacity ≤ (view_of S.seen self.old).capacity }
         ensures value { result ≡ overwritten (Some capacity) (view_of S.seen self.old).items }
         ensures after { ChangesTo S.seen S.is_size self.old self.new
@@ -127,7 +127,7 @@ impl<T: Drop, S: RingSlots<T>> Fixed<T, S> {
             items }
         requires sound { IsSound S.seen S.is_size self.old }
         requires some { 0 < capacity }
-        requires within { self.old.len ≤ capacity }
+        requires within { length (view_of S.seen self.old).items ≤ capacity }
         requires room { capacity ≤ (view_of S.seen self.old).capacity }
         ensures { (it : I.IntoIter) × (xs : List T) × I.into_iter_gives items it
             × Drains I.IntoIter.next_gives it xs
@@ -202,10 +202,14 @@ impl<T: Drop, S: RingSlots<T>> Fixed<T, S> {
         requires { IsSound S.seen S.is_size self.old }
         ensures* writes_back { sem 𝓛
             (LendsIf (the_row T.row S.row) T.row self.entry result
-            (with_item S.seen S.with_slot self.old (place self.old.len index)) self.old) }
+            (with_item S.seen S.with_slot self.old
+            (place (length (view_of S.seen self.old).items) index)) self.old) }
         ensures value { option_copied_mut result
-            ≡ slice_get (view_of S.seen self.old).items (place self.old.len index) }
-        ensures within { IfSome result (λ _. place self.old.len index < self.old.len) }
+            ≡ slice_get (view_of S.seen self.old).items
+            (place (length (view_of S.seen self.old).items) index) }
+        ensures within { IfSome result
+            (λ _. place (length (view_of S.seen self.old).items) index
+            < length (view_of S.seen self.old).items) }
         ensures none { IsNone result ↔ ((view_of S.seen self.old).items ≡ []) }
     {
         let index = position(index, self.len)?;
@@ -218,11 +222,14 @@ impl<T: Drop, S: RingSlots<T>> Fixed<T, S> {
         requires { IsSound S.seen S.is_size self.old }
         ensures* writes_back { sem 𝓛
             (LendsIf (the_row T.row S.row) T.row self.entry result
-            (with_item S.seen S.with_slot self.old (signed_place self.old.len index))
-            self.old) }
+            (with_item S.seen S.with_slot self.old
+            (signed_place (length (view_of S.seen self.old).items) index)) self.old) }
         ensures value { option_copied_mut result
-            ≡ slice_get (view_of S.seen self.old).items (signed_place self.old.len index) }
-        ensures within { IfSome result (λ _. signed_place self.old.len index < self.old.len) }
+            ≡ slice_get (view_of S.seen self.old).items
+            (signed_place (length (view_of S.seen self.old).items) index) }
+        ensures within { IfSome result
+            (λ _. signed_place (length (view_of S.seen self.old).items) index
+            < length (view_of S.seen self.old).items) }
         ensures none { IsNone result ↔ ((view_of S.seen self.old).items ≡ []) }
     {
         let index = signed_position(index, self.len)?;
