@@ -198,13 +198,14 @@ fn items_may_be_references(rt: HostRuntime) -> Result<(), AllocError> {
         for number in numbers {
             assert!(rt; ring.push(number).is_ok());
         }
-        for (item, number) in RingBufferIterator::new(&ring).zip(numbers) {
-            assert_eq!(rt; **item, *number);
+        let mut walk = RingBufferIterator::new(&ring);
+        for number in numbers {
+            assert_eq!(rt; **walk.next().expect(rt, "an item to come"), *number);
         }
         let oldest = ring.dequeue().expect(rt, "an item");
         *ring.back_mut().expect(rt, "a newest item") = oldest;
-        assert_eq!(rt; ring.get(0).map(|item| **item), Some(2));
-        assert_eq!(rt; ring.get(1).map(|item| **item), Some(1));
+        assert_eq!(rt; **ring.get(0).expect(rt, "an item"), 2);
+        assert_eq!(rt; **ring.get(1).expect(rt, "an item"), 1);
     }
     let numbers = [1, 2, 3];
     on(&rt, ConstGenericRingBuffer::<&i64, 3>::new(), &numbers);
@@ -437,71 +438,159 @@ fn contains_finds_the_items_alone(rt: HostRuntime) -> Result<(), AllocError> {
     on_each::<8>(&rt, &Contains)
 }
 
-// No trait that the rings share has these calls, so the body is a macro. Each walk takes 1, 2 and 3.
-macro_rules! assert_walked {
-    ($rt:expr, $ring:expr) => {
-        let mut ring = $ring;
-        push_all($rt, &mut ring, &[0, 1, 2]);
-        let mut walk = ring.iter_mut();
-        for _ in 0..3 {
-            let item = walk.next().expect($rt, "an item to come");
-            *item = item.wrapping_add(1);
-        }
-        drop(walk);
-        assert!($rt; ring.iter().rev().copied().eq([3, 2, 1]));
-        assert!($rt; ring.drain().eq([1, 2, 3]));
-        push_all($rt, &mut ring, &[1, 2, 3]);
-        assert!($rt; ring.into_iter().eq([1, 2, 3]));
-    };
+/// A ring that makes its own walks. Each type has these calls, and no trait that the rings share has them.
+trait Walked: RingBuffer<i64> + Drop {
+    fn reader(&self) -> RingBufferIterator<'_, i64, Self>;
+
+    fn writer(&mut self) -> RingBufferMutIterator<'_, i64, Self>;
+
+    fn drainer(&mut self) -> RingBufferDrainingIterator<'_, i64, Self>;
+
+    fn taker(self) -> RingBufferIntoIterator<i64, Self>;
+
+    /// What a loop over a reference to the ring goes over.
+    fn lent(&self) -> RingBufferIterator<'_, i64, Self>;
+
+    /// What a loop over the ring goes over.
+    fn given(self) -> RingBufferIntoIterator<i64, Self>;
+}
+
+impl<const CAP: usize> Walked for ConstGenericRingBuffer<i64, CAP> {
+    fn reader(&self) -> RingBufferIterator<'_, i64, Self> {
+        self.iter()
+    }
+
+    fn writer(&mut self) -> RingBufferMutIterator<'_, i64, Self> {
+        self.iter_mut()
+    }
+
+    fn drainer(&mut self) -> RingBufferDrainingIterator<'_, i64, Self> {
+        self.drain()
+    }
+
+    fn taker(self) -> RingBufferIntoIterator<i64, Self> {
+        self.into_iter()
+    }
+
+    fn lent(&self) -> RingBufferIterator<'_, i64, Self> {
+        IntoIterator::into_iter(self)
+    }
+
+    fn given(self) -> RingBufferIntoIterator<i64, Self> {
+        IntoIterator::into_iter(self)
+    }
+}
+
+impl Walked for AllocRingBuffer<i64> {
+    fn reader(&self) -> RingBufferIterator<'_, i64, Self> {
+        self.iter()
+    }
+
+    fn writer(&mut self) -> RingBufferMutIterator<'_, i64, Self> {
+        self.iter_mut()
+    }
+
+    fn drainer(&mut self) -> RingBufferDrainingIterator<'_, i64, Self> {
+        self.drain()
+    }
+
+    fn taker(self) -> RingBufferIntoIterator<i64, Self> {
+        self.into_iter()
+    }
+
+    fn lent(&self) -> RingBufferIterator<'_, i64, Self> {
+        IntoIterator::into_iter(self)
+    }
+
+    fn given(self) -> RingBufferIntoIterator<i64, Self> {
+        IntoIterator::into_iter(self)
+    }
+}
+
+impl Walked for GrowableAllocRingBuffer<i64> {
+    fn reader(&self) -> RingBufferIterator<'_, i64, Self> {
+        self.iter()
+    }
+
+    fn writer(&mut self) -> RingBufferMutIterator<'_, i64, Self> {
+        self.iter_mut()
+    }
+
+    fn drainer(&mut self) -> RingBufferDrainingIterator<'_, i64, Self> {
+        self.drain()
+    }
+
+    fn taker(self) -> RingBufferIntoIterator<i64, Self> {
+        self.into_iter()
+    }
+
+    fn lent(&self) -> RingBufferIterator<'_, i64, Self> {
+        IntoIterator::into_iter(self)
+    }
+
+    fn given(self) -> RingBufferIntoIterator<i64, Self> {
+        IntoIterator::into_iter(self)
+    }
+}
+
+/// Each walk that the ring makes takes 1, 2 and 3.
+fn assert_walked<R: Walked>(rt: &impl Abort, mut ring: R) {
+    push_all(rt, &mut ring, &[0, 1, 2]);
+    let mut walk = ring.writer();
+    for _ in 0..3 {
+        let item = walk.next().expect(rt, "an item to come");
+        *item = item.wrapping_add(1);
+    }
+    drop(walk);
+    assert!(rt; ring.reader().rev().copied().eq([3, 2, 1]));
+    assert!(rt; ring.drainer().eq([1, 2, 3]));
+    push_all(rt, &mut ring, &[1, 2, 3]);
+    assert!(rt; ring.taker().eq([1, 2, 3]));
 }
 
 #[test]
 fn an_array_ring_makes_its_walks(rt: HostRuntime) {
-    assert_walked!(&rt, ConstGenericRingBuffer::<i64, 3>::new());
+    assert_walked(&rt, ConstGenericRingBuffer::<i64, 3>::new());
 }
 
 #[test]
 fn a_heap_ring_makes_its_walks(rt: HostRuntime) -> Result<(), AllocError> {
-    assert_walked!(&rt, AllocRingBuffer::new(rt.alloc(), 3)?);
+    assert_walked(&rt, AllocRingBuffer::new(rt.alloc(), 3)?);
     Ok(())
 }
 
 #[test]
-fn a_growable_ring_makes_its_walks(rt: HostRuntime) -> Result<(), AllocError> {
-    assert_walked!(&rt, GrowableAllocRingBuffer::new(rt.alloc()));
-    Ok(())
+fn a_growable_ring_makes_its_walks(rt: HostRuntime) {
+    assert_walked(&rt, GrowableAllocRingBuffer::new(rt.alloc()));
 }
 
-macro_rules! assert_looped {
-    ($rt:expr, $ring:expr) => {
-        let mut ring = $ring;
-        push_all($rt, &mut ring, &[1, 2, 3]);
-        let mut last = 0;
-        for item in &ring {
-            assert!($rt; last < *item);
-            last = *item;
-        }
-        assert_eq!($rt; last, 3);
-        for item in ring {
-            last = last.wrapping_sub(item);
-        }
-        assert_eq!($rt; last, -3);
-    };
+/// Loops over the ring, by reference and by value, go from 1 to 3.
+fn assert_looped<R: Walked>(rt: &impl Abort, mut ring: R) {
+    push_all(rt, &mut ring, &[1, 2, 3]);
+    let mut last = 0;
+    for item in ring.lent() {
+        assert!(rt; last < *item);
+        last = *item;
+    }
+    assert_eq!(rt; last, 3);
+    for item in ring.given() {
+        last = last.wrapping_sub(item);
+    }
+    assert_eq!(rt; last, -3);
 }
 
 #[test]
 fn loops_go_over_an_array_ring(rt: HostRuntime) {
-    assert_looped!(&rt, ConstGenericRingBuffer::<i64, 3>::new());
+    assert_looped(&rt, ConstGenericRingBuffer::<i64, 3>::new());
 }
 
 #[test]
 fn loops_go_over_a_heap_ring(rt: HostRuntime) -> Result<(), AllocError> {
-    assert_looped!(&rt, AllocRingBuffer::new(rt.alloc(), 3)?);
+    assert_looped(&rt, AllocRingBuffer::new(rt.alloc(), 3)?);
     Ok(())
 }
 
 #[test]
-fn loops_go_over_a_growable_ring(rt: HostRuntime) -> Result<(), AllocError> {
-    assert_looped!(&rt, GrowableAllocRingBuffer::new(rt.alloc()));
-    Ok(())
+fn loops_go_over_a_growable_ring(rt: HostRuntime) {
+    assert_looped(&rt, GrowableAllocRingBuffer::new(rt.alloc()));
 }
