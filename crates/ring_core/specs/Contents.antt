@@ -1,5 +1,5 @@
 -- What the contents of a ring are: a list, oldest item first, within a limit; and which place a position names.
-use Rattle.std.specs.Prelude.{◌≡◌, ℕ, ◌+◌, ◌-◌, ◌%◌, ◌<◌, ◌≤◌, List, [], ◌∷◌, length, take, drop, slice_get, ℤ, pos, negsuc, Option, None, Some}
+use Rattle.std.specs.Prelude.{◌≡◌, ℕ, ◌+◌, ◌-◌, ◌%◌, ◌<◌, ◌≤◌, List, length, take, drop, slice_get, ℤ, pos, negsuc, Option, None, Some}
 
 -- what a limit leaves of a list: its last items, at most so many
 abbrev pub keep_last : {A : Type 0} → Option ℕ → List A → List A

@@ -310,7 +310,8 @@ pub trait RingBuffer<T: Drop>: Sized {
     }
 
     // What a write at an index does to the contents.
-    ghost sets_item: { (s : Self) (i : ℕ) (x : T) → contents (with_item s i x) ≡ slice_set (contents s) i x };
+    ghost sets_item: { (s : Self) (i : ℕ) (x : T)
+        → contents (with_item s i x) ≡ slice_set (contents s) i x };
 
     // A write leaves the limit as it is.
     ghost keeps_limit: { (s : Self) (i : ℕ) (x : T) → limit (with_item s i x) ≡ limit s };

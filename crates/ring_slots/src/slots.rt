@@ -63,5 +63,6 @@ pub trait RingSlots<T: Drop>: Sized {
             (Lends Self.row T.row self.entry result (with_slot self.old place)) }
         ensures value { slot_at (seen self.old) place ≡ Some result.now };
 
-    ghost sees_write: { (s : Self) (place : ℕ) (x : T) → seen (with_slot s place x) ≡ changed (seen s) place (Some x) };
+    ghost sees_write: { (s : Self) (place : ℕ) (x : T)
+        → seen (with_slot s place x) ≡ changed (seen s) place (Some x) };
 }

@@ -39,7 +39,8 @@ impl<T, const CAP: usize> Model for ConstGenericRingBuffer<T, CAP> {
 
     ghost view = { λ r. record (view_of (λ s. s) r.ring) { capacity = CAP } };
 
-    ghost invariant = { λ r. IsSound (λ s. s) (λ _. Unit {0}) r.ring × ((view_of (λ s. s) r.ring).capacity ≡ CAP) };
+    ghost invariant = { λ r. IsSound (λ s. s) (λ _. Unit {0}) r.ring
+        × ((view_of (λ s. s) r.ring).capacity ≡ CAP) };
 }
 
 impl<T: Drop, const CAP: usize> ConstGenericRingBuffer<T, CAP> {
@@ -234,7 +235,9 @@ impl<T: Drop, const CAP: usize> IntoIterator for ConstGenericRingBuffer<T, CAP> 
 
     type IntoIter = RingBufferIntoIterator<T, ConstGenericRingBuffer<T, CAP>>;
 
-    ghost into_iter_gives = { λ ring r. into_iter_to_come ⟦<ConstGenericRingBuffer<T, CAP> as RingBuffer<T>>⟧.contents r ≡ ring.items };
+    ghost into_iter_gives = { λ ring r.
+        into_iter_to_come ⟦<ConstGenericRingBuffer<T, CAP> as RingBuffer<T>>⟧.contents r
+        ≡ ring.items };
 
     #[inline]
     fn into_iter(self) -> RingBufferIntoIterator<T, ConstGenericRingBuffer<T, CAP>> {
@@ -247,7 +250,10 @@ impl<'a, T: Drop, const CAP: usize> IntoIterator for &'a ConstGenericRingBuffer<
 
     type IntoIter = RingBufferIterator<'a, T, ConstGenericRingBuffer<T, CAP>>;
 
-    ghost into_iter_gives = { λ ring r. (iterator_to_come ⟦<ConstGenericRingBuffer<T, CAP> as RingBuffer<T>>⟧.contents r ≡ ring.now.items) × ReadsInOrder ⟦<ConstGenericRingBuffer<T, CAP> as RingBuffer<T>>⟧.contents };
+    ghost into_iter_gives = { λ ring r.
+        (iterator_to_come ⟦<ConstGenericRingBuffer<T, CAP> as RingBuffer<T>>⟧.contents r
+        ≡ ring.now.items)
+        × ReadsInOrder ⟦<ConstGenericRingBuffer<T, CAP> as RingBuffer<T>>⟧.contents };
 
     #[inline]
     fn into_iter(self) -> RingBufferIterator<'a, T, ConstGenericRingBuffer<T, CAP>> {

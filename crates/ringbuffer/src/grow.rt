@@ -213,7 +213,9 @@ impl<T: Drop> IntoIterator for GrowableAllocRingBuffer<T> {
 
     type IntoIter = RingBufferIntoIterator<T, GrowableAllocRingBuffer<T>>;
 
-    ghost into_iter_gives = { λ ring r. into_iter_to_come ⟦<GrowableAllocRingBuffer<T> as RingBuffer<T>>⟧.contents r ≡ ring };
+    ghost into_iter_gives = { λ ring r.
+        into_iter_to_come ⟦<GrowableAllocRingBuffer<T> as RingBuffer<T>>⟧.contents r
+        ≡ ring };
 
     #[inline]
     fn into_iter(self) -> RingBufferIntoIterator<T, GrowableAllocRingBuffer<T>> {
@@ -226,7 +228,10 @@ impl<'a, T: Drop> IntoIterator for &'a GrowableAllocRingBuffer<T> {
 
     type IntoIter = RingBufferIterator<'a, T, GrowableAllocRingBuffer<T>>;
 
-    ghost into_iter_gives = { λ ring r. (iterator_to_come ⟦<GrowableAllocRingBuffer<T> as RingBuffer<T>>⟧.contents r ≡ ring.now) × ReadsInOrder ⟦<GrowableAllocRingBuffer<T> as RingBuffer<T>>⟧.contents };
+    ghost into_iter_gives = { λ ring r.
+        (iterator_to_come ⟦<GrowableAllocRingBuffer<T> as RingBuffer<T>>⟧.contents r
+        ≡ ring.now)
+        × ReadsInOrder ⟦<GrowableAllocRingBuffer<T> as RingBuffer<T>>⟧.contents };
 
     #[inline]
     fn into_iter(self) -> RingBufferIterator<'a, T, GrowableAllocRingBuffer<T>> {

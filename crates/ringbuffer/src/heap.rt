@@ -45,7 +45,10 @@ impl<T> Model for AllocRingBuffer<T> {
 
     ghost view = { λ r. record (view_of (λ s. s) r.ring) { capacity = r.capacity } };
 
-    ghost invariant = { λ r. IsSound (λ s. s) IsPowerOfTwo r.ring × (0 < r.capacity) × (length (view_of (λ s. s) r.ring).items ≤ r.capacity) × IsNextPowerOfTwo r.capacity (view_of (λ s. s) r.ring).capacity };
+    ghost invariant = { λ r. IsSound (λ s. s) IsPowerOfTwo r.ring
+        × (0 < r.capacity)
+        × (length (view_of (λ s. s) r.ring).items ≤ r.capacity)
+        × IsNextPowerOfTwo r.capacity (view_of (λ s. s) r.ring).capacity };
 }
 
 impl<T: Drop> AllocRingBuffer<T> {
@@ -297,7 +300,9 @@ impl<T: Drop> IntoIterator for AllocRingBuffer<T> {
 
     type IntoIter = RingBufferIntoIterator<T, AllocRingBuffer<T>>;
 
-    ghost into_iter_gives = { λ ring r. into_iter_to_come ⟦<AllocRingBuffer<T> as RingBuffer<T>>⟧.contents r ≡ ring.items };
+    ghost into_iter_gives = { λ ring r.
+        into_iter_to_come ⟦<AllocRingBuffer<T> as RingBuffer<T>>⟧.contents r
+        ≡ ring.items };
 
     #[inline]
     fn into_iter(self) -> RingBufferIntoIterator<T, AllocRingBuffer<T>> {
@@ -310,7 +315,10 @@ impl<'a, T: Drop> IntoIterator for &'a AllocRingBuffer<T> {
 
     type IntoIter = RingBufferIterator<'a, T, AllocRingBuffer<T>>;
 
-    ghost into_iter_gives = { λ ring r. (iterator_to_come ⟦<AllocRingBuffer<T> as RingBuffer<T>>⟧.contents r ≡ ring.now.items) × ReadsInOrder ⟦<AllocRingBuffer<T> as RingBuffer<T>>⟧.contents };
+    ghost into_iter_gives = { λ ring r.
+        (iterator_to_come ⟦<AllocRingBuffer<T> as RingBuffer<T>>⟧.contents r
+        ≡ ring.now.items)
+        × ReadsInOrder ⟦<AllocRingBuffer<T> as RingBuffer<T>>⟧.contents };
 
     #[inline]
     fn into_iter(self) -> RingBufferIterator<'a, T, AllocRingBuffer<T>> {
@@ -338,7 +346,9 @@ impl<T: Clone + Drop> AllocRingBuffer<T> {
 impl<T: PartialEq + Drop> PartialEq for AllocRingBuffer<T> {
     ghost eq = { λ a b. nat_eq a.capacity b.capacity && pointwise T.eq a.items b.items };
 
-    ghost laws = { and_per (on_per (λ ring. ring.capacity) (partial_equiv_from_equiv nat_eq_equiv)) (on_per (λ ring. ring.items) (lists_per T.laws)) };
+    ghost laws = { and_per
+        (on_per (λ ring. ring.capacity) (partial_equiv_from_equiv nat_eq_equiv))
+        (on_per (λ ring. ring.items) (lists_per T.laws)) };
 
     fn eq(&self, other: &Self) -> bool {
         self.capacity == other.capacity && same_items(self, other)
@@ -346,5 +356,7 @@ impl<T: PartialEq + Drop> PartialEq for AllocRingBuffer<T> {
 }
 
 impl<T: Eq + Drop> Eq for AllocRingBuffer<T> {
-    ghost laws = { and_equiv (on_equiv (λ ring. ring.capacity) nat_eq_equiv) (on_equiv (λ ring. ring.items) (lists_equiv T.Eq.laws)) };
+    ghost laws = { and_equiv
+        (on_equiv (λ ring. ring.capacity) nat_eq_equiv)
+        (on_equiv (λ ring. ring.items) (lists_equiv T.Eq.laws)) };
 }
