@@ -100,7 +100,7 @@ pub trait RingBuffer<T: Drop>: Sized {
         self.push(item)
     }
 
-    /// Pushes the items of a source that ends, in order.
+    /// Pushes the items of a source that ends, in order. What they overwrite is dropped.
     ///
     /// # Errors
     ///
