@@ -1,10 +1,10 @@
 -- What follows of a limit on a list.
-use Rattle.std.specs.Prelude.{◌≡◌, ℕ, zero, suc, ◌+◌, ◌-◌, ◌<◌, List, [], ◌∷◌, ◌++◌, length, map, drop, Option, None, Some, IfSome, refl, slice_set, negsuc}
+use Rattle.std.specs.Prelude.{◌≡◌, ℕ, zero, suc, ◌+◌, ◌-◌, ◌<◌, List, [], ◌∷◌, ◌++◌, length, map, drop, Option, None, Some, IfSome, refl, slice_set, negsuc, ◌≤◌, take, slice_get, option_to_list}
 use Rattle.std.proofs.Common.{◌∙◌, ap, sym, arith, length-append, length-drop}
 use Rattle.std.proofs.Math.Nat.{zero-mod}
 use Rattle.std.proofs.Math.Seq.{set-append_seam}
 use Rattle.std.proofs.lemmas.List.{drop-append-le, drop-drop, drop-map, drop_all, length-map}
-use Rattle.ring_core.specs.Contents.{IsWithin, keep_last, signed_place}
+use Rattle.ring_core.specs.Contents.{IsWithin, keep_last, overwritten, signed_place}
 
 -- a list within its limit loses nothing
 pub keep_last_within : {A : Type 0} (limit : Option ℕ) (xs : List A) → IsWithin xs limit → keep_last limit xs ≡ xs
@@ -48,3 +48,15 @@ newest_replaced limit xs now x y pushed some =
     let above : IfSome limit (λ n. 0 < n) = above_zero limit (xs ++ x ∷ []) (λ none. some (pushed ∙ none)) in
     let (before, ends) = keep_last_before limit xs above in
     rw (pushed, ends x, signed_place-newest before x, ends y) (set-append_seam before x [] y)
+
+-- what a push overwrites and what it leaves are the items and one more: with room nothing is overwritten, and else the first is
+pub overwritten-keep_last : {A : Type 0} (limit : Option ℕ) (xs : List A) (x : A) → IsWithin xs limit
+    → option_to_list (overwritten limit xs) ++ keep_last limit (xs ++ x ∷ []) ≡ xs ++ x ∷ []
+overwritten-keep_last None xs x within = refl
+overwritten-keep_last {A} (Some n) xs x within = rw (length-append xs (x ∷ [])) (split (length xs + 1 - n) xs (omega arith) (omega arith)) where
+  -- one item at most, and there is one
+  split : (k : ℕ) (ys : List A) → k ≤ 1 → k ≤ length ys → option_to_list (slice_get (take k ys) 0) ++ drop k (ys ++ x ∷ []) ≡ ys ++ x ∷ []
+  split zero ys one some = refl
+  split (suc zero) (y ∷ ys) one some = refl
+  split (suc zero) [] one some = absurd (omega arith)
+  split (suc (suc k)) ys one some = absurd (omega arith)

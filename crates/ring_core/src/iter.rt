@@ -57,12 +57,8 @@ impl<'rb, T: Drop, RB: RingBuffer<T>> Iterator for RingBufferIterator<'rb, T, RB
             (at_most (length (iterator_to_come RB.contents self.now))) }
         ensures upper { IfSome result.1
             (UpTo (at_most (length (iterator_to_come RB.contents self.now)))) }
-        ensures exact { result
-            ≡ (
-              length (iterator_to_come RB.contents self.now),
-              Some
-                  (length (iterator_to_come RB.contents self.now)),
-            ) }
+        ensures exact { let left = length (iterator_to_come RB.contents self.now) in
+            result ≡ (left, Some left) }
     {
         let left = self.len();
         (left, Some(left))
@@ -151,11 +147,8 @@ impl<'rb, T: Drop, RB: RingBuffer<T>> RingBufferMutIterator<'rb, T, RB> {
 
     /// How many items are still to come, as both bounds.
     pub fn size_hint(&self) -> (usize, Option<usize>)
-        ensures { result ≡ (
-          length (cursor_to_come RB.contents self.now),
-          Some
-              (length (cursor_to_come RB.contents self.now)),
-        ) }
+        ensures { let left = length (cursor_to_come RB.contents self.now) in
+            result ≡ (left, Some left) }
     {
         let left = self.back.min(self.ring.len()).saturating_sub(self.front);
         (left, Some(left))
@@ -198,12 +191,8 @@ impl<'rb, T: Drop, RB: RingBuffer<T>> Iterator for RingBufferDrainingIterator<'r
             (at_most (length (drain_to_come RB.contents self.now))) }
         ensures upper { IfSome result.1
             (UpTo (at_most (length (drain_to_come RB.contents self.now)))) }
-        ensures exact { result
-            ≡ (
-              length (drain_to_come RB.contents self.now),
-              Some
-                  (length (drain_to_come RB.contents self.now)),
-            ) }
+        ensures exact { let left = length (drain_to_come RB.contents self.now) in
+            result ≡ (left, Some left) }
     {
         let left = self.ring.len();
         (left, Some(left))
@@ -245,12 +234,8 @@ impl<T: Drop, RB: RingBuffer<T> + Drop> Iterator for RingBufferIntoIterator<T, R
             (at_most (length (into_iter_to_come RB.contents self.now))) }
         ensures upper { IfSome result.1
             (UpTo (at_most (length (into_iter_to_come RB.contents self.now)))) }
-        ensures exact { result
-            ≡ (
-              length (into_iter_to_come RB.contents self.now),
-              Some
-                  (length (into_iter_to_come RB.contents self.now)),
-            ) }
+        ensures exact { let left = length (into_iter_to_come RB.contents self.now) in
+            result ≡ (left, Some left) }
     {
         let left = self.ring.len();
         (left, Some(left))

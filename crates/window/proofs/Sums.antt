@@ -1,11 +1,12 @@
 -- Sums of lists, and how a push and a dequeue change them.
-use Rattle.std.proofs.Common.{◌≡◌, ℕ, suc, zero, ◌+◌, ◌-◌, ◌*◌, ◌^◌, ◌<◌, ◌≤◌, ℤ, pos, ◌+ℤ◌, ◌-ℤ◌, ◌≤ℤ◌, neg_ℤ, List, [], ◌∷◌, ◌++◌, length, take, drop, All, Option, None, Some, option_to_list, slice_get, refl, ap, sym, arith, length-append, fold}
+use Rattle.std.proofs.Common.{◌≡◌, ℕ, ◌*◌, ◌^◌, ◌<◌, ◌≤◌, ℤ, pos, ◌+ℤ◌, ◌-ℤ◌, ◌≤ℤ◌, neg_ℤ, List, [], ◌∷◌, ◌++◌, length, drop, All, Option, None, Some, option_to_list, slice_get, refl, ap, sym, arith, length-append, fold}
 use Rattle.std.specs.Prelude.{FitsSigned}
 use Rattle.std.specs.Int.{w64, w128}
 use Rattle.std.proofs.lemmas.Int.{ints}
 use Rattle.std.proofs.lemmas.List.Elements.{All-head, All-push, All-tail}
 use Rattle.std.proofs.lemmas.List.Sums.{fold_push}
 use Rattle.ringbuffer.specs.Contents.{IsWithin, keep_last, overwritten}
+use Rattle.ringbuffer.proofs.Limits.{overwritten-keep_last}
 use Rattle.window.specs.Window.{IsSumOf, total}
 
 -- By induction on the list: a sum that begins at a number is that much more.
@@ -54,18 +55,6 @@ IsSumOf-rest {xs} {sum} {x} is takes = record {
 IsSumOf-behind : {xs : List ℤ} {sum less : ℤ} (front : Option ℤ) → IsSumOf (option_to_list front ++ xs) sum → less ≡ sum -ℤ total (option_to_list front) → IsSumOf xs less
 IsSumOf-behind None is takes = record { summed = omega (arith, ints, takes, is.summed); in_range = is.in_range }
 IsSumOf-behind (Some x) is takes = IsSumOf-rest is (omega (arith, ints, takes))
-
--- By the limit: with room for one more nothing is overwritten and nothing lost, and else the first is both.
-overwritten-keep_last : {A : Type 0} (limit : Option ℕ) (xs : List A) (x : A) → IsWithin xs limit
-    → option_to_list (overwritten limit xs) ++ keep_last limit (xs ++ x ∷ []) ≡ xs ++ x ∷ []
-overwritten-keep_last None xs x within = refl
-overwritten-keep_last {A} (Some n) xs x within = rw (length-append xs (x ∷ [])) (split (length xs + 1 - n) xs (omega arith) (omega arith)) where
-  -- one item at most, and there is one
-  split : (k : ℕ) (ys : List A) → k ≤ 1 → k ≤ length ys → option_to_list (slice_get (take k ys) 0) ++ drop k (ys ++ x ∷ []) ≡ ys ++ x ∷ []
-  split zero ys one some = refl
-  split (suc zero) (y ∷ ys) one some = refl
-  split (suc zero) [] one some = absurd (omega arith)
-  split (suc (suc k)) ys one some = absurd (omega arith)
 
 -- A list with a first item is that item and the rest.
 first-rest : {A : Type 0} (xs : List A) (x : A) → Some x ≡ slice_get xs 0 → xs ≡ x ∷ drop 1 xs
