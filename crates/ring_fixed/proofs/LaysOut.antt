@@ -1,10 +1,10 @@
 -- What the inner steps of a ring do to what it shows.
-use Rattle.std.proofs.Common.{◌≡◌, ℕ, suc, ◌+◌, ◌-◌, ◌%◌, ◌<◌, ◌≤◌, List, [], ◌∷◌, ◌++◌, drop, length, Option, None, Some, refl, sym, ap, ◌∙◌, arith, get_or, replicate, length-set, length-append}
+use Rattle.std.proofs.Common.{◌≡◌, ℕ, suc, ◌+◌, ◌-◌, ◌%◌, ◌<◌, ◌≤◌, List, [], ◌∷◌, ◌++◌, drop, length, Option, None, Some, refl, sym, ap, ◌∙◌, arith, get_or, replicate, ext_get_or, length-set, length-append}
 use Rattle.std.specs.Prelude.{slice_get, min, IsSome}
 use Rattle.std.proofs.Math.ListN.{set}
 use Rattle.std.proofs.Math.Nat.{mod-eq_of_lt, mod-lt}
 use Rattle.std.proofs.lemmas.Grind.{common_steps}
-use Rattle.std.proofs.lemmas.List.{get_or-replicate}
+use Rattle.std.proofs.lemmas.List.{get_or-replicate, length-replicate}
 use Rattle.std.proofs.lemmas.Option.{slice_get_cases, slice_get_past}
 use Rattle.ring_slots.specs.Slots.{Slots, slot_at, IsEmptyAt, IsFullAt, changed}
 use Rattle.ring_fixed.specs.View.{View, after_put, after_take, after_write}
@@ -53,7 +53,7 @@ module _ {X : Type 0} {P : ℕ → Type 0} (s : Slots X) (start : ℕ) (laid_out
       rw (is, found, counted)
       (LaysOut-items (changed s ((start + length items) % length s.slots) (Some x)) start (items ++ x ∷ []) (length-set s.slots _ (Some x)) laid_out.start_within (omega (arith, length-append items (x ∷ []))) lie)
 
-  -- an item is after_write
+  -- an item is written
   pub LaysOut-write : (k : ℕ) (x : X) → k < length (items_from s.slots start)
       → LaysOut P s (changed s ((start + k) % length s.slots) (Some x)) start (after_write (view_from s start) k x)
   LaysOut-write k x there =
@@ -109,3 +109,11 @@ restart old new start v b none =
     let within : start < length new.slots = laid_out.start_within in
     let again = LaysOut-items new start laid_out new 0 [] refl (omega arith) (omega arith) (SlotsHold-none new.slots start within lie 0) in
     record { laid_out = again.laid_out; same_size = b.same_size; shows = again.shows ∙ ap (λ items. record { items = items; changes = new.changes; capacity = length new.slots }) (sym nothing) ∙ b.shows }
+
+-- where a ring shows no item, every slot is empty
+pub all_empty : {X : Type 0} {P : ℕ → Type 0} (s : Slots X) (start : ℕ) → IsLaidOut P s start → items_from s.slots start ≡ [] → s.slots ≡ replicate (length s.slots) None
+all_empty s start laid_out none =
+    let size = length s.slots in
+    let first = SlotsHold-none s.slots start laid_out.start_within (rw none at laid_out.layout) 0 in
+    ext_get_or None s.slots (replicate size None) (sym (length-replicate size None)) λ k low.
+    ap (λ place. get_or s.slots place None) {x = k} {y = (0 + k) % size} (sym (ap (λ n. n % size) {x = 0 + k} {y = k} (omega arith) ∙ mod-eq_of_lt low)) ∙ first k low ∙ sym (get_or-replicate size k None None low)

@@ -1,6 +1,9 @@
+pub mod DroppedRun
+pub mod Ends
 pub mod LaysOut
 pub mod LentItem
 pub mod PutOver
 pub mod RepeatedSteps
+pub mod Runs
 pub mod SlotsHold
 pub mod SomesTaken

@@ -1,28 +1,65 @@
 -- What steps repeated come to.
-use Rattle.std.proofs.Common.{◌≡◌, ℕ, ◌+◌, ◌<◌, List, [], ◌∷◌, ◌++◌, length, drop, refl, arith, append_assoc, length-append, length-drop}
+use Rattle.std.proofs.Common.{◌≡◌, ℕ, ◌+◌, ◌-◌, ◌<◌, ◌≤◌, List, Some, ap, ◌∙◌, [], ◌∷◌, ◌++◌, length, drop, refl, arith, append_assoc, append-nil, length-append, length-drop}
 use Rattle.std.specs.Prelude.{min}
 use Rattle.std.proofs.Math.Seq.{drop-length}
 use Rattle.std.proofs.lemmas.List.{drop-drop}
-use Rattle.ring_fixed.specs.View.{View, after_put, after_take, after_clear}
+use Rattle.ring_fixed.specs.View.{View, after_put, after_puts, after_take, after_takes, after_clear, after_push, after_extend}
+use Rattle.ring_core.specs.Contents.{keep_last}
+use Rattle.ring_core.proofs.Limits.{keep_last-keep_last}
 
 module _ {X : Type 0} where
-  -- so many items taken
-  abbrev pub after_takes : ℕ → View X → View X
-  after_takes k v = record v { items = drop k v.items; changes = v.changes + k }
-
   pub after_takes-more : (k : ℕ) (v : View X) → k < length v.items → after_take (after_takes k v) ≡ after_takes (k + 1) v
   after_takes-more k v more =
       let one : v.changes + k + min (length (drop k v.items)) 1 ≡ v.changes + (k + 1) = omega (arith, length-drop k v.items) in
       rw (drop-drop, one) refl
 
+  pub after_takes-then : (j k : ℕ) (v : View X) → after_takes k (after_takes j v) ≡ after_takes (j + k) v
+  after_takes-then j k v = let one : v.changes + j + k ≡ v.changes + (j + k) = omega arith in rw (drop-drop, one) refl
+
   pub after_takes-all : (k : ℕ) (v : View X) → k ≡ length v.items → after_takes k v ≡ after_clear v
   after_takes-all k v all = rw (all, drop-length v.items) refl
 
-  -- items put last in order
-  abbrev pub after_puts : List X → View X → View X
-  after_puts xs v = record v { items = v.items ++ xs; changes = v.changes + length xs }
+  pub after_puts-then : (xs ys : List X) (v : View X) → after_puts ys (after_puts xs v) ≡ after_puts (xs ++ ys) v
+  after_puts-then xs ys v =
+      let sum : v.changes + length xs + length ys ≡ v.changes + length (xs ++ ys) = omega (arith, length-append xs ys) in
+      rw (append_assoc v.items xs ys, sum) refl
 
   pub after_puts-more : (xs : List X) (x : X) (v : View X) → after_put (after_puts xs v) x ≡ after_puts (xs ++ x ∷ []) v
-  after_puts-more xs x v =
-      let one : v.changes + length xs + 1 ≡ v.changes + length (xs ++ x ∷ []) = omega (arith, length-append xs (x ∷ [])) in
-      rw (append_assoc v.items xs (x ∷ []), one) refl
+  after_puts-more xs x v = after_puts-then xs (x ∷ []) v
+
+  -- a push where there is room, and one where there is none
+  pub after_push-room : (capacity : ℕ) (v : View X) (x : X) → length v.items < capacity → after_push capacity v x ≡ after_put v x
+  after_push-room capacity v x room =
+      let none : length (v.items ++ x ∷ []) - capacity ≡ 0 = omega (arith, length-append v.items (x ∷ [])) in
+      let one : v.changes + 1 + (length v.items + 1 - capacity) ≡ v.changes + 1 = omega arith in
+      rw (none, one) refl
+
+  first_dropped : (xs : List X) (x : X) → 0 < length xs → drop 1 (xs ++ x ∷ []) ≡ drop 1 xs ++ x ∷ []
+  first_dropped [] x some = absurd (omega arith)
+  first_dropped (y ∷ ys) x some = refl
+
+  pub after_push-full : (capacity : ℕ) (v : View X) (x : X) → length v.items ≡ capacity → 0 < capacity → after_push capacity v x ≡ after_put (after_take v) x
+  after_push-full capacity v x full some =
+      let one : length (v.items ++ x ∷ []) - capacity ≡ 1 = omega (arith, length-append v.items (x ∷ [])) in
+      let twice : v.changes + 1 + (length v.items + 1 - capacity) ≡ v.changes + min (length v.items) 1 + 1 = omega arith in
+      rw (one, twice, first_dropped v.items x (omega arith)) refl
+
+  pub after_push-within : (capacity : ℕ) (v : View X) (x : X) → length (after_push capacity v x).items ≤ capacity
+  after_push-within capacity v x = omega (arith, length-drop (length (v.items ++ x ∷ []) - capacity) (v.items ++ x ∷ []))
+
+  -- an extension by nothing
+  pub after_extend-none : (capacity : ℕ) (v : View X) → length v.items ≤ capacity → v ≡ after_extend capacity v []
+  after_extend-none capacity v fits =
+      let none_over : length (v.items ++ []) - capacity ≡ 0 = omega (arith, length-append v.items []) in
+      let same : v.changes + 0 + (length v.items + 0 - capacity) ≡ v.changes = omega arith in
+      rw (none_over, append-nil v.items, same) refl
+
+  -- an extension by one item more
+  pub after_extend-more : (capacity : ℕ) (v : View X) (ys : List X) (y : X) → after_push capacity (after_extend capacity v ys) y ≡ after_extend capacity v (ys ++ y ∷ [])
+  after_extend-more capacity v ys y =
+      let all = v.items ++ ys in
+      let items : keep_last (Some capacity) (keep_last (Some capacity) all ++ y ∷ []) ≡ keep_last (Some capacity) (v.items ++ (ys ++ y ∷ [])) =
+      keep_last-keep_last (Some capacity) all (y ∷ []) ∙ ap (keep_last (Some capacity)) (append_assoc v.items ys (y ∷ [])) in
+      let changes : (after_push capacity (after_extend capacity v ys) y).changes ≡ (after_extend capacity v (ys ++ y ∷ [])).changes =
+      omega (arith, length-drop (length all - capacity) all, length-append v.items ys, length-append ys (y ∷ [])) in
+      λ i. record { items = items i; changes = changes i; capacity = v.capacity }

@@ -10,7 +10,7 @@ use Rattle.std.specs.List.{filter_map, range_with_len}
 use Rattle.ring_fixed.specs.Layout.{slot_after, SlotsHold, items_from}
 
 -- a place counted round is the sum, less the size where the sum reaches it
-wrap : (start k size : ℕ) → start < size → k ≤ size → ((start + k < size) × ((start + k) % size ≡ start + k)) ⊎ ((size ≤ start + k) × ((start + k) % size ≡ start + k - size))
+pub wrap : (start k size : ℕ) → start < size → k ≤ size → ((start + k < size) × ((start + k) % size ≡ start + k)) ⊎ ((size ≤ start + k) × ((start + k) % size ≡ start + k - size))
 wrap start k size within low =
     elim (dec_lt (start + k) size) [
       | yes below ↦ inl (below, mod-eq_of_lt below)

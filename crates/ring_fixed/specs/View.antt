@@ -13,6 +13,10 @@ module _ {X : Type 0} where
   abbrev pub after_put : View X → X → View X
   after_put v x = record v { items = v.items ++ x ∷ []; changes = v.changes + 1 }
 
+  -- items put last in order
+  abbrev pub after_puts : List X → View X → View X
+  after_puts xs v = record v { items = v.items ++ xs; changes = v.changes + length xs }
+
   -- the first item taken, if there is one, which changes its slot
   abbrev pub after_take : View X → View X
   after_take v = record v { items = drop 1 v.items; changes = v.changes + min (length v.items) 1 }
@@ -26,6 +30,10 @@ module _ {X : Type 0} where
   abbrev pub after_extend : ℕ → View X → List X → View X
   after_extend limit v xs =
       record v { items = keep_last (Some limit) (v.items ++ xs); changes = v.changes + length xs + (length v.items + length xs - limit) }
+
+  -- so many items taken, from the first on, each of which changes its slot
+  abbrev pub after_takes : ℕ → View X → View X
+  after_takes k v = record v { items = drop k v.items; changes = v.changes + k }
 
   -- all items taken
   abbrev pub after_clear : View X → View X

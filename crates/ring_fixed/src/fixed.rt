@@ -1,11 +1,9 @@
 //! What the two rings of a fixed capacity share: items that lie in slots, counted round from a start.
 ghost use Rattle.std.specs.Prelude.{◌≡◌, ◌+◌, ◌%◌, ◌<◌, ◌≤◌, ◌↔◌, List, [], length, IfSome, IsNone, None, Some, replicate, slice_get};
 ghost use Rattle.std.specs.Borrow.{Lends, LendsIf, sem};
-ghost use Rattle.std.specs.Iterator.{Drains, IsFiniteIterable};
-ghost use Rattle.std.specs.List.{FoldsTo};
 ghost use Rattle.std.specs.Option.{option_copied, option_copied_mut};
 ghost use Rattle.ring_core.specs.Contents.{overwritten, place, signed_place};
-ghost use Rattle.ring_fixed.specs.View.{after_put, after_take, after_push, after_extend, after_clear, after_fill};
+ghost use Rattle.ring_fixed.specs.View.{after_put, after_take, after_push};
 ghost use Rattle.ring_fixed.specs.Layout.{IsLaidOut, LaysOut, view_from};
 
 use crate::position::{position, signed_position};
@@ -15,9 +13,9 @@ use std::marker::PhantomData;
 /// `len` items in the slots from `start` on. All other slots are empty.
 #[derive(Drop)]
 pub struct Fixed<T, S> {
-    slots: S,
-    start: usize,
-    len: usize,
+    pub(crate) slots: S,
+    pub(crate) start: usize,
+    pub(crate) len: usize,
     item: PhantomData<T>,
 }
 
@@ -40,6 +38,21 @@ impl<T: Drop, S: RingSlots<T>> Fixed<T, S> {
             len: 0,
             item: PhantomData,
         }
+    }
+
+    /// Drops all items, and gives the slots, which are all empty then.
+    pub fn into_slots(mut self) -> S
+        requires { IsSound S.seen S.is_size self }
+        ensures { (S.seen result).slots ≡ replicate (length (S.seen result).slots) None }
+    {
+        self.clear();
+        let Fixed {
+            slots,
+            start: _,
+            len: _,
+            item: _,
+        } = self;
+        slots
     }
 
     /// How many items the ring holds.
@@ -102,64 +115,6 @@ impl<T: Drop, S: RingSlots<T>> Fixed<T, S> {
         self.start = start;
         self.len = len - 1;
         Some(item)
-    }
-
-    /// Drops all items.
-    pub fn clear(&mut self)
-        requires { IsSound S.seen S.is_size self.old }
-        ensures { ChangesTo S.seen S.is_size self.old self.new
-            (after_clear (view_of S.seen self.old)) }
-    {
-        let mut start = self.start;
-        for _ in 0..self.len {
-            let (next, _) = Self::take_from(&mut self.slots, start);
-            start = next;
-        }
-        self.start = 0;
-        self.len = 0;
-    }
-
-    /// Pushes the items of a source that ends, in order.
-    pub fn extend<I: IntoIterator<Item = T>>(&mut self, items: I, capacity: usize)
-    where
-        I::IntoIter: Drop,
-        requires ends { IsFiniteIterable I.into_iter_gives I.IntoIter.can_next I.IntoIter.remaining
-            items }
-        requires sound { IsSound S.seen S.is_size self.old }
-        requires some { 0 < capacity }
-        requires within { length (view_of S.seen self.old).items ≤ capacity }
-        requires room { capacity ≤ (view_of S.seen self.old).capacity }
-        ensures { (it : I.IntoIter) × (xs : List T) × I.into_iter_gives items it
-            × Drains I.IntoIter.next_gives it xs
-            × ChangesTo S.seen S.is_size self.old self.new
-            (after_extend capacity (view_of S.seen self.old) xs) }
-    {
-        let mut start = self.start;
-        let mut len = self.len;
-        for item in items {
-            let old;
-            (start, len, old) = Self::push_from(&mut self.slots, start, len, item, capacity);
-            drop(old);
-        }
-        self.start = start;
-        self.len = len;
-    }
-
-    /// Drops all items, and pushes as many answers of `make` as the capacity says. An item counts once it is stored.
-    pub fn fill_with<F: FnMut() -> T + Drop>(&mut self, mut make: F, capacity: usize)
-        requires callable { F.IsAlwaysCallable make }
-        requires sound { IsSound S.seen S.is_size self.old }
-        requires room { capacity ≤ (view_of S.seen self.old).capacity }
-        ensures { (xs : List T) × (last : F) × FoldsTo F.step make xs last × (length xs ≡ capacity)
-            × ChangesTo S.seen S.is_size self.old self.new
-            (after_fill (view_of S.seen self.old) xs) }
-    {
-        self.clear();
-        let start = self.start;
-        for len in 0..capacity {
-            Self::put_after(&mut self.slots, start, len, make());
-        }
-        self.len = capacity;
     }
 
     /// The item at a position, or `None` if there is no item.
@@ -252,7 +207,7 @@ impl<T: Drop, S: RingSlots<T>> Fixed<T, S> {
 
     // Pushes an item onto `len` items. Returns the start and the length after it, and the item that gave way.
     #[inline]
-    fn push_from(
+    pub(crate) fn push_from(
         slots: &mut S,
         start: usize,
         len: usize,
@@ -311,7 +266,7 @@ impl<T: Drop, S: RingSlots<T>> Fixed<T, S> {
 
     // Takes the first item, and answers the next start before it.
     #[inline]
-    fn take_from(slots: &mut S, start: usize) -> (usize, T)
+    pub(crate) fn take_from(slots: &mut S, start: usize) -> (usize, T)
         requires laid_out { IsLaidOut S.is_size (S.seen slots.old) start }
         requires some { 0 < length (view_from (S.seen slots.old) start).items }
         ensures value { slice_get (view_from (S.seen slots.old) start).items 0 ≡ Some result.1 }

@@ -1,114 +1,98 @@
--- Heap slots are taken apart into their row, the right to free its block and their fields, and are made of these again.
-use Rattle.ring_slots.proofs.Walk.{◌≡◌, refl, sym, ap, subst, ◌∙◌, List, [], ◌∷◌, ℕ, ◌+◌, ◌*◌, ◌%◌, ◌^◌, ◌<◌, length, Ura, full_share, ent, sep, never, id⊢, Fml, Lft, GName, Share, ftrue, fsep, flft, fobs, fauth, fbor, fobor, w64, Val, vunit, vptr, vint, vstruct, vcons, vnil, Logic, sem, Item, Goal, Soaks, Seq, Step, step, ‵, ◌$◌, ◌∵◌, !, qed, move, drop, use3, rewrite, fsplit, fjoin, fpick, fpack, feq_i, flt_i, flt_l, done, usize, Is, shows, mem, cell_at, param, Laws, param_laws, RattleType, Valss, Ptr, RawPtr, block_ptr, in_a_block, nothing, opens, closes, peeks, makes, Struct, within, Option, type_size, Global}
+-- The owner of slots is taken apart into their row and its mark, and is made of these again.
+use Rattle.ring_slots.proofs.Walk.{◌≡◌, refl, sym, ap, subst, ◌∙◌, List, [], ◌∷◌, ◌++◌, ℕ, ◌*◌, ◌^◌, ◌<◌, T, lit<, length, replicate, length-replicate, Ura, full_share, ent, emp, never, id⊢, Lft, GName, Share, flft, fobs, fauth, fbor, fobor, Val, vunit, vptr, vstruct, vcons, vnil, of_list, has_ty, WT, Logic, sem, Item, Goal, Soaks, Seq, Step, step, ‵, ◌$◌, move, drop, use0, rewrite, fsplit, fjoin, fpick, fpack, feq_i, feq_l, flt_i, flt_l, Is, mem, cell_at, param, RattleType, Valss, Ptr, RawPtr, block_ptr, null_ptr, ptr_val, in_a_block, nothing, opens, closes, makes, Struct, within, None, type_size, Global}
 use base.Stored.{Gv}
+use mir.Syntax.{ty_ptr}
 use types.SemTy.{Body}
+use denote.Shadow.{makes_shadow}
 use denote.Steps.{owned as made}
-use denote.Struct.Owning.{shape, to}
+use denote.Struct.Declared as Declared
+use denote.Struct.Tuple.{Tuple, tuple_type}
+use denote.Struct.Owning.{shape}
 use Rattle.std.specs.contracts.alloc.Global as heap
 use Rattle.std.proofs.alloc.Global.TheLaws as heap_laws
-use Rattle.ring_slots.specs.Slots.{Slots}
-use Rattle.ring_slots.specs.heap.Memory.{row, right, owned}
-use Rattle.ring_slots.specs.contracts.heap.HeapSlots as H
-use Rattle.ring_slots.specs.contracts.heap.HeapSlots.TheInside as I
-use Rattle.ring_slots.proofs.heap.HeapSlots.TheInside.TheLaws.{lowers}
+use Rattle.ring_slots.specs.block.Memory.{row, owned, right}
+use Rattle.ring_slots.specs.contracts.block.Deed as D
+use Rattle.ring_slots.specs.contracts.block.Owner as O
 
--- the machine's value of the fields
-abbrev pub words : ℕ → ℕ → ℕ → Global → Val
-words b o n alloc = vstruct (vcons (vptr b o) (vcons (vint w64 n) (vcons (heap_laws.lowered alloc) vnil)))
+pub pointer_good : (p : Ptr) → T (has_ty ty_ptr (ptr_val p)) × WT (ptr_val p)
+pointer_good (block_ptr b o) = (tt, tt)
+pointer_good null_ptr = (tt, record { fits = lit< tt })
 
 module _ (X : RattleType) where
   abbrev pub R : RattleType
   R = param 0 X
 
-  -- heap slots as callers see them, as their walks do, and their fields alone
   abbrev pub Seen : RattleType
-  Seen = H.the_row R
+  Seen = O.the_row R
 
-  abbrev pub Inside : RattleType
-  Inside = I.the_row R
+  -- the mark alone, which takes no bytes
+  abbrev pub Mark : RattleType
+  Mark = Struct (shape (O.the_type R))
 
-  abbrev pub Fields : RattleType
-  Fields = Struct (shape (I.the_type R))
+  abbrev pub AreSmall : Seen.Denot → Type 0
+  AreSmall s = length s.slots * type_size R < 2 ^ 63
 
-  abbrev pub fields : Inside.Denot → Fields.Denot
-  fields = to (I.the_type R)
+  module _ {M : Type 1} {𝓤 : Ura M} {𝓛 : Logic 𝓤} {K : Type 0} {Γ : List (Item 𝓤)} {G : Goal 𝓤 𝓛.H} where
+    -- [the row; the mark; its cell; the open borrow, in three entries]
+    pub slots_opened : K → Soaks G → {κ : Lft} {q : Share} {γ : GName} (s : Seen.Denot) (rb ro : ℕ)
+        → ((us : List Val) (b o : ℕ) → s.at ≡ block_ptr b o → AreSmall s
+        → Seq K 𝓛 (‵ (row R b o s.slots) ∷ ‵ (Mark.own_val (tt, tt) us) ∷ ‵ (cell_at full_share Seen.mir us rb ro)
+        ∷ ‵ (fobor κ q (Body (mem Seen) rb ro γ)) ∷ ‵ (fobs γ (Seen.coded.code s)) ∷ ‵ (fauth γ (Seen.coded.code s)) ∷ Γ) G)
+        → Seq K 𝓛 (‵ (fobs γ (Seen.coded.code s)) ∷ ‵ (fbor κ (Body (mem Seen) rb ro γ)) ∷ ‵ (flft κ q) ∷ Γ) G
+    slots_opened t z s rb ro next = opens t z Seen {h = s} rb ro (λ us. move t (1 ∷ []) $ fsplit t $ move t (1 ∷ []) $
+        in_a_block t s.at (λ p. owned R p s.slots) (id⊢ 𝓤 (never 𝓤)) (λ b o lies. fsplit t $ flt_l t (λ small. next us b o lies small)))
 
-  abbrev pub AreSmall : List (Option X.Denot) → Type 0
-  AreSmall cs = length cs * type_size R < 2 ^ 63
+    -- and back, at other slots and another count
+    pub slots_closed : K → Soaks G → {κ : Lft} {q : Share} {u v : Gv} {γ : GName} (s : Seen.Denot) (us : List Val) (b o rb ro : ℕ) → s.at ≡ block_ptr b o → AreSmall s
+        → Step K 𝓛 (‵ (fobs γ (Seen.coded.code s)) ∷ ‵ (fbor κ (Body (mem Seen) rb ro γ)) ∷ ‵ (flft κ q) ∷ Γ) G
+        (‵ (row R b o s.slots) ∷ ‵ (Mark.own_val (tt, tt) us) ∷ ‵ (cell_at full_share Seen.mir us rb ro)
+        ∷ ‵ (fobor κ q (Body (mem Seen) rb ro γ)) ∷ ‵ (fobs γ u) ∷ ‵ (fauth γ v) ∷ Γ) G
+    slots_closed t z s us b o rb ro lies small = step (λ k.
+        flt_i t (length s.slots * type_size R) (2 ^ 63) small $ fjoin t $ rewrite t 0 (λ (p : Ptr). ‵ (owned R p s.slots)) (sym lies) refl $
+        move t (1 ∷ 0 ∷ []) $ fjoin t $ move t (1 ∷ 0 ∷ []) $ closes t z Seen s us rb ro $ k)
 
-  -- the mask tells the number of slots
-  abbrev pub Counted : Inside.Denot → Type 0
-  Counted s = length s.slots ≡ (s.mask + 1) % 2 ^ 64
+  abbrev pub mark : Val
+  mark = vstruct (vcons (vstruct vnil) vnil)
 
-  module _ {M : Type 1} {𝓤 : Ura M} (𝓛 : Logic 𝓤) (b o : ℕ) (s : Inside.Denot) where
-    abbrev pub Row : Fml
-    Row = row R b o s.slots
+  abbrev pub Right : RattleType
+  Right = D.the_row R
 
-    abbrev pub Right : Fml
-    Right = right R s.alloc (block_ptr b o) (length s.slots)
+  -- a pointer to slots, their owner and the right to free their block
+  abbrev pub Three : RattleType
+  Three = Tuple (RawPtr ∷ Seen ∷ Right ∷ [])
 
-    -- the same memory with other items and another count
-    module _ (cs : List (Option X.Denot)) (n : ℕ) (d : Slots X.Denot) where
-      pub slots_made : (us : List Val) → s.ptr ≡ block_ptr b o → Counted s → AreSmall s.slots → length cs ≡ length s.slots → record { slots = cs; changes = n } ≡ d
-          → ent 𝓤 (sep 𝓤 (sem 𝓛 (row R b o cs)) (sep 𝓤 (sem 𝓛 Right) (sem 𝓛 (Fields.own_val (fields s) us)))) (sem 𝓛 (Seen.own_val d us))
-      slots_made us lies counted fit same seen =
-          let t : Inside.Denot = record s { slots = cs; changes = n } in
-          qed 𝓛 (‵ (row R b o cs) ∷ ‵ Right ∷ ‵ (Fields.own_val (fields s) us) ∷ []) ∵
-          rewrite ! 1 (λ (k : ℕ). ‵ (right R s.alloc (block_ptr b o) k)) (sym same) refl $ fjoin ! $
-          flt_i ! (length cs * type_size R) (2 ^ 63) (subst (λ (k : ℕ). k * type_size R < 2 ^ 63) (sym same) fit) $ fjoin ! $
-          rewrite ! 0 (λ (p : Ptr). ‵ (owned R s.alloc p cs)) (sym lies) refl $
-          move ! (1 ∷ 0 ∷ []) $ fjoin ! $ nothing ! $ move ! (1 ∷ 0 ∷ []) $ fjoin ! $
-          fpack ! ((i : Inside.Denot) × ((H.the_view R i ≡ d) × H.the_invariant R i)) (λ h. fsep (Inside.own_val h.0 us) ftrue) (t, (seen, same ∙ counted)) $ done !
+  abbrev pub three : ℕ → ℕ → Val
+  three b o = vstruct (vcons (vptr b o) (vcons mark (vcons mark vnil)))
 
-module _ (X : RattleType) (L : Laws X) {M : Type 1} {𝓤 : Ura M} {𝓛 : Logic 𝓤} {K : Type 0} {Γ : List (Item 𝓤)} {G : Goal 𝓤 𝓛.H} where
-  -- [the row; the right to free its block; the fields]
-  pub slots_had : K → (d : Slots X.Denot) (us : List Val)
-      → ((s : (Inside X).Denot) (b o : ℕ) → H.the_view (R X) s ≡ d → Counted X s → s.ptr ≡ block_ptr b o → AreSmall X s.slots → us ≡ words b o s.mask s.alloc ∷ []
-      → Seq K 𝓛 (‵ (Row X 𝓛 b o s) ∷ ‵ (Right X 𝓛 b o s) ∷ ‵ ((Fields X).own_val (fields X s) us) ∷ Γ) G)
-      → Seq K 𝓛 (‵ ((Seen X).own_val d us) ∷ Γ) G
-  slots_had t d us next =
-      fpick t (λ h. let s = h.0 in fsplit t $ move t (1 ∷ []) $ drop t $
-      peeks t (Inside X) (Is (Inside X)) (shows 𝓛 (Inside X)) s us (λ is. fsplit t $ move t (1 ∷ []) $
-      in_a_block t s.ptr (λ p. owned (R X) s.alloc p s.slots) (id⊢ 𝓤 (never 𝓤)) (λ b o lies.
-      let told : us ≡ words b o s.mask s.alloc ∷ [] = (lowers (R X) (param_laws 0 X L)).val_is s us is ∙ ap (λ (p : Ptr). (lowers (R X) (param_laws 0 X L)).lowered (record s { ptr = p }) ∷ []) lies in
-      fsplit t $ flt_l t (λ fit. fsplit t $ next s b o h.1.0 h.1.1 lies fit told))))
+  abbrev pub begun : Global → ℕ → ℕ → ℕ → Three.Denot
+  begun a b o n =
+      let p = block_ptr b o in
+      (p, record { mark = record {}; at = p; slots = replicate n None; changes = 0 }, record { mark = record {}; at = p; len = n; alloc = a })
 
-module _ (X : RattleType) (L : Laws X) {M : Type 1} {𝓤 : Ura M} {𝓛 : Logic 𝓤} {K : Type 0} {Γ : List (Item 𝓤)} {G : Goal 𝓤 𝓛.H} where
-  -- [the row; the right; the fields; their cell; the open borrow, in three entries]
-  pub slots_opened : K → Soaks G → {κ : Lft} {q : Share} {γ : GName} (d : Slots X.Denot) (rb ro : ℕ)
-      → ((s : (Inside X).Denot) (b o : ℕ) → H.the_view (R X) s ≡ d → Counted X s → s.ptr ≡ block_ptr b o → AreSmall X s.slots
-      → Seq K 𝓛 (‵ (Row X 𝓛 b o s) ∷ ‵ (Right X 𝓛 b o s) ∷ ‵ ((Fields X).own_val (fields X s) (words b o s.mask s.alloc ∷ [])) ∷ ‵ (cell_at full_share (Seen X).mir (words b o s.mask s.alloc ∷ []) rb ro)
-      ∷ ‵ (fobor κ q (Body (mem (Seen X)) rb ro γ)) ∷ ‵ (fobs γ ((Seen X).coded.code d)) ∷ ‵ (fauth γ ((Seen X).coded.code d)) ∷ Γ) G)
-      → Seq K 𝓛 (‵ (fobs γ ((Seen X).coded.code d)) ∷ ‵ (fbor κ (Body (mem (Seen X)) rb ro γ)) ∷ ‵ (flft κ q) ∷ Γ) G
-  slots_opened t z d rb ro next = opens t z (Seen X) {h = d} rb ro (λ us. move t (1 ∷ []) $ slots_had X L t d us (λ s b o seen counted lies fit told.
-      rewrite t 2 (λ (vs : List Val). ‵ ((Fields X).own_val (fields X s) vs)) told refl $
-      rewrite t 3 (λ (vs : List Val). ‵ (cell_at full_share (Seen X).mir vs rb ro)) told refl $ next s b o seen counted lies fit))
+  pub mark_made : {M : Type 1} {𝓤 : Ura M} (𝓛 : Logic 𝓤) → ent 𝓤 (emp 𝓤) (sem 𝓛 (Mark.own_val (tt, tt) (mark ∷ [])))
+  mark_made 𝓛 = makes_shadow 𝓛 (Mark.own_val (tt, tt) (mark ∷ [])) (λ vss. (tt, ((λ uss. (tt, tt)), tt))) ((vstruct vnil ∷ [], tt), (refl, ((tt, (refl, tt)), tt)))
 
-  -- and back, at other items and another count
-  pub slots_closed : K → Soaks G → {κ : Lft} {q : Share} {u v : Gv} {γ : GName} (s : (Inside X).Denot) (cs : List (Option X.Denot)) (n : ℕ) (d : Slots X.Denot) (b o rb ro : ℕ)
-      → s.ptr ≡ block_ptr b o → Counted X s → AreSmall X s.slots → length cs ≡ length s.slots → record { slots = cs; changes = n } ≡ d
-      → Step K 𝓛 (‵ (fobs γ ((Seen X).coded.code d)) ∷ ‵ (fbor κ (Body (mem (Seen X)) rb ro γ)) ∷ ‵ (flft κ q) ∷ Γ) G
-      (‵ (row (R X) b o cs) ∷ ‵ (Right X 𝓛 b o s) ∷ ‵ ((Fields X).own_val (fields X s) (words b o s.mask s.alloc ∷ [])) ∷ ‵ (cell_at full_share (Seen X).mir (words b o s.mask s.alloc ∷ []) rb ro)
-      ∷ ‵ (fobor κ q (Body (mem (Seen X)) rb ro γ)) ∷ ‵ (fobs γ u) ∷ ‵ (fauth γ v) ∷ Γ) G
-  slots_closed t z s cs n d b o rb ro lies counted fit same seen = step (λ k.
-      let us = words b o s.mask s.alloc ∷ [] in
-      use3 𝓛 (‵ ((Seen X).own_val d us)) (slots_made X 𝓛 b o s cs n d us lies counted fit same seen) $ move t (1 ∷ 0 ∷ []) $ closes t z (Seen X) d us rb ro $ k)
+-- a mark is one machine value
+module _ (X : RattleType) {M : Type 1} {𝓤 : Ura M} {𝓛 : Logic 𝓤} {K : Type 0} {Γ : List (Item 𝓤)} {G : Goal 𝓤 𝓛.H} where
+  pub mark_had : K → (us : List Val) → (us ≡ mark X ∷ [] → Seq K 𝓛 Γ G) → Seq K 𝓛 (‵ ((Mark X).own_val (tt, tt) us) ∷ Γ) G
+  mark_had t us next = fpick t (λ outer. fsplit t $ feq_l t (λ whole. fsplit t $ fpick t (λ inner. fsplit t $ feq_l t (λ empty. drop t $ drop t $
+      next (whole ∙ ap (λ (ws : List Val). vstruct (of_list (ws ++ [])) ∷ []) empty)))))
 
--- a handle of the heap, and fields with one, are made of nothing
+-- [the row; the right to free its block]
+module _ (X : RattleType) {M : Type 1} {𝓤 : Ura M} {𝓛 : Logic 𝓤} {K : Type 0} {Γ : List (Item 𝓤)} {G : Goal 𝓤 𝓛.H} where
+  pub three_made : K → (a : Global) (b o n : ℕ) → n * type_size (R X) < 2 ^ 63
+      → Step K 𝓛 (‵ ((Three X).own_val (begun X a b o n) (three X b o ∷ [])) ∷ Γ) G (‵ (row (R X) b o (replicate n None)) ∷ ‵ (right (R X) a (block_ptr b o) n) ∷ Γ) G
+  three_made t a b o n small = step (λ k.
+      flt_i t (length (replicate n None) * type_size (R X)) (2 ^ 63) (subst (λ (k : ℕ). k * type_size (R X) < 2 ^ 63) (sym (length-replicate n None)) small) $ fjoin t $
+      use0 𝓛 (‵ ((Mark X).own_val (tt, tt) (mark X ∷ []))) (mark_made X 𝓛) $ fjoin t $ move t (1 ∷ 0 ∷ []) $
+      use0 𝓛 (‵ ((Mark X).own_val (tt, tt) (mark X ∷ []))) (mark_made X 𝓛) $ fjoin t $
+      nothing t $ move t (1 ∷ 0 ∷ []) $ fjoin t $ move t (1 ∷ 0 ∷ []) $ fjoin t $
+      feq_i t (List Val) (vptr b o ∷ []) (vptr b o ∷ []) refl $ fjoin t $
+      feq_i t (List Val) (three X b o ∷ []) (three X b o ∷ []) refl $ fjoin t $
+      fpack t (Valss (RawPtr ∷ Seen X ∷ Right X ∷ [])) (within (Declared.shape (tuple_type (RawPtr ∷ Seen X ∷ Right X ∷ []))) (block_ptr b o, ((begun X a b o n).1, ((begun X a b o n).2, tt))) (three X b o ∷ [])) (vptr b o ∷ [], (mark X ∷ [], (mark X ∷ [], tt))) $ k)
+
+-- a handle of the heap is made of nothing
 module _ {M : Type 1} {𝓤 : Ura M} {𝓛 : Logic 𝓤} {K : Type 0} {Γ : List (Item 𝓤)} {G : Goal 𝓤 𝓛.H} where
   pub handle_made : K → (a : Global) → Step K 𝓛 (‵ (heap.the_row.own_val a (heap_laws.lowered a ∷ [])) ∷ Γ) G Γ G
   handle_made t a = step (λ k. made t heap.the_row (Is heap.the_row) (makes heap.the_type heap_laws.the_plain 𝓛) a (heap_laws.lowered a ∷ [])
       ((vstruct (vcons vunit vnil) ∷ [], tt), (refl, (((vunit ∷ [], tt), (refl, (refl, tt))), tt))) $ k)
-
-module _ (X : RattleType) (b o n : ℕ) (a : Global) where
-  -- slots at a place, of which none is counted yet
-  abbrev pub begun : List (Option X.Denot) → (Inside X).Denot
-  begun cs = record { ptr = block_ptr b o; mask = n; alloc = a; slots = cs; changes = 0 }
-
-  module _ {M : Type 1} {𝓤 : Ura M} {𝓛 : Logic 𝓤} {K : Type 0} {Γ : List (Item 𝓤)} {G : Goal 𝓤 𝓛.H} where
-    pub fields_made : K → (cs : List (Option X.Denot)) → n < 2 ^ 64 → Step K 𝓛 (‵ ((Fields X).own_val (fields X (begun cs)) (words b o n a ∷ [])) ∷ Γ) G Γ G
-    fields_made t cs fits = step (λ k.
-        let place = vptr b o ∷ [] in let count = vint w64 n ∷ [] in let handle = heap_laws.lowered a ∷ [] in
-        nothing t $ handle_made t a $ fjoin t $ flt_i t n (2 ^ 64) fits $ feq_i t (List Val) count count refl $ fjoin t $ fjoin t $
-        feq_i t (List Val) place place refl $ fjoin t $ feq_i t (List Val) (words b o n a ∷ []) (words b o n a ∷ []) refl $ fjoin t $
-        fpack t (Valss (RawPtr ∷ usize ∷ heap.the_row ∷ [])) (within (shape (I.the_type (R X))) (fields X (begun cs)) (words b o n a ∷ [])) (place, (count, (handle, tt))) $ k)

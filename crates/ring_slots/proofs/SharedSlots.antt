@@ -1,9 +1,9 @@
 -- A borrow of heap slots is shared item by item.
-use Rattle.ring_slots.proofs.Walk.{List, [], ◌∷◌, ℕ, ◌+◌, length, Ura, Lft, Incl, ftrue, fsep, Logic, RattleType, RowLaws, Laws, Ptr, block_ptr, null_ptr, Lends, Lends-both, Lends-first, Lends-nothing, Lends-said, Lends-false, Option, Some, None, type_size, Global}
+use Rattle.ring_slots.proofs.Walk.{List, [], ◌∷◌, ℕ, ◌+◌, Ura, Lft, Incl, ftrue, Logic, RattleType, RowLaws, Laws, Ptr, block_ptr, null_ptr, Lends, Lends-both, Lends-nothing, Lends-said, Lends-false, Option, Some, None, type_size}
 use denote.Sharing.{ShrLaws, said}
 use denote.SharingLaws.{beside_shr_laws, nothing_shr_laws, said_shr_laws}
 use denote.Shares.{Shares-less}
-use Rattle.ring_slots.specs.heap.Memory.{slot, row, slot_shown, row_shown, small, right, owned, lent}
+use Rattle.ring_slots.specs.block.Memory.{slot, row, slot_shown, row_shown, small, owned, lent}
 
 module _ (R : RattleType) (twice : RowLaws R) where
   slot_laws : (b o : ℕ) (c : Option R.Denot) → ShrLaws (slot_shown R b o c)
@@ -28,9 +28,7 @@ module _ {M : Type 1} {𝓤 : Ura M} (𝓛 : Logic 𝓤) (R : RattleType) (L : L
   row_lends b o (c ∷ cs) = Lends-both 𝓛 (slot R b o c) (row R b (o + type_size R) cs) (slot_shown R b o c) (row_shown R b (o + type_size R) cs) l
       (slot_lends b o c) (row_lends b (o + type_size R) cs)
 
-  pub lends : (alloc : Global) (p : Ptr) (cs : List (Option R.Denot)) → Lends 𝓛 (owned R alloc p cs) (lent R p cs) l
-  lends alloc null_ptr cs = Lends-false 𝓛 (lent R null_ptr cs) l
-  lends alloc (block_ptr b o) cs =
-      let free = right R alloc (block_ptr b o) (length cs) in
-      Lends-both 𝓛 (small R cs) (fsep (row R b o cs) free) (said (small R cs)) (row_shown R b o cs) l
-      (Lends-said 𝓛 (small R cs) tt l) (Lends-first 𝓛 (row R b o cs) free (row_shown R b o cs) l (row_lends b o cs))
+  pub lends : (p : Ptr) (cs : List (Option R.Denot)) → Lends 𝓛 (owned R p cs) (lent R p cs) l
+  lends null_ptr cs = Lends-false 𝓛 (lent R null_ptr cs) l
+  lends (block_ptr b o) cs =
+      Lends-both 𝓛 (small R cs) (row R b o cs) (said (small R cs)) (row_shown R b o cs) l (Lends-said 𝓛 (small R cs) tt l) (row_lends b o cs)

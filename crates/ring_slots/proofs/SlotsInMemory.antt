@@ -1,6 +1,11 @@
 -- One slot of a row is taken out and put back, and a row is made of memory and gives it back.
-use Rattle.ring_slots.proofs.Walk.{◌≡◌, refl, sym, ap, ◌∙◌, Bool, true, false, List, [], ◌∷◌, ℕ, zero, suc, ◌+◌, ◌*◌, ◌^◌, ◌<◌, ◌≤◌, zero-mul, one-mul, suc-mul, mul-le-mul_right, arith, T, eqb, eqb→eq, length, get_or, set, replicate, Ura, full_share, SProp, ent, sep, assoc∗, Fml, Lft, ftrue, fsep, fat, froom, Ty, ty_array, Val, has_ty, WT, Logic, sem, fact, Item, Step, step, prop, suffices, ‵, ◌⊛◌, some, ◌$◌, ◌∵◌, !, qed, by, move, keep, drop, use1, use2, pick, split, rewrite, fsplit, fjoin, frame, done, Typed, part_at, layout, param, RattleType, nothing, says, capped_is, capped, part_out, Option, Some, None, IsSome, type_size}
-use Rattle.ring_slots.specs.heap.Memory.{slot, row, slot_shown, row_shown}
+use Rattle.ring_slots.proofs.Walk.{◌≡◌, refl, sym, ap, ◌∙◌, Bool, true, false, List, [], ◌∷◌, ℕ, zero, suc, ◌+◌, ◌*◌, ◌^◌, ◌<◌, ◌≤◌, zero-mul, one-mul, suc-mul, mul-le-mul_right, arith, T, eqb, eqb→eq, length, get_or, set, replicate, Ura, full_share, SProp, ent, sep, assoc∗, Fml, Lft, ftrue, fsep, fat, froom, Ty, ty_array, Val, has_ty, WT, Logic, sem, fact, Item, Step, step, prop, suffices, ‵, ◌⊛◌, some, ◌$◌, ◌∵◌, !, qed, by, move, keep, drop, use1, use2, pick, split, rewrite, fsplit, fjoin, frame, done, Typed, part_at, layout, param, RattleType, nothing, says, capped_is, capped, part_out, Option, Some, None, IsSome, type_size, ◌++◌}
+use lib.ListN.{drop as cut, take-append-drop, length-take, length-drop}
+use mathlib.Core.List.{map}
+use denote.Slice.{elements_shared}
+use Rattle.std.proofs.lemmas.List.{length-map}
+use Rattle.ring_slots.specs.Slots.{HoldsRun, IsFullRun}
+use Rattle.ring_slots.specs.block.Memory.{slot, row, row_shown}
 
 -- the item of a full slot
 pub item_of : {A : Type 0} (c : Option A) → IsSome c → (x : A) × (c ≡ Some x)
@@ -13,12 +18,31 @@ full_within [] i x holds = cc
 full_within (c ∷ cs) zero x holds = omega arith
 full_within (c ∷ cs) (suc i) x holds = omega (arith, full_within cs i x holds)
 
+-- a full slot is a run of one
+pub full_run : {A : Type 0} (cs : List (Option A)) (i : ℕ) → IsSome (get_or cs i None) → IsFullRun cs i 1
+full_run [] i full = cc
+full_run (None ∷ cs) zero full = cc
+full_run (Some x ∷ cs) zero full = (omega arith, (x ∷ [], refl))
+full_run (c ∷ cs) (suc i) full = let rest = full_run cs i full in (omega (arith, rest.0), rest.1)
+
 -- where n sizes fit a block, so do one size, and the way to a slot
 pub place_fits : (i n bytes : ℕ) → i < n → n * bytes < 2 ^ 63 → (bytes < 2 ^ 64) × (i * bytes < 2 ^ 64)
 place_fits i n bytes within fit =
     let once : 1 * bytes ≤ n * bytes = mul-le-mul_right bytes (omega arith) in
     let before : i * bytes ≤ n * bytes = mul-le-mul_right bytes (omega arith) in
     (omega (arith, one-mul bytes), omega arith)
+
+-- and so do a run of slots, and the way to it
+pub run_fits : (from len n bytes : ℕ) → from + len ≤ n → n * bytes < 2 ^ 63 → (from * bytes < 2 ^ 64) × (len * bytes < 2 ^ 63)
+run_fits from len n bytes within fit =
+    let before : from * bytes ≤ n * bytes = mul-le-mul_right bytes (omega arith) in
+    let all : len * bytes ≤ n * bytes = mul-le-mul_right bytes (omega arith) in
+    (omega arith, omega arith)
+
+-- a run has as many items as slots
+pub run_long : {A : Type 0} (cs : List (Option A)) (from len : ℕ) (xs : List A) → from + len ≤ length cs → HoldsRun cs from len xs → length xs ≡ len
+run_long cs from len xs within holds =
+    omega (arith, ap (λ (l : List (Option _)). length l) holds, length-map xs Some, length-take len (cut from cs), length-drop from cs)
 
 -- a size that is capped at what a word holds makes the same product, where that product fits a word
 pub product_is : (k bytes : ℕ) → k * bytes < 2 ^ 64 → k * capped bytes ≡ k * bytes
@@ -108,17 +132,26 @@ module _ (X : RattleType) where
           use1 𝓛 (‵ (froom (ty_array (layout X) (length cs)) b (o + bytes))) (to_room cs (o + bytes)) $ move ! (1 ∷ 0 ∷ []) $
           by ! (𝓛.laws.room_cons (layout X) (length cs) b o)
 
-      -- what is shown of a row shows each of its slots
-      pub slot_seen : (κ : Lft) (cs : List (Option X.Denot)) (i o : ℕ) → i < length cs
-          → ent 𝓤 (sem 𝓛 (row_shown R b o cs κ)) (sem 𝓛 (slot_shown R b (i * bytes + o) (get_or cs i None) κ))
-      slot_seen κ [] i o within = absurd (omega arith)
-      slot_seen κ (c ∷ cs) zero o within = qed 𝓛 (‵ (row_shown R b o (c ∷ cs) κ) ∷ []) ∵ fsplit ! $ keep ! (0 ∷ []) $
-          rewrite ! 0 (λ (k : ℕ). ‵ (slot_shown R b k c κ)) (first_at o) refl $ done !
-      slot_seen κ (c ∷ cs) (suc i) o within =
-          let inner : i < length cs = omega arith in
+      -- full slots show their items as a slice does, whatever comes after them
+      items_seen : (κ : Lft) (xs : List X.Denot) (after : List (Option X.Denot)) (o : ℕ)
+          → ent 𝓤 (sem 𝓛 (row_shown R b o (map Some xs ++ after) κ)) (sem 𝓛 (elements_shared R xs b o κ))
+      items_seen κ [] after o = qed 𝓛 (‵ (row_shown R b o after κ) ∷ []) ∵ keep ! [] $ done !
+      items_seen κ (x ∷ xs) after o = qed 𝓛 (‵ (row_shown R b o (map Some (x ∷ xs) ++ after) κ) ∷ []) ∵ fsplit ! $ move ! (1 ∷ []) $
+          use1 𝓛 (‵ (elements_shared R xs b (o + bytes) κ)) (items_seen κ xs after (o + bytes)) $ move ! (1 ∷ 0 ∷ []) $ fjoin ! $ done !
+
+      -- and so does a run of them anywhere in a row
+      pub run_seen : (κ : Lft) (cs : List (Option X.Denot)) (from len o : ℕ) (xs : List X.Denot) → from + len ≤ length cs → HoldsRun cs from len xs
+          → ent 𝓤 (sem 𝓛 (row_shown R b o cs κ)) (sem 𝓛 (elements_shared R xs b (from * bytes + o) κ))
+      run_seen κ cs zero len o xs within holds = qed 𝓛 (‵ (row_shown R b o cs κ) ∷ []) ∵
+          rewrite ! 0 (λ (l : List (Option X.Denot)). ‵ (row_shown R b o l κ)) (sym (take-append-drop len cs) ∙ ap (λ (l : List (Option X.Denot)). l ++ cut len cs) holds) refl $
+          use1 𝓛 (‵ (elements_shared R xs b o κ)) (items_seen κ xs (cut len cs) o) $
+          rewrite ! 0 (λ (k : ℕ). ‵ (elements_shared R xs b k κ)) (first_at o) refl $ done !
+      run_seen κ [] (suc from) len o xs within holds = absurd (omega arith)
+      run_seen κ (c ∷ cs) (suc from) len o xs within holds =
+          let inner : from + len ≤ length cs = omega arith in
           qed 𝓛 (‵ (row_shown R b o (c ∷ cs) κ) ∷ []) ∵ fsplit ! $ keep ! (1 ∷ []) $
-          use1 𝓛 (‵ (slot_shown R b (i * bytes + (o + bytes)) (get_or cs i None) κ)) (slot_seen κ cs i (o + bytes) inner) $
-          rewrite ! 0 (λ (k : ℕ). ‵ (slot_shown R b k (get_or cs i None) κ)) (next_at i o) refl $ done !
+          use1 𝓛 (‵ (elements_shared R xs b (from * bytes + (o + bytes)) κ)) (run_seen κ cs from len (o + bytes) xs inner holds) $
+          rewrite ! 0 (λ (k : ℕ). ‵ (elements_shared R xs b k κ)) (next_at from o) refl $ done !
 
 module _ {M : Type 1} {𝓤 : Ura M} {𝓛 : Logic 𝓤} {K : Type 0} {Γ : List (Item 𝓤)} where
   -- an `ensures` of two facts

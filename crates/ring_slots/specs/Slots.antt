@@ -1,5 +1,5 @@
 -- What a contract sees of the slots of a ring.
-use Rattle.std.specs.Prelude.{◌≡◌, ℕ, ◌+◌, ◌<◌, List, length, slice_index_or, slice_set, Option, None, IsSome}
+use Rattle.std.specs.Prelude.{◌≡◌, ℕ, ◌+◌, ◌<◌, ◌≤◌, List, length, take, drop, map, slice_index_or, slice_set, Option, None, Some, IsSome}
 
 -- what each slot holds, an item or nothing, and how many changes the slots have had
 pub record Slots (X : Type 0) : Type 0 where
@@ -18,6 +18,14 @@ module _ {X : Type 0} where
   -- the slot at the place holds an item
   abbrev pub IsFullAt : Slots X → ℕ → Type 0
   IsFullAt s place = IsSome (slot_at s place)
+
+  -- so many slots from a place on hold these items
+  abbrev pub HoldsRun : List (Option X) → ℕ → ℕ → List X → Type 0
+  HoldsRun slots from len xs = take len (drop from slots) ≡ map Some xs
+
+  -- there are so many slots from a place on, and each of them holds an item
+  abbrev pub IsFullRun : List (Option X) → ℕ → ℕ → Type 0
+  IsFullRun slots from len = (from + len ≤ length slots) × ((xs : List X) × HoldsRun slots from len xs)
 
   -- the slots after one change: the slot at the place holds this now, every other slot what it held
   abbrev pub changed : Slots X → ℕ → Option X → Slots X

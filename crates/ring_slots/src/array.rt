@@ -170,6 +170,11 @@ impl<T: Drop, const CAP: usize> RingSlots<T> for ArraySlots<T, CAP> {
     }
 
     #[inline]
+    fn discard(&mut self, place: usize) {
+        *self.slot_mut(place) = None;
+    }
+
+    #[inline]
     fn get(&self, place: usize) -> &T {
         ArraySlots::get(self, place)
     }

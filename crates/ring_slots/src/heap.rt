@@ -1,21 +1,24 @@
 //! Slots on the heap.
-ghost use Rattle.std.specs.Prelude.{◌≡◌, ◌+◌, ◌%◌, ◌^◌, ◌<◌, ℕ, List, Option, length, replicate, None, Some, refl, IfOk, IsTrue};
+ghost use Rattle.std.specs.Prelude.{◌≡◌, ◌+◌, ◌%◌, ◌^◌, ◌<◌, ℕ, length, replicate, None, Some, refl, IfOk, IsTrue};
 ghost use Rattle.std.specs.Int.{IsPowerOfTwo};
 ghost use Rattle.std.specs.Borrow.{sem};
 ghost use Rattle.std.specs.Mem.{type_size};
 ghost use Rattle.std.specs.Vec.Ownership.{FitsInBlock};
-ghost use Rattle.ring_slots.specs.Slots.{IsEmptyAt, IsFullAt, changed, slot_at};
+ghost use Rattle.ring_slots.specs.Slots.{HoldsRun, IsEmptyAt, IsFullAt, IsFullRun, changed, slot_at};
 
+use crate::block::{Deed, Owner};
 use crate::place::masked;
 use crate::slots::RingSlots;
-use std::alloc::{AllocError, Allocator, Global};
+use std::alloc::{AllocError, Global};
 use std::marker::Model;
-use std::mem::{align_of, size_of};
+use std::mem::size_of;
 
 /// Slots on the heap, whose number is chosen when they are made.
 ///
 /// They lie side by side in one block, with no mark that says which of them hold an item: the conditions of the calls
 /// do. Items without size take no block.
+///
+/// They aren't dropped: slots end by `free`, which asks that all of them are empty, and in no other way.
 ///
 /// A contract sees what each slot holds, and how many changes the slots have had. That count takes no bytes, begins at
 /// 0, and rises by the calls below alone.
@@ -24,25 +27,22 @@ pub struct HeapSlots<T> {
     // The number of slots less one, which is the mask of their places where that number is a power of two. It wraps
     // where there are no slots.
     mask: usize,
+    owner: Owner<T>,
+    deed: Deed<T>,
     alloc: Global,
-    ghost slots: { List (Option T) },
-    ghost changes: { ℕ },
 }
 
 impl<T> Model for HeapSlots<T> {
     ghost use Rattle.std.specs.Prelude.{◌≡◌, ◌+◌, ◌%◌, ◌^◌, length};
     ghost use Rattle.ring_slots.specs.Slots.{Slots};
-    ghost use Rattle.ring_slots.specs.heap.Memory.{owned, lent};
+    ghost use Rattle.ring_slots.specs.block.Block.{IsDeedOf};
 
     ghost Value = { Slots T };
 
-    ghost view = { λ s. record { slots = s.slots; changes = s.changes } };
+    ghost view = { λ s. record { slots = s.owner.slots; changes = s.owner.changes } };
 
-    ghost invariant = { λ s. length s.slots ≡ (s.mask + 1) % 2 ^ 64 };
-
-    ghost also_owns = { λ s. owned T.row s.alloc s.ptr s.slots };
-
-    ghost also_shares = { λ s _ κ. lent T.row s.ptr s.slots κ };
+    ghost invariant = { λ s. (length s.owner.slots ≡ (s.mask + 1) % 2 ^ 64)
+        × IsDeedOf s.alloc s.ptr s.owner s.deed };
 }
 
 impl<T: Drop> HeapSlots<T> {
@@ -52,14 +52,21 @@ impl<T: Drop> HeapSlots<T> {
     pub fn new(alloc: Global, size: usize) -> Result<HeapSlots<T>, AllocError>
         ensures { IfOk result (λ s. s ≡ record { slots = replicate size None; changes = 0 }) }
     {
-        let mask = size.wrapping_sub(1);
-        if item_size::<T>() == 0 {
-            return Ok(HeapSlots::without_memory(alloc, mask));
-        }
-        if !may_hold::<T>(size) {
-            return Err(AllocError);
-        }
-        HeapSlots::in_block(alloc, size, mask)
+        let (ptr, owner, deed) = if item_size::<T>() == 0 {
+            Owner::without_memory(alloc, size)
+        } else {
+            if !may_hold::<T>(size) {
+                return Err(AllocError);
+            }
+            Owner::allocate(alloc, size)?
+        };
+        Ok(HeapSlots {
+            ptr,
+            mask: size.wrapping_sub(1),
+            owner,
+            deed,
+            alloc,
+        })
     }
 
     /// Puts an item into an empty slot.
@@ -68,7 +75,7 @@ impl<T: Drop> HeapSlots<T> {
         requires { IsEmptyAt self.old place }
         ensures { self.new ≡ changed self.old place (Some item) }
     {
-        unsafe { self.ptr.add(place).write(item) }
+        self.owner.put(self.ptr, place, item);
     }
 
     /// Takes the item out of a full slot.
@@ -78,7 +85,7 @@ impl<T: Drop> HeapSlots<T> {
         ensures value { slot_at self.old place ≡ Some result }
         ensures after { self.new ≡ changed self.old place None }
     {
-        unsafe { self.ptr.add(place).read() }
+        self.owner.take(self.ptr, place)
     }
 
     /// The item of a full slot.
@@ -87,7 +94,16 @@ impl<T: Drop> HeapSlots<T> {
         requires { IsFullAt self.now place }
         ensures { slot_at self.now place ≡ Some result.now }
     {
-        unsafe { &*self.ptr.add(place) }
+        &self.owner.run(self.ptr, place, 1)[0]
+    }
+
+    /// The items of slots side by side, which are all full.
+    #[inline]
+    pub fn run(&self, from: usize, len: usize) -> &[T]
+        requires { IsFullRun self.now.slots from len }
+        ensures { HoldsRun self.now.slots from len result.now }
+    {
+        self.owner.run(self.ptr, from, len)
     }
 
     /// The item of a full slot, for writing.
@@ -97,7 +113,8 @@ impl<T: Drop> HeapSlots<T> {
         ensures* writes_back { sem 𝓛 (lends_item T.row self.entry place result) }
         ensures value { slot_at self.old place ≡ Some result.now }
     {
-        unsafe { &mut *self.ptr.add(place) }
+        let ptr = self.ptr;
+        self.owner.get_mut(ptr, place)
     }
 }
 
@@ -110,57 +127,22 @@ impl<T> HeapSlots<T> {
         self.mask.wrapping_add(1)
     }
 
-    // Empty slots that need no memory, since items have no size. Their pointer is aligned as items are.
-    fn without_memory(alloc: Global, mask: usize) -> HeapSlots<T>
-        requires { type_size T.row ≡ 0 }
-        ensures { result ≡ record { slots = replicate ((mask + 1) % 2 ^ 64) None; changes = 0 } }
+    /// Ends slots that are all empty, and gives their block back, if they have one.
+    pub fn free(self)
+        requires { self.slots ≡ replicate (length self.slots) None }
     {
-        let none: &[T; 0] = &[];
-        HeapSlots {
-            ptr: none as *const [T; 0] as *mut T,
-            mask,
-            alloc,
-        }
-    }
-
-    // Empty slots in a new block.
-    fn in_block(alloc: Global, size: usize, mask: usize) -> Result<HeapSlots<T>, AllocError>
-        requires size { size ≡ (mask + 1) % 2 ^ 64 }
-        requires fits { FitsInBlock T.row size }
-        requires sized { 0 < type_size T.row }
-        ensures { IfOk result (λ s. s ≡ record { slots = replicate size None; changes = 0 }) }
-    {
-        match alloc.allocate(size * size_of::<T>(), align_of::<T>()) {
-            Ok(block) => Ok(HeapSlots {
-                ptr: block as *mut T,
-                mask,
-                alloc,
-            }),
-            Err(error) => Err(error),
-        }
-    }
-
-    // Lets the slots go where they have no block.
-    fn forget(self) {
-        let HeapSlots {
-            ptr: _,
-            mask: _,
-            alloc: _,
-        } = self;
-    }
-
-    // Gives the block back. `size` is the number of slots.
-    fn free_block(self, size: usize)
-        requires sized { 0 < type_size T.row }
-        requires size { size ≡ length self.slots }
-    {
+        let size = HeapSlots::size(&self);
         let HeapSlots {
             ptr,
             mask: _,
+            owner,
+            deed,
             alloc,
         } = self;
-        unsafe {
-            alloc.deallocate(ptr as *mut u8, size * size_of::<T>(), align_of::<T>());
+        if item_size::<T>() == 0 {
+            Owner::let_go(owner, deed);
+        } else {
+            Owner::deallocate(alloc, ptr, size, owner, deed);
         }
     }
 }
@@ -183,18 +165,6 @@ fn may_hold<T>(size: usize) -> bool
     match size.checked_mul(bytes) {
         Some(all) => all <= isize::MAX as usize,
         None => false,
-    }
-}
-
-// The block is given back once. What the slots hold is forgotten, so their owner takes it out first.
-impl<T> Drop for HeapSlots<T> {
-    fn drop(self) {
-        if item_size::<T>() == 0 {
-            self.forget();
-        } else {
-            let size = HeapSlots::size(&self);
-            self.free_block(size);
-        }
     }
 }
 

@@ -2,6 +2,7 @@
 #![tactic(auto)]
 
 mod array;
+mod block;
 mod change_count;
 mod heap;
 mod place;

@@ -51,6 +51,14 @@ pub trait RingSlots<T: Drop>: Sized {
         ensures value { slot_at (seen self.old) place ≡ Some result }
         ensures after { seen self.new ≡ changed (seen self.old) place None };
 
+    /// Takes the item out of a full slot, and drops it.
+    fn discard(&mut self, place: usize)
+        requires { IsFullAt (seen self.old) place }
+        ensures { seen self.new ≡ changed (seen self.old) place None }
+    {
+        drop(self.take(place));
+    }
+
     /// The item of a full slot.
     fn get(&self, place: usize) -> &T
         requires { IsFullAt (seen self.now) place }

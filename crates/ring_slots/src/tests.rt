@@ -38,6 +38,7 @@ fn heap_slots_hold_items(rt: HostRuntime) -> Result<(), AllocError> {
     assert_eq!(rt; slots.take(0), "a");
     slots.put(1, "d");
     assert_eq!(rt; slots.take(1), "d");
+    slots.free();
     Ok(())
 }
 
@@ -49,15 +50,17 @@ fn items_may_have_no_size(rt: HostRuntime) -> Result<(), AllocError> {
     let mut heap = HeapSlots::new(rt.alloc(), 3)?;
     heap.put(2, ());
     assert_eq!(rt; heap.take(2), ());
+    heap.free();
     Ok(())
 }
 
 // More bytes than there are could be asked for, but none are.
 #[test]
-fn items_without_size_need_no_memory(rt: HostRuntime) {
+fn items_without_size_need_no_memory(rt: HostRuntime) -> Result<(), AllocError> {
     for size in [1, 1 << 32, 1 << 63, usize::MAX] {
-        assert!(rt; HeapSlots::<()>::new(rt.alloc(), size).is_ok());
+        HeapSlots::<()>::new(rt.alloc(), size)?.free();
     }
+    Ok(())
 }
 
 #[test]
@@ -66,6 +69,7 @@ fn items_without_size_may_be_aligned(rt: HostRuntime) -> Result<(), AllocError> 
     slots.put(1, []);
     assert_eq!(rt; slots.get(1).len(), 0);
     assert_eq!(rt; slots.take(1).len(), 0);
+    slots.free();
     Ok(())
 }
 
@@ -73,13 +77,16 @@ fn items_without_size_may_be_aligned(rt: HostRuntime) -> Result<(), AllocError> 
 fn too_many_bytes_are_refused(rt: HostRuntime) {
     let cases = [1 << 63, (1 << 63) - 1, 1 << 61, 1 << 60, usize::MAX];
     for size in cases {
-        assert!(rt; HeapSlots::<u64>::new(rt.alloc(), size).is_err());
+        if let Ok(slots) = HeapSlots::<u64>::new(rt.alloc(), size) {
+            slots.free();
+            assert!(rt; false);
+        }
     }
 }
 
 #[test]
 fn no_slots_take_no_items(rt: HostRuntime) -> Result<(), AllocError> {
-    let _none = HeapSlots::<u64>::new(rt.alloc(), 0)?;
+    HeapSlots::<u64>::new(rt.alloc(), 0)?.free();
     Ok(())
 }
 
@@ -96,6 +103,7 @@ fn items_keep_their_places(rt: HostRuntime) -> Result<(), AllocError> {
     assert_eq!(rt; slots.take(3), [9, 10, 11]);
     assert_eq!(rt; slots.take(0), [0, 1, 2]);
     assert_eq!(rt; slots.take(1), [3, 4, 50]);
+    slots.free();
     Ok(())
 }
 
@@ -110,7 +118,7 @@ fn an_item_that_was_taken_is_dropped_once(rt: HostRuntime) -> Result<(), AllocEr
     drop(first);
     assert_eq!(rt; drops.get(), 1);
     let _second = slots.take(1);
-    drop(slots);
+    slots.free();
     assert_eq!(rt; drops.get(), 1);
     Ok(())
 }

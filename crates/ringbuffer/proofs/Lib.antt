@@ -1,4 +1,5 @@
 pub mod Conversions
+pub mod Poured
 pub use Rattle.ring_core.proofs.Drained
 pub use Rattle.ring_core.proofs.Items
 pub use Rattle.ring_core.proofs.Limits

@@ -25,7 +25,6 @@ use std::ops::{Index, IndexMut};
 /// A ring of at most `CAP` items, which lie in the value itself. It takes no memory of its own.
 ///
 /// A contract sees its items, oldest first, how often its slots were changed, and its capacity, which is `CAP`.
-#[derive(Drop)]
 pub struct ConstGenericRingBuffer<T, const CAP: usize> {
     ring: Fixed<T, ArraySlots<T, CAP>>,
 }
@@ -60,6 +59,14 @@ impl<T: Drop, const CAP: usize> ConstGenericRingBuffer<T, CAP> {
         ensures { result ≡ record { items = []; changes = 0; capacity = CAP } }
     {
         Self::new()
+    }
+}
+
+impl<T: Drop, const CAP: usize> Drop for ConstGenericRingBuffer<T, CAP> {
+    // Items are dropped oldest first.
+    fn drop(self) {
+        let ConstGenericRingBuffer { mut ring } = self;
+        ring.clear();
     }
 }
 
@@ -134,6 +141,13 @@ impl<T: Drop, const CAP: usize> RingBuffer<T> for ConstGenericRingBuffer<T, CAP>
     fn fill_with<F: FnMut() -> T + Drop>(&mut self, make: F) -> Result<(), AllocError> {
         self.ring.fill_with(make, CAP);
         Ok(())
+    }
+
+    fn fill(&mut self, value: T) -> Result<(), AllocError>
+    where
+        T: Clone,
+    {
+        self.ring.fill(value, CAP)
     }
 
     #[inline]

@@ -1,8 +1,9 @@
 //! The ring without a limit, over a deque.
 
-ghost use Rattle.std.specs.Prelude.{◌≡◌, ◌%◌, ◌<◌, [], ◌∷◌, IfOk, None, Some, length, refl, slice_get, slice_set};
+ghost use Rattle.std.specs.Prelude.{◌≡◌, ◌↔◌, ◌%◌, ◌<◌, [], ◌∷◌, ◌++◌, All, IfOk, IsSome, List, MatchResult, None, Some, length, refl, slice_get, slice_set};
 ghost use Rattle.std.specs.Borrow.{sem};
 ghost use Rattle.std.specs.Cmp.Lexicographic.{lists_per, pointwise};
+ghost use Rattle.std.specs.Iterator.{Drains, IsFinite, YieldsThen};
 ghost use Rattle.std.specs.List.{AllZip};
 ghost use Rattle.std.proofs.lemmas.Cmp.{lists_equiv};
 ghost use Rattle.ring_core.specs.Walk.{ReadsInOrder, ReadsInReverse, StartsOver, into_iter_to_come, iterator_to_come};
@@ -17,6 +18,7 @@ use ring_fixed::position::{position, signed_position};
 use std::alloc::{AllocError, Global};
 use std::collections::VecDeque;
 use std::marker::Model;
+use std::mem;
 use std::ops::{Index, IndexMut};
 
 /// A ring buffer without a limit: it keeps every item, and grows as a `VecDeque` does.
@@ -86,6 +88,69 @@ impl<T: Drop> GrowableAllocRingBuffer<T> {
     }
 }
 
+impl<T: Drop> GrowableAllocRingBuffer<T> {
+    // Takes out all items with their memory.
+    fn take_vec(&mut self) -> Vec<T>
+        ensures items { result.items ≡ self.old }
+        ensures none { self.new ≡ [] }
+    {
+        let alloc = *self.deque.allocator();
+        mem::replace(&mut self.deque, VecDeque::new(alloc)).into_vec()
+    }
+
+    // Pushes what a source gives, one at a time.
+    fn push_each<I: Iterator<Item = T> + Drop>(&mut self, items: I) -> Result<(), AllocError>
+        requires { I.can_next items × IsFinite (I.remaining items) }
+        ensures { (xs : List T) × (self.new ≡ self.old ++ xs)
+            × MatchResult result (λ _. Drains I.next_gives items xs)
+            (λ _. (x : T) × (after : I) × YieldsThen I.next_gives items xs (Some x) after) }
+    {
+        for item in items {
+            if let Err(_) = self.push(item) {
+                return Err(AllocError);
+            }
+        }
+        Ok(())
+    }
+}
+
+// Puts what a source gives behind the items of a vector while there is room. Returns the source, and the item that found
+// none. The vector is a value here and not behind a reference, so that its fields stay in registers.
+fn pour<T, I: Iterator<Item = T>>(vec: Vec<T>, items: I) -> (Vec<T>, I, Option<T>)
+    requires { I.can_next items × IsFinite (I.remaining items) }
+    ensures { (xs : List T) × (result.0.items ≡ vec.items ++ xs)
+        × YieldsThen I.next_gives items xs result.2 result.1
+        × (IsSome result.2 → I.can_next result.1 × IsFinite (I.remaining result.1)) }
+{
+    let mut vec = vec;
+    let mut items = items;
+    while let Some(item) = items.next() {
+        if vec.len() == vec.capacity() {
+            return (vec, items, Some(item));
+        }
+        vec.push_reserved(item);
+    }
+    (vec, items, None)
+}
+
+// Fills the room of an empty vector with clones.
+fn clones<T: Clone + Drop>(items: Vec<T>, value: T) -> (Vec<T>, Result<(), AllocError>)
+    requires { items.items ≡ [] }
+    ensures { All (T.is_clone value) result.0.items }
+{
+    let mut items = items;
+    for _ in 0..items.capacity() {
+        if items.len() == items.capacity() {
+            break;
+        }
+        match value.clone() {
+            Ok(item) => items.push_reserved(item),
+            Err(error) => return (items, Err(error)),
+        }
+    }
+    (items, Ok(()))
+}
+
 impl<T: Drop> RingBuffer<T> for GrowableAllocRingBuffer<T> {
     ghost contents = { λ ring. ring };
 
@@ -120,12 +185,24 @@ impl<T: Drop> RingBuffer<T> for GrowableAllocRingBuffer<T> {
     where
         I::IntoIter: Drop,
     {
-        for item in items {
-            if let Err(_) = self.push(item) {
-                return Err(AllocError);
-            }
+        let items = items.into_iter();
+        let least = items.size_hint().0;
+        // A vector takes items in fewer steps, but the old items may have to move for it: it is worth it where as many
+        // new ones come.
+        if least < self.deque.len() {
+            return self.push_each(items);
         }
-        Ok(())
+        let mut room = self.take_vec();
+        let _ = room.reserve(least);
+        let (filled, rest, over) = pour(room, items);
+        self.deque = VecDeque::from_vec(filled);
+        let Some(item) = over else {
+            return Ok(());
+        };
+        if let Err(_) = self.push(item) {
+            return Err(AllocError);
+        }
+        self.push_each(rest)
     }
 
     fn dequeue(&mut self) -> Option<T> {
@@ -136,15 +213,23 @@ impl<T: Drop> RingBuffer<T> for GrowableAllocRingBuffer<T> {
         self.deque.clear();
     }
 
-    fn fill_with<F: FnMut() -> T + Drop>(&mut self, mut make: F) -> Result<(), AllocError> {
+    fn fill_with<F: FnMut() -> T + Drop>(&mut self, make: F) -> Result<(), AllocError> {
         self.deque.clear();
-        for _ in 0..self.deque.capacity() {
-            let item = make();
-            if let Err(_) = self.push(item) {
-                return Err(AllocError);
-            }
-        }
-        Ok(())
+        let mut items = self.take_vec();
+        let capacity = items.capacity();
+        let filled = items.resize_with(capacity, make);
+        self.deque = VecDeque::from_vec(items);
+        filled
+    }
+
+    fn fill(&mut self, value: T) -> Result<(), AllocError>
+    where
+        T: Clone,
+    {
+        self.deque.clear();
+        let (items, filled) = clones(self.take_vec(), value);
+        self.deque = VecDeque::from_vec(items);
+        filled
     }
 
     fn get(&self, index: usize) -> Option<&T> {
@@ -167,6 +252,15 @@ impl<T: Drop> RingBuffer<T> for GrowableAllocRingBuffer<T> {
 }
 
 impl<T: Drop> GrowableAllocRingBuffer<T> {
+    /// The items in two slices, oldest first, as they lie in the deque.
+    #[inline]
+    pub fn as_slices(&self) -> (&[T], &[T])
+        ensures items { result.0.now ++ result.1.now ≡ self.now }
+        ensures first { (0 < length result.0.now) ↔ (0 < length self.now) }
+    {
+        self.deque.as_slices()
+    }
+
     /// A walk over the items, oldest first, from either end.
     #[inline]
     pub fn iter(&self) -> RingBufferIterator<'_, T, Self>

@@ -1,5 +1,5 @@
 //! The ring on the heap.
-ghost use Rattle.std.specs.Prelude.{◌≡◌, ◌^◌, ◌<◌, ◌≤◌, [], ◌∷◌, ◌++◌, length, refl, ◌&&◌, nat_eq, IfOk, IsErr, IsOk, Some, slice_get};
+ghost use Rattle.std.specs.Prelude.{◌≡◌, ◌↔◌, ◌+◌, ◌^◌, ◌<◌, ◌≤◌, [], ◌∷◌, ◌++◌, length, refl, ◌&&◌, nat_eq, IfOk, IsErr, IsOk, Some, slice_get};
 ghost use Rattle.std.specs.Borrow.{Lends, sem};
 ghost use Rattle.std.specs.Int.{IsNextPowerOfTwo};
 ghost use Rattle.std.specs.Cmp.{and_per, on_per, partial_equiv_from_equiv};
@@ -12,16 +12,18 @@ ghost use Rattle.ring_fixed.specs.View.{after_push, after_write};
 
 mod convert;
 
+use core::mem::replace_with;
 use ring_core::{
     RingBuffer, RingBufferDrainingIterator, RingBufferIntoIterator, RingBufferIterator,
     RingBufferMutIterator,
 };
 use ring_fixed::fixed::Fixed;
-use ring_fixed::shared::{extend_cloned, same_items};
+use ring_fixed::shared::same_items;
 use ring_slots::{HeapSlots, RingSlots};
 use std::alloc::{AllocError, Global};
 use std::marker::Model;
 use std::ops::{Index, IndexMut};
+use std::vec::VecCloneMethods;
 
 const GREATEST_POWER_OF_TWO: usize = 1 << (usize::BITS - 1);
 
@@ -106,11 +108,11 @@ impl<T: Drop> AllocRingBuffer<T> {
 impl<T: Drop> Drop for AllocRingBuffer<T> {
     fn drop(self) {
         let AllocRingBuffer {
-            mut ring,
+            ring,
             capacity: _,
             alloc: _,
         } = self;
-        ring.clear();
+        ring.into_slots().free();
     }
 }
 
@@ -170,7 +172,7 @@ impl<T: Drop> RingBuffer<T> for AllocRingBuffer<T> {
     where
         I::IntoIter: Drop,
     {
-        self.ring.extend(items, self.capacity);
+        replace_with(&mut self.ring, (items, self.capacity), Fixed::extended);
         Ok(())
     }
 
@@ -184,8 +186,34 @@ impl<T: Drop> RingBuffer<T> for AllocRingBuffer<T> {
     }
 
     fn fill_with<F: FnMut() -> T + Drop>(&mut self, make: F) -> Result<(), AllocError> {
-        self.ring.fill_with(make, self.capacity);
+        replace_with(&mut self.ring, (make, self.capacity), Fixed::filled_with);
         Ok(())
+    }
+
+    fn fill(&mut self, value: T) -> Result<(), AllocError>
+    where
+        T: Clone,
+    {
+        replace_with(&mut self.ring, (value, self.capacity), Fixed::filled)
+    }
+
+    fn to_vec(&self, alloc: Global) -> Result<Vec<T>, AllocError>
+    where
+        T: Clone,
+    {
+        let (first, second) = self.as_slices();
+        let mut items = Vec::with_capacity(alloc, self.len())?;
+        VecCloneMethods::extend_from_slice(&mut items, first)?;
+        VecCloneMethods::extend_from_slice(&mut items, second)?;
+        Ok(items)
+    }
+
+    fn contains(&self, x: &T) -> bool
+    where
+        T: PartialEq,
+    {
+        let (first, second) = self.as_slices();
+        first.contains(x) || second.contains(x)
     }
 
     #[inline]
@@ -255,6 +283,16 @@ impl<T: Drop> IndexMut<usize> for AllocRingBuffer<T> {
 }
 
 impl<T: Drop> AllocRingBuffer<T> {
+    /// The items in two slices, oldest first: those up to the end of the block, and those that go on at its beginning.
+    /// The second is empty where the items don't reach the end.
+    #[inline]
+    pub fn as_slices(&self) -> (&[T], &[T])
+        ensures items { result.0.now ++ result.1.now ≡ self.now.items }
+        ensures first { (0 < length result.0.now) ↔ (0 < length self.now.items) }
+    {
+        self.ring.as_slices()
+    }
+
     /// A walk over the items, oldest first, from either end.
     #[inline]
     pub fn iter(&self) -> RingBufferIterator<'_, T, Self>
@@ -337,8 +375,19 @@ impl<T: Clone + Drop> AllocRingBuffer<T> {
         ensures capacity { IfOk result (λ ring. ring.capacity ≡ self.now.capacity) }
     {
         let _held = self.len();
-        let mut ring = Self::new(self.alloc, self.capacity)?;
-        extend_cloned(&mut ring, self.iter())?;
+        Self::of_clones(self.alloc, self.capacity, self.as_slices())
+    }
+
+    // A ring of this capacity, of clones of the items of two slices in order.
+    fn of_clones(alloc: Global, capacity: usize, items: (&[T], &[T])) -> Result<Self, AllocError>
+        requires capacity { 0 < capacity }
+        requires within { length items.0.now + length items.1.now ≤ capacity }
+        ensures items { IfOk result
+            (λ ring. AllZip T.is_clone (items.entry.0.now ++ items.entry.1.now) ring.items) }
+        ensures capacity { IfOk result (λ ring. ring.capacity ≡ capacity) }
+    {
+        let mut ring = Self::new(alloc, capacity)?;
+        replace_with(&mut ring.ring, items, Fixed::cloned_from)?;
         Ok(ring)
     }
 }

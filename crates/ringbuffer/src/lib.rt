@@ -11,5 +11,6 @@ pub use grow::GrowableAllocRingBuffer;
 pub use heap::AllocRingBuffer;
 pub use ring_core::{
     Command, Refused, Reply, RingBuffer, RingBufferDrainingIterator, RingBufferIntoIterator,
-    RingBufferIterator, RingBufferMutIterator, RunFault, Stopped, apply, run, run_into, runs_join,
+    RingBufferIterator, RingBufferMutIterator, RunFault, Stopped, apply, move_all, run, run_into,
+    runs_join,
 };

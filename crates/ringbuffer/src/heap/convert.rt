@@ -9,7 +9,7 @@ use crate::array::ConstGenericRingBuffer;
 use crate::grow::GrowableAllocRingBuffer;
 use crate::heap::AllocRingBuffer;
 use ring_core::RingBuffer;
-use ring_fixed::shared::{extend_cloned, extend_somes};
+use ring_fixed::shared::extend_somes;
 use std::alloc::{AllocError, Global};
 use std::collections::{LinkedList, VecDeque};
 
@@ -158,9 +158,7 @@ impl<T: Clone + Drop> AllocRingBuffer<T> {
         requires { 0 < length items.now }
         ensures { IfOk result (λ ring. ClonesMeet T.is_clone items.now (λ ys. HoldsAll ys ring)) }
     {
-        let mut ring = Self::new(alloc, items.len())?;
-        extend_cloned(&mut ring, items.iter())?;
-        Ok(ring)
+        Self::of_clones(alloc, items.len(), (items, &[]))
     }
 
     /// As `from_slice`. The slice is as it was.

@@ -1,7 +1,7 @@
 use Rattle.std.proofs.Common.{[], ◌∷◌, ◌++◌, refl, sym, ap, ◌∙◌, append_assoc, append-nil}
 use Rattle.std.proofs.lemmas.List.{map-append}
 use Rattle.ring_core.specs.Contents.{keep_last}
-use Rattle.ring_core.proofs.Items.{AllZip-append}
+use Rattle.std.proofs.lemmas.List.Elements.{AllZip-push}
 use Rattle.ring_core.proofs.Limits.{keep_last-keep_last, keep_last_within}
 use Rattle.ring_fixed.proofs.shared.extend_cloned.Goals as goal
 
@@ -20,7 +20,7 @@ loop-item-preserved g c =
       c.push_item.ensures.limit ∙ same,
       (
         ys ++ made ∷ [],
-        rw map-append (AllZip-append _ _ _ _ _ clones c.in_ok-clone.ensures.cases),
+        rw map-append (AllZip-push _ _ _ _ _ clones c.in_ok-clone.ensures.cases),
         c.in_ok-push_item.ensures.contents ∙ rw (same, kept, keep_last-keep_last limit (old ++ ys) (made ∷ []), append_assoc old ys (made ∷ [])) refl,
       ),
     )

@@ -1,4 +1,4 @@
--- So far the items that the source gave are after_push.
+-- So far the items that the source gave are pushed.
 use Rattle.std.proofs.Common.{◌≡◌, ◌≤◌, length}
 use Rattle.ring_fixed.specs.View.{after_extend}
 use Rattle.ring_fixed.specs.Layout.{view_from, LaysOut}
@@ -10,7 +10,7 @@ invariant-loop-item g l =
     record {
       can_next : (goal.iterator-loop-item g).can_next l.item-iterator;
       ends : (goal.iterator-loop-item g).is_finite l.item-iterator;
-      LaysOut-items : LaysOut g.S.RingSlots.is_size (g.S.RingSlots.seen l.initial.self.slots) (g.S.RingSlots.seen l.self.slots) l.start now;
+      lays_out : LaysOut g.S.RingSlots.is_size (g.S.RingSlots.seen l.initial.self.slots) (g.S.RingSlots.seen l.self.slots) l.start now;
       len : l.len ≡ length now.items;
       within : l.len ≤ l.fn.capacity;
     }

@@ -1,16 +1,16 @@
 use Rattle.std.proofs.Common.{[], ◌∷◌, ◌++◌, arith, of_calls, length-append}
 use Rattle.std.proofs.lemmas.Fn.{FoldsTo-push}
-use Rattle.ring_fixed.specs.View.{after_put}
-use Rattle.ring_fixed.proofs.RepeatedSteps.{after_puts, after_puts-more}
+use Rattle.ring_fixed.specs.View.{after_put, after_puts}
+use Rattle.ring_fixed.proofs.RepeatedSteps.{after_puts-more}
 use Rattle.ring_fixed.proofs.LaysOut.{LaysOut-then}
 use Rattle.ring_fixed.proofs.fixed.Fixed.fill_with.Goals as goal
 
 -- One more answer is put.
 pub loop-len-preserved : goal.loop-len-preserved
 loop-len-preserved g c =
-    let (xs, calls, long, LaysOut-items) = c.loop-len.invariant.put in
+    let (xs, calls, long, lays_out) = c.loop-len.invariant.put in
     let x = c.make.result in
-    let more = LaysOut-then (λ v. after_put v x) LaysOut-items c.put_after.ensures in
+    let more = LaysOut-then (λ v. after_put v x) lays_out c.put_next.ensures in
     record {
       callable = search of_calls;
       start = c.loop-len.invariant.start;
@@ -20,6 +20,7 @@ loop-len-preserved g c =
 -- The items of before are dropped, and then the answers put.
 pub returns : goal.returns
 returns g c =
-    let (xs, calls, long, LaysOut-items) = c.loop-len.invariant.put in
-    let after = LaysOut-then (after_puts xs) c.clear.ensures.0 LaysOut-items in
+    let (xs, calls, long, lays_out) = c.loop-len.invariant.put in
+    let cleared = rw c.clear.ensures.start at c.clear.ensures.after.0 in
+    let after = LaysOut-then (after_puts xs) cleared lays_out in
     (xs, c.loop-len.make, calls, omega arith, (rw c.loop-len.invariant.start after, omega arith))

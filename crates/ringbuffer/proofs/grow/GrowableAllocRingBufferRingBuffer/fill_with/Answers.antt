@@ -1,9 +1,7 @@
-use Rattle.std.proofs.Common.{of_calls}
-use Rattle.std.proofs.lemmas.Fn.{FoldsTo-push}
+use Rattle.std.proofs.Common.{◌∙◌}
+use Rattle.ringbuffer.proofs.Poured.{filled_by}
 use Rattle.ringbuffer.proofs.grow.GrowableAllocRingBufferRingBuffer.fill_with.Goals as goal
 
-pub returns-in-Err-clause-made : goal.returns-in-Err-clause-made
-returns-in-Err-clause-made g c = (c.loop.make, rw c.in-Err.ensures.err.1 c.loop.invariant.1)
-
-pub loop-preserved : goal.loop-preserved
-loop-preserved g c = (search of_calls, rw c.in_default.ensures.ok (FoldsTo-push _ c.args.make c.loop.self c.loop.make c.make-item.result c.make-item.new.self c.loop.invariant.1 c.make-item.ensures))
+pub returns-clause-made : goal.returns-clause-made
+returns-clause-made g c =
+    rw c.from_vec.ensures.items (filled_by _ c.resize_with-filled.result _ _ _ _ c.args.make (c.take_vec-items.ensures.items ∙ c.clear.ensures.items) c.capacity-capacity.ensures c.resize_with-filled.ensures.items c.resize_with-filled.ensures.full)

@@ -1,8 +1,7 @@
-use Rattle.std.proofs.Common.{arith, rules}
-use Rattle.std.proofs.lemmas.Iterator.Consumers.{YieldsList-from_first}
-use Rattle.ring_core.specs.Walk.{into_iter_to_come}
+use Rattle.std.proofs.Common.{Some, arith, rules}
+use Rattle.ring_core.proofs.Drained.{YieldsList-unpacked}
 use Rattle.ringbuffer.proofs.Conversions.{all_made}
 use Rattle.ringbuffer.proofs.heap.AllocRingBuffer.from_const.Goals as goal
 
 pub returns : goal.returns
-returns g c = all_made c.holding.result _ c.holding.ensures (search rules) (omega arith) (λ it from. YieldsList-from_first (λ x. x) (into_iter_to_come (λ r. r.items)) _ from)
+returns g c = all_made c.holding.result _ c.holding.ensures (search rules) (omega arith) (λ it from. YieldsList-unpacked (λ r. r.items) (λ r. Some g.row.CAP) (λ r. r.changes) it _ from)

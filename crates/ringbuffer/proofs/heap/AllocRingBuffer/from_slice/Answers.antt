@@ -1,16 +1,17 @@
-use Rattle.std.proofs.Common.{◌≡◌, Some, ap, arith}
-use Rattle.std.proofs.lemmas.Iterator.{YieldsList-from_slice}
+use Rattle.std.proofs.Common.{◌≡◌, ◌++◌, [], List, length, refl, sym, subst, append-nil, ◌∙◌}
+use Rattle.std.specs.Prelude.{IfOk, Result, Ok, Err}
+use Rattle.std.specs.List.{AllZip}
 use Rattle.std.proofs.lemmas.Slice.Zip.{AllZip-long}
 use Rattle.ring_fixed.specs.View.{View}
-use Rattle.ringbuffer.proofs.Conversions.{all_kept, ClonesMeet-drained}
+use Rattle.ringbuffer.specs.Conversion.{ClonesMeet, HoldsAll}
 use Rattle.ringbuffer.proofs.heap.AllocRingBuffer.from_slice.Goals as goal
 
+-- the second slice is empty
+of_one_slice : {X E : Type 0} (is_clone : X → X → Type 0) (xs : List X) (made : Result (View X) E) → IfOk made (λ ring. AllZip is_clone (xs ++ []) ring.items)
+    → IfOk made (λ ring. ring.capacity ≡ length xs) → IfOk made (λ ring. ClonesMeet is_clone xs (λ ys. HoldsAll ys ring))
+of_one_slice is_clone xs (Ok ring) clones room =
+    let all = subst (λ l. AllZip is_clone l ring.items) (append-nil xs) clones in (ring.items, all, (refl, room ∙ sym (AllZip-long is_clone xs ring.items all)))
+of_one_slice is_clone xs (Err e) clones room = tt
+
 pub returns : goal.returns
-returns g c =
-    let (ys, clones, kept) = ClonesMeet-drained c.in_ok-extend_cloned.ensures.items (YieldsList-from_slice _ c.iter.ensures.rest) in
-    let made = c.in_ok-ring.ensures.made in
-    let room = ap (λ (r : View _). r.capacity) made in
-    let limit : Some c.extend_cloned.new.ring.capacity ≡ Some c.in_ok-ring.ring.capacity = c.in_ok-extend_cloned.ensures.limit in
-    let long = AllZip-long _ c.args.items.now ys clones in
-    let same : c.extend_cloned.new.ring.capacity ≡ c.in_ok-ring.ring.capacity = cc in
-    (ys, clones, (all_kept c.in_ok-ring.ring.capacity (ap (λ (r : View _). r.items) made) kept (omega (arith, long, room)), omega (arith, same, room, long)))
+returns g c = of_one_slice g.T.Clone.is_clone c.args.items.now c.of_clones.result c.of_clones.ensures.items c.of_clones.ensures.capacity

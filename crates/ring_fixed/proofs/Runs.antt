@@ -1,0 +1,79 @@
+-- The items of a ring are two runs of full slots: those up to the last slot, and those that go on at the first.
+use Rattle.std.proofs.Common.{◌≡◌, ℕ, zero, suc, ◌+◌, ◌-◌, ◌%◌, ◌<◌, ◌≤◌, List, [], ◌∷◌, ◌++◌, length, map, take, drop, get_or, Option, None, Some, inl, inr, refl, sym, ap, ◌∙◌, arith}
+use Rattle.std.specs.Prelude.{slice_get, min}
+use Rattle.std.proofs.Math.Nat.{mod-eq_of_lt}
+use Rattle.std.proofs.lemmas.List.{ext_get_or, get_or-take, get_or-drop, length-map, length-take, length-drop, take-append-drop}
+use Rattle.ring_slots.specs.Slots.{Slots, HoldsRun, IsFullRun}
+use Rattle.ring_fixed.specs.Layout.{items_from, IsLaidOut}
+use Rattle.ring_fixed.proofs.SlotsHold.{wrap}
+
+module _ {X : Type 0} where
+  get_or-map_some : (xs : List X) (k : ℕ) → get_or (map Some xs) k None ≡ slice_get xs k
+  get_or-map_some [] k = refl
+  get_or-map_some (x ∷ xs) zero = refl
+  get_or-map_some (x ∷ xs) (suc k) = get_or-map_some xs k
+
+  slice_get-take : (n : ℕ) (xs : List X) (k : ℕ) → k < n → slice_get (take n xs) k ≡ slice_get xs k
+  slice_get-take zero xs k low = absurd (omega arith)
+  slice_get-take (suc n) [] k low = refl
+  slice_get-take (suc n) (x ∷ xs) zero low = refl
+  slice_get-take (suc n) (x ∷ xs) (suc k) low = slice_get-take n xs k (omega arith)
+
+  slice_get-drop : (n : ℕ) (xs : List X) (k : ℕ) → slice_get (drop n xs) k ≡ slice_get xs (n + k)
+  slice_get-drop zero xs k = ap (λ i. slice_get xs i) {x = k} {y = 0 + k} (omega arith)
+  slice_get-drop (suc n) [] k = refl
+  slice_get-drop (suc n) (x ∷ xs) k = slice_get-drop n xs k ∙ ap (λ i. slice_get (x ∷ xs) i) {x = suc (n + k)} {y = suc n + k} (omega arith)
+
+  -- items that are known one by one are a run
+  run_of : (cs : List (Option X)) (from : ℕ) (xs : List X) → from + length xs ≤ length cs → ((k : ℕ) → k < length xs → get_or cs (from + k) None ≡ slice_get xs k)
+      → take (length xs) (drop from cs) ≡ map Some xs
+  run_of cs from xs fit reads =
+      let n = length xs in
+      let part = take n (drop from cs) in
+      let long : length part ≡ n = omega (arith, length-take n (drop from cs), length-drop from cs) in
+      ext_get_or None part (map Some xs) (omega (arith, length-map xs Some)) (λ k low.
+      get_or-take n (drop from cs) k None (omega arith) ∙ get_or-drop from cs k None ∙ reads k (omega arith) ∙ sym (get_or-map_some xs k))
+
+  known : List (Option X) → List X
+  known [] = []
+  known (None ∷ cs) = known cs
+  known (Some x ∷ cs) = x ∷ known cs
+
+  known-map : (xs : List X) → known (map Some xs) ≡ xs
+  unfolding known
+  known-map [] = refl
+  known-map (x ∷ xs) = ap (λ l. x ∷ l) (known-map xs)
+
+  -- a run holds one list of items
+  run_is : (cs : List (Option X)) (from n : ℕ) (xs ys : List X) → HoldsRun cs from n xs → HoldsRun cs from n ys → xs ≡ ys
+  run_is cs from n xs ys holds holds' = sym (known-map xs) ∙ ap known (sym holds ∙ holds') ∙ known-map ys
+
+module _ {X : Type 0} {P : ℕ → Type 0} (s : Slots X) (start : ℕ) (laid_out : IsLaidOut P s start) (len first : ℕ)
+    (counted : len ≡ length (items_from s.slots start)) (least : first ≡ min len (length s.slots - start)) where
+  abbrev items : List X
+  items = items_from s.slots start
+
+  pub first_run : IsFullRun s.slots start first
+  first_run =
+      let within = laid_out.start_within in
+      let xs = take first items in
+      let long : length xs ≡ first = omega (arith, length-take first items) in
+      let reads = λ (k : ℕ) (low : k < length xs).
+      let near : start + k < length s.slots = omega arith in
+      ap (λ place. get_or s.slots place None) (sym (mod-eq_of_lt near)) ∙ laid_out.layout k (omega arith) ∙ sym (slice_get-take first items k (omega arith)) in
+      (omega arith, (xs, rw long at (run_of s.slots start xs (omega arith) reads)))
+
+  pub second_run : IsFullRun s.slots 0 (len - first)
+  second_run =
+      let within = laid_out.start_within in let fit = laid_out.fit in
+      let xs = drop first items in
+      let long : length xs ≡ len - first = omega (arith, length-drop first items) in
+      let reads = λ (k : ℕ) (low : k < length xs).
+      let round : (start + (first + k)) % length s.slots ≡ 0 + k = elim (wrap start (first + k) (length s.slots) within (omega arith)) [ inl a ↦ omega arith | inr a ↦ omega arith ] in
+      ap (λ place. get_or s.slots place None) (sym round) ∙ laid_out.layout (first + k) (omega arith) ∙ sym (slice_get-drop first items k) in
+      (omega arith, (xs, rw long at (run_of s.slots 0 xs (omega arith) reads)))
+
+  pub both_runs : (xs ys : List X) → HoldsRun s.slots start first xs → HoldsRun s.slots 0 (len - first) ys → xs ++ ys ≡ items
+  unfolding first_run second_run
+  both_runs xs ys before after =
+      rw (run_is s.slots start first xs (take first items) before first_run.1.1, run_is s.slots 0 (len - first) ys (drop first items) after second_run.1.1) (take-append-drop first items)

@@ -1,0 +1,54 @@
+use Rattle.std.proofs.Common.{◌≡◌, ℕ, ◌++◌, [], List, subst, ap, arith, refl, length, length-append, sym, ◌∙◌}
+use Rattle.std.specs.Prelude.{IsOk, Result}
+use Rattle.ring_core.proofs.Items.{AllZip-join}
+use Rattle.ring_slots.specs.Slots.{Slots}
+use Rattle.ring_fixed.specs.View.{View, after_puts}
+use Rattle.ring_fixed.specs.Layout.{view_from, items_from, IsLaidOut, LaysOut}
+use Rattle.ring_fixed.proofs.LaysOut.{LaysOut-then, restart}
+use Rattle.ring_fixed.proofs.RepeatedSteps.{after_puts-then}
+use Rattle.ring_fixed.proofs.fixed.Fixed.cloned_from.Goals as goal
+
+-- an empty ring may begin at the first slot
+begun : {X : Type 0} {P : ℕ → Type 0} (s : Slots X) (start : ℕ) → IsLaidOut P s start → items_from s.slots start ≡ [] → LaysOut P s s 0 (view_from s start)
+begun s start laid_out none = restart s s start (view_from s start) (record { laid_out = laid_out; same_size = refl; shows = refl }) none
+
+pub put_clones-len-requires-clause-laid_out : goal.put_clones-len-requires-clause-laid_out
+put_clones-len-requires-clause-laid_out g c = (begun _ _ c.requires.sound.0 c.requires.empty).laid_out
+
+pub put_clones-len-requires-clause-len : goal.put_clones-len-requires-clause-len
+put_clones-len-requires-clause-len g c =
+    let shows = (begun _ _ c.requires.sound.0 c.requires.empty).shows in
+    sym (ap (λ (v : View _). length v.items) shows ∙ ap (λ (l : List _). length l) c.requires.empty)
+
+-- Clones of a beginning of the first slice.
+pub returns-in-Err : goal.returns-in-Err
+returns-in-Err g c =
+    let (ys, of, counted, few, lays_out) = c.put_clones-len.ensures in
+    let all = LaysOut-then (after_puts ys) (begun _ _ c.requires.sound.0 c.requires.empty) lays_out in
+    (ys, (λ ok. cc), omega (arith, few), (all, omega (arith, counted, length-append (items_from (g.S.RingSlots.seen c.args.self.slots).slots c.args.self.start) ys, ap (λ (l : List _). length l) c.requires.empty)))
+
+-- The second slice goes on behind the clones of the first.
+pub put_clones-len-requires-2-clause-len : goal.put_clones-len-requires-2-clause-len
+put_clones-len-requires-2-clause-len g c =
+    let (ys, of, counted, few, lays_out) = c.put_clones-len.ensures in
+    let all = LaysOut-then (after_puts ys) (begun _ _ c.requires.sound.0 c.requires.empty) lays_out in
+    omega (arith, counted, ap (λ (v : View _). length v.items) all.shows, length-append (items_from (g.S.RingSlots.seen c.args.self.slots).slots c.args.self.start) ys, ap (λ (l : List _). length l) c.requires.empty)
+
+pub put_clones-len-requires-2-clause-room : goal.put_clones-len-requires-2-clause-room
+put_clones-len-requires-2-clause-room g c =
+    let (ys, of, counted, few, lays_out) = c.put_clones-len.ensures in
+    omega (arith, counted, few, lays_out.same_size, c.requires.room)
+
+pub returns : goal.returns
+returns g c =
+    let (ys, of, counted, few, lays_out) = c.put_clones-len.ensures in
+    let (zs, of_more, counted_more, few_more, lays_out_more) = c.put_clones-len-2.ensures in
+    let old = view_from (g.S.RingSlots.seen c.args.self.slots) c.args.self.start in
+    let all = LaysOut-then (after_puts ys) (begun _ _ c.requires.sound.0 c.requires.empty) lays_out in
+    let both = LaysOut-then (after_puts zs) all lays_out_more in
+    let made : IsOk c.put_clones-len.result.1 = subst (λ (r : Result _ _). IsOk r) (sym c.in_default.is) refl in (
+      ys ++ zs,
+      (λ ok. AllZip-join g.T.Clone.is_clone _ _ _ _ (of made) (of_more ok)),
+      omega (arith, few, few_more, length-append ys zs),
+      (rw (after_puts-then ys zs old) at both, omega (arith, counted, counted_more, length-append old.items (ys ++ zs), length-append ys zs, ap (λ (l : List _). length l) c.requires.empty)),
+    )

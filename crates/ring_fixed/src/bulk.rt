@@ -1,0 +1,305 @@
+//! The calls of a ring of a fixed capacity that put or drop many items.
+ghost use Rattle.std.specs.Prelude.{◌≡◌, ◌+◌, ◌-◌, ◌%◌, ◌<◌, ◌≤◌, [], ◌++◌, All, IsOk, List, MatchResult, length};
+ghost use Rattle.std.specs.Iterator.{Drains, IsFiniteIterable};
+ghost use Rattle.std.specs.List.{AllZip, FoldsTo};
+ghost use Rattle.ring_fixed.specs.View.{after_put, after_puts, after_takes, after_push, after_extend, after_clear, after_fill};
+ghost use Rattle.ring_fixed.specs.Layout.{EndsBefore, IsLaidOut, LaysOut, LaysOutBefore, start_before, view_before, view_from};
+
+use crate::fixed::Fixed;
+use ring_slots::RingSlots;
+use std::alloc::AllocError;
+
+impl<T: Drop, S: RingSlots<T>> Fixed<T, S> {
+    ghost use Rattle.ring_fixed.specs.fixed.Sound.{view_of, IsSound, ChangesTo};
+
+    /// Drops the first items, as many as `count` says.
+    pub fn drop_first(&mut self, count: usize)
+        requires sound { IsSound S.seen S.is_size self.old }
+        requires some { count ≤ length (view_of S.seen self.old).items }
+        ensures { ChangesTo S.seen S.is_size self.old self.new
+            (after_takes count (view_of S.seen self.old)) }
+    {
+        let start = self.start;
+        Self::drop_from(&mut self.slots, start, count);
+        self.start = self.slots.place(start, count);
+        self.len -= count;
+    }
+
+    /// Drops all items. The ring begins at the first slot then.
+    pub fn clear(&mut self)
+        requires { IsSound S.seen S.is_size self.old }
+        ensures after { ChangesTo S.seen S.is_size self.old self.new
+            (after_clear (view_of S.seen self.old)) }
+        ensures start { self.new.start ≡ 0 }
+    {
+        self.drop_first(self.len);
+        self.start = 0;
+    }
+
+    /// Pushes the items of a source that ends, in order.
+    pub fn extend<I: IntoIterator<Item = T>>(&mut self, items: I, capacity: usize)
+    where
+        I::IntoIter: Drop,
+        requires ends { IsFiniteIterable I.into_iter_gives I.IntoIter.can_next I.IntoIter.remaining
+            items }
+        requires sound { IsSound S.seen S.is_size self.old }
+        requires some { 0 < capacity }
+        requires within { length (view_of S.seen self.old).items ≤ capacity }
+        requires room { capacity ≤ (view_of S.seen self.old).capacity }
+        ensures { (it : I.IntoIter) × (xs : List T) × I.into_iter_gives items it
+            × Drains I.IntoIter.next_gives it xs
+            × ChangesTo S.seen S.is_size self.old self.new
+            (after_extend capacity (view_of S.seen self.old) xs) }
+    {
+        let mut start = self.start;
+        let mut len = self.len;
+        for item in items {
+            let old;
+            (start, len, old) = Self::push_from(&mut self.slots, start, len, item, capacity);
+            drop(old);
+        }
+        self.start = start;
+        self.len = len;
+    }
+
+    /// Drops all items, and pushes as many answers of `make` as the capacity says. An item counts once it is stored.
+    pub fn fill_with<F: FnMut() -> T + Drop>(&mut self, mut make: F, capacity: usize)
+        requires callable { F.IsAlwaysCallable make }
+        requires sound { IsSound S.seen S.is_size self.old }
+        requires room { capacity ≤ (view_of S.seen self.old).capacity }
+        ensures { (xs : List T) × (last : F) × FoldsTo F.step make xs last × (length xs ≡ capacity)
+            × ChangesTo S.seen S.is_size self.old self.new
+            (after_fill (view_of S.seen self.old) xs) }
+    {
+        self.clear();
+        for len in 0..capacity {
+            Self::put_next(&mut self.slots, len, make());
+        }
+        self.len = capacity;
+    }
+
+    /// Drops all items, and pushes as many clones of `value` as the capacity says. Where a clone is refused, those
+    /// before it stay.
+    pub fn fill(&mut self, value: T, capacity: usize) -> Result<(), AllocError>
+    where
+        T: Clone,
+        requires sound { IsSound S.seen S.is_size self.old }
+        requires room { capacity ≤ (view_of S.seen self.old).capacity }
+        ensures { (xs : List T) × All (T.is_clone value) xs
+            × MatchResult result (λ _. length xs ≡ capacity) (λ _. length xs < capacity)
+            × ChangesTo S.seen S.is_size self.old self.new
+            (after_fill (view_of S.seen self.old) xs) }
+    {
+        self.clear();
+        for len in 0..capacity {
+            let Ok(item) = value.clone() else {
+                self.len = len;
+                return Err(AllocError);
+            };
+            Self::put_next(&mut self.slots, len, item);
+        }
+        self.len = capacity;
+        Ok(())
+    }
+
+    // Puts clones behind the last item of a ring that begins at the first slot, side by side. Returns the length after
+    // them. Where a clone is refused, those before it stay.
+    #[inline]
+    fn put_clones(slots: &mut S, len: usize, items: &[T]) -> (usize, Result<(), AllocError>)
+    where
+        T: Clone,
+        requires laid_out { IsLaidOut S.is_size (S.seen slots.old) 0 }
+        requires len { len ≡ length (view_from (S.seen slots.old) 0).items }
+        requires room { len + length items.now ≤ length (S.seen slots.old).slots }
+        ensures { (ys : List T) × (IsOk result.1 → AllZip T.is_clone items.now ys)
+            × (result.0 ≡ len + length ys) × (length ys ≤ length items.now)
+            × LaysOut S.is_size (S.seen slots.old) (S.seen slots.new) 0
+            (after_puts ys (view_from (S.seen slots.old) 0)) }
+    {
+        // A number of slots is a word, and so is each place.
+        let _size = slots.size();
+        for i in 0..items.len() {
+            let Ok(item) = items[i].clone() else {
+                return (len + i, Err(AllocError));
+            };
+            Self::put_next(slots, len + i, item);
+        }
+        (len + items.len(), Ok(()))
+    }
+
+    // Drops the first items, in one run of slots or, where they reach the last slot, in two.
+    #[inline]
+    fn drop_from(slots: &mut S, start: usize, count: usize)
+        requires laid_out { IsLaidOut S.is_size (S.seen slots.old) start }
+        requires some { count ≤ length (view_from (S.seen slots.old) start).items }
+        ensures { LaysOut S.is_size (S.seen slots.old) (S.seen slots.new)
+            ((start + count) % length (S.seen slots.old).slots)
+            (after_takes count (view_from (S.seen slots.old) start)) }
+    {
+        let first = count.min(slots.size() - start);
+        Self::drop_run(slots, start, start + first);
+        if count == first {
+            return;
+        }
+        Self::drop_run(slots, 0, count - first);
+    }
+
+    // Drops the items of slots side by side, which are the first of the ring.
+    #[inline]
+    fn drop_run(slots: &mut S, from: usize, to: usize)
+        requires laid_out { IsLaidOut S.is_size (S.seen slots.old) from }
+        requires some { to - from ≤ length (view_from (S.seen slots.old) from).items }
+        requires places { (from ≤ to) × (to ≤ length (S.seen slots.old).slots) }
+        ensures { LaysOut S.is_size (S.seen slots.old) (S.seen slots.new)
+            (to % length (S.seen slots.old).slots)
+            (after_takes (to - from) (view_from (S.seen slots.old) from)) }
+    {
+        for place in from..to {
+            slots.discard(place);
+        }
+    }
+
+    // Puts an item after the last of a ring that begins at the first slot, so that a loop of these goes straight on.
+    #[inline]
+    fn put_next(slots: &mut S, len: usize, item: T)
+        requires laid_out { IsLaidOut S.is_size (S.seen slots.old) 0 }
+        requires len { len ≡ length (view_from (S.seen slots.old) 0).items }
+        requires room { len < length (S.seen slots.old).slots }
+        ensures { LaysOut S.is_size (S.seen slots.old) (S.seen slots.new) 0
+            (after_put (view_from (S.seen slots.old) 0) item) }
+    {
+        slots.put(len, item);
+    }
+
+    // Pushes an item onto `len` items that end before a place, which a loop of these needs in place of their start.
+    // Returns the place and the length after it. The item that gives way is dropped.
+    #[inline]
+    fn push_before(
+        slots: &mut S,
+        end: usize,
+        len: usize,
+        item: T,
+        capacity: usize,
+    ) -> (usize, usize)
+        requires ends { EndsBefore S.is_size (S.seen slots.old) end len }
+        requires some { 0 < capacity }
+        requires within { len ≤ capacity }
+        requires room { capacity ≤ length (S.seen slots.old).slots }
+        ensures { LaysOutBefore S.is_size (S.seen slots.old) (S.seen slots.new) result.0 result.1
+            (after_push capacity (view_before (S.seen slots.old) end len) item) }
+    {
+        let next = slots.next(end);
+        if len == capacity {
+            let start = Self::start_of(slots, end, len);
+            let (_, old) = Self::take_from(slots, start);
+            slots.put(end, item);
+            drop(old);
+            (next, len)
+        } else {
+            slots.put(end, item);
+            (next, len + 1)
+        }
+    }
+
+    // Where `len` items start that end before a place.
+    #[inline]
+    fn start_of(slots: &S, end: usize, len: usize) -> usize
+        requires size { S.is_size (length (S.seen slots.now).slots) }
+        requires end { end < length (S.seen slots.now).slots }
+        requires len { len ≤ length (S.seen slots.now).slots }
+        ensures { result ≡ start_before (S.seen slots.now) end len }
+    {
+        let size = slots.size();
+        if len == size {
+            end
+        } else {
+            slots.place(end, size - len)
+        }
+    }
+}
+
+// The same on a ring that is held by value. Their loops keep its fields in registers: behind a `&mut` the compiler can't
+// tell the fields from an item's slot, and reads each of them again after each item that is stored.
+impl<T: Drop, S: RingSlots<T>> Fixed<T, S> {
+    ghost use Rattle.ring_fixed.specs.fixed.Sound.{view_of, IsSound, ChangesTo};
+
+    /// `extend`, counted from the place after the last item. On a ring whose every slot is full that place is the start,
+    /// and a ring in an array does better with `extend`.
+    pub fn extended<I: IntoIterator<Item = T>>(mut self, given: (I, usize)) -> (Self, ())
+    where
+        I::IntoIter: Drop,
+        requires ends { IsFiniteIterable I.into_iter_gives I.IntoIter.can_next I.IntoIter.remaining
+            given.0 }
+        requires sound { IsSound S.seen S.is_size self }
+        requires some { 0 < given.1 }
+        requires within { length (view_of S.seen self).items ≤ given.1 }
+        requires room { given.1 ≤ (view_of S.seen self).capacity }
+        ensures { (it : I.IntoIter) × (xs : List T) × I.into_iter_gives given.0 it
+            × Drains I.IntoIter.next_gives it xs
+            × ChangesTo S.seen S.is_size self result.0
+            (after_extend given.1 (view_of S.seen self) xs) }
+    {
+        let (items, capacity) = given;
+        let mut len = self.len;
+        let mut end = self.slots.place_after(self.start, len);
+        for item in items {
+            (end, len) = Self::push_before(&mut self.slots, end, len, item, capacity);
+        }
+        self.start = Self::start_of(&self.slots, end, len);
+        self.len = len;
+        (self, ())
+    }
+
+    /// `fill_with`.
+    pub fn filled_with<F: FnMut() -> T + Drop>(mut self, given: (F, usize)) -> (Self, ())
+        requires callable { F.IsAlwaysCallable given.0 }
+        requires sound { IsSound S.seen S.is_size self }
+        requires room { given.1 ≤ (view_of S.seen self).capacity }
+        ensures { (xs : List T) × (last : F) × FoldsTo F.step given.0 xs last
+            × (length xs ≡ given.1)
+            × ChangesTo S.seen S.is_size self result.0 (after_fill (view_of S.seen self) xs) }
+    {
+        let (make, capacity) = given;
+        self.fill_with(make, capacity);
+        (self, ())
+    }
+
+    /// `fill`.
+    pub fn filled(mut self, given: (T, usize)) -> (Self, Result<(), AllocError>)
+    where
+        T: Clone,
+        requires sound { IsSound S.seen S.is_size self }
+        requires room { given.1 ≤ (view_of S.seen self).capacity }
+        ensures { (xs : List T) × All (T.is_clone given.0) xs
+            × MatchResult result.1 (λ _. length xs ≡ given.1) (λ _. length xs < given.1)
+            × ChangesTo S.seen S.is_size self result.0 (after_fill (view_of S.seen self) xs) }
+    {
+        let (value, capacity) = given;
+        let filled = self.fill(value, capacity);
+        (self, filled)
+    }
+
+    /// An empty ring with clones of the items of two slices, in order. Where a clone is refused, those before it stay.
+    pub fn cloned_from(mut self, items: (&[T], &[T])) -> (Self, Result<(), AllocError>)
+    where
+        T: Clone,
+        requires sound { IsSound S.seen S.is_size self }
+        requires empty { (view_of S.seen self).items ≡ [] }
+        requires room { length items.0.now + length items.1.now ≤ (view_of S.seen self).capacity }
+        ensures { (ys : List T)
+            × (IsOk result.1 → AllZip T.is_clone (items.entry.0.now ++ items.entry.1.now) ys)
+            × (length ys ≤ length items.entry.0.now + length items.entry.1.now)
+            × ChangesTo S.seen S.is_size self result.0 (after_puts ys (view_of S.seen self)) }
+    {
+        let (first, second) = items;
+        self.start = 0;
+        let (len, made) = Self::put_clones(&mut self.slots, 0, first);
+        self.len = len;
+        if let Err(error) = made {
+            return (self, Err(error));
+        }
+        let (len, made) = Self::put_clones(&mut self.slots, len, second);
+        self.len = len;
+        (self, made)
+    }
+}

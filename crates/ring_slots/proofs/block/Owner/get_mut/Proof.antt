@@ -1,0 +1,73 @@
+-- The item is lent apart from the rest, which closes round any item that is written.
+use Rattle.ring_slots.proofs.Walk.{◌≡◌, refl, sym, subst, ◌∙◌, List, [], ◌∷◌, ◌++◌, ℕ, ◌+◌, ◌*◌, ◌^◌, ◌<◌, length, get_or, length-set, Fn, a_type, named, inst_fn, Val, vptr, Ura, full_share, SProp, ent, sep, Fml, GName, ftrue, fsep, fat, flft, WpFn, Logic, sem, ‵, raw, ◌⊛◌, some, later, prop, at_ret, ◌$◌, ◌∵◌, !, qed, move, keep, drop, use1, use2, pick, split, split3, join, fsplit, fsplit3, fjoin, fjoin3, fpack, feq_l, flt_i, flt_l, rewrite, regoal, suffices, frame, group, await, done, stop, addr, of_opd, bin, size_lit, first, blocks, exec, returns, enter, alloc_all, pass_all, free_all, look_at, get, through, sets, sets_last, take_at, give_at, env, ◌⊑◌, fact, tables, usize, yes, no, follows, lends_Part, mem, cell_at, part_of, layouts, RattleType, Ptr, RawPtr, block_ptr, ptr_val, MutRef, plain, mut_ref_to, nothing, heard, says, Stays, stay_dropped, Goes-dropped, Goes-spent_ref, walk_of, ends_at, Option, Some, None, IsSome, type_size, after, proved_at}
+use mir.Syntax.{ty_ptr}
+use Rattle.ring_slots.specs.block.Lends.{with_slot}
+use Rattle.ring_slots.specs.block.Memory.{slot, row, owned}
+use Rattle.ring_slots.proofs.SlotsInMemory.{item_of, full_within, place_fits, others, slot_out, slot_in}
+use Rattle.ring_slots.proofs.Parts.{R, Seen, Mark, AreSmall, pointer_good, slots_opened}
+use Rattle.ring_slots.specs.contracts.block.Owner.get_mut as contract
+use Rattle.ring_slots.proofs.block.Owner.get_mut.Statement.{statement}
+use Rattle.ring_slots.proofs.block.Owner.get_mut.Code as code
+
+abbrev stayed : (X : RattleType) → Stays (contract.ended X).signature.params (contract.ended X).kept
+stayed X = (stay_dropped (mut_ref_to (0 ∷ []) tt (plain (λ _. Seen X))) no, (stay_dropped (plain (λ _. RawPtr)) yes, (stay_dropped (plain (λ _. usize)) yes, tt)))
+
+module _ (X : RattleType) {M : Type 1} {𝓤 : Ura M} (𝓛 : Logic 𝓤) (d : (Seen X).Denot) (us : List Val) (b o rb ro place : ℕ) where
+  -- all but the item
+  abbrev Rest : Fml
+  Rest = fsep (others X b o d.slots place) (fsep ((Mark X).own_val (tt, tt) us) (cell_at full_share (Seen X).mir us rb ro))
+
+  back : d.at ≡ block_ptr b o → AreSmall X d → place < length d.slots
+      → (w : X.Denot) → ent 𝓤 (sep 𝓤 (sem 𝓛 ((mem (R X)).own_at w b (place * type_size (R X) + o))) (sem 𝓛 Rest)) (sem 𝓛 ((mem (Seen X)).own_at (with_slot d place (Some w)) rb ro))
+  unfolding part_of
+  back lies fit within w =
+      let new = with_slot d place (Some w) in
+      qed 𝓛 (‵ (slot (R X) b (place * type_size (R X) + o) (Some w)) ∷ ‵ Rest ∷ []) ∵ move ! (1 ∷ []) $ fsplit3 ! $ move ! (3 ∷ 0 ∷ []) $
+      use2 𝓛 (‵ (row (R X) b o new.slots)) (slot_in X b 𝓛 d.slots place o (Some w) within) $
+      flt_i ! (length new.slots * type_size (R X)) (2 ^ 63) (subst (λ (k : ℕ). k * type_size (R X) < 2 ^ 63) (sym (length-set d.slots place (Some w))) fit) $ fjoin ! $
+      rewrite ! 0 (λ (p : Ptr). ‵ (owned (R X) p new.slots)) (sym lies) refl $ move ! (1 ∷ 0 ∷ []) $ fjoin ! $
+      move ! (1 ∷ 0 ∷ []) $ fjoin ! $ fpack ! (List Val) (λ vs. fsep (cell_at full_share (Seen X).mir vs rb ro) ((Seen X).own_val new vs)) us $ done !
+
+pub get_mut_spec : {M : Type 1} → statement M
+get_mut_spec 𝓤 𝓛 𝓜 𝓡 wired X L =
+    let clauses = contract.clauses X 𝓛 𝓜.mem 𝓡.returns in
+    let given = layouts (a_type ∷ []) (X, tt) in let fn : Fn = inst_fn given code.function in
+    let 𝓣 = tables 𝓤 𝓛.H 𝓜 𝓡 𝓡.env in
+    proved_at 𝓛 (contract.ended X) (stayed X) clauses 𝓜 𝓡
+    (Goes-spent_ref 𝓛 2 (0 ∷ []) tt (plain (λ _. Seen X)), (Goes-dropped 𝓛 2 (plain (λ _. RawPtr)) yes (λ κs x w. refl), (Goes-dropped 𝓛 2 (plain (λ _. usize)) yes (λ κs x w. refl), tt)))
+    (contract.Key.name given) fn (code.unfolded 𝓤 𝓛.H 𝓜 𝓡 wired (X, tt)) (λ y _.
+    let κs = y.0.0 in let qs = y.0.1 in let a = y.0.3 in let vss = y.0.4 in let κ = κs.0 in let q = qs.0 in let γ = a.0.ghost_name in
+    let rb = a.0.ref_ptr.0 in let ro = a.0.ref_ptr.1 in let d = a.0.now in let ptr = a.1.0 in let place = a.1.1.0 in let bytes = type_size (R X) in
+    let Post : Val → SProp 𝓤 = (walk_of 𝓛 (contract.ended X) (stayed X) clauses).post y in
+    qed 𝓛 (((‵ (flft κ q) ⊛ ‵ (flft κs.1.0 qs.1.0) ⊛ ‵ ftrue)
+    ⊛ ‵ ((MutRef (named 0) κ (Seen X)).own_val a.0 vss.0) ⊛ ‵ (RawPtr.own_val ptr vss.1.0) ⊛ ‵ (usize.own_val place vss.1.1.0) ⊛ ‵ ftrue)
+    ∷ (raw (fact 𝓤 (κs.1.0 ⊑ X.lives)) ⊛ raw (fact 𝓤 ((ptr ≡ d.at) × IsSome (get_or d.slots place None)))) ∷ []) ∵
+    move ! (1 ∷ []) $ split ! $ drop ! $ heard ! _ (λ full.
+    split ! $ split ! $ move ! (2 ∷ []) $ split3 ! $ fsplit3 ! $ feq_l ! (λ refers.
+    move ! (2 ∷ []) $ feq_l ! (λ pointed. move ! (2 ∷ []) $ split ! $ fsplit ! $ feq_l ! (λ placed. flt_l ! (λ fits.
+    regoal ! (λ (ws : List Val × List Val × List Val). prop (WpFn 𝓤 𝓛.H 𝓣.C 𝓣.Λ fn (ws.0 ++ (ws.1 ++ (ws.2 ++ []))) Post)) (λ i. (refers i, pointed i, placed i)) refl $
+    keep ! (1 ∷ 2 ∷ 3 ∷ 4 ∷ []) $
+    enter ! _ _ _ _ _ $ alloc_all ! (λ l. pass_all ! refl ((tt, tt), (pointer_good ptr, ((tt, record { fits = fits }), tt))) $
+    slots_opened X ! tt d rb ro (λ us b o lies fit.
+    let held = item_of (get_or d.slots place None) full.1 in let x : X.Denot = held.0 in
+    let within = full_within d.slots place x held.1 in
+    let near = place_fits place (length d.slots) bytes within fit in
+    let at : ℕ = place * bytes + o in
+    let rest = Rest X 𝓛 d us b o rb ro place in let way = back X 𝓛 d us b o rb ro place lies fit within in
+    let new = λ (w : X.Denot). with_slot d place (Some w) in let was = (Seen X).coded.code d in
+    take_at ! 2 $ rewrite ! 0 (λ (p : Ptr). ‵ (fat full_share ty_ptr (l 2) 0 (ptr_val p))) (full.0 ∙ lies) refl $ give_at ! 2 $
+    first ! $ blocks ! $
+    sets ! (bin ! (get ! refl) (size_lit ! (record { fits = near.0 })) (record { fits = near.1 })) refl (tt, record { fits = near.1 }) $
+    sets ! (bin ! (get ! refl) (get ! refl) tt) refl (tt, tt) $
+    sets_last ! (addr ! (through ! refl (stop !))) refl (tt, tt) $
+    exec ! 𝓣.C 𝓣.Λ (env fn.locals l) (after 1 fn.body) (at_ret _ Post) $ sets ! (of_opd ! (get ! refl)) refl (tt, tt) $
+    use1 𝓛 (‵ (slot (R X) b at (get_or d.slots place None)) ⊛ ‵ (others X b o d.slots place)) (slot_out X b 𝓛 d.slots place o within) $ split ! $
+    rewrite ! 0 (λ (c : Option X.Denot). ‵ (slot (R X) b at c)) held.1 refl $
+    -- [the item; the other slots; the mark; its cell; the open borrow, in three entries; the other tokens]
+    move ! (1 ∷ 2 ∷ 3 ∷ []) $ fjoin3 ! $ move ! (2 ∷ 3 ∷ 4 ∷ 1 ∷ 0 ∷ []) $ group ! 5 $
+    use1 𝓛 (later (some (λ (δ : GName). ‵ ((MutRef (named 0) κ (R X)).own_val (record { ref_ptr = (b, at); ghost_name = δ; now = x }) (vptr b at ∷ [])) ⊛ ‵ (flft κ q) ⊛ ‵ (follows (Seen X) (R X) γ δ new))))
+    (lends_Part 𝓛 (Seen X) (R X) new (named 0) κ q rb ro b at γ (sem 𝓛 rest) way was was x) $ await ! tt $ pick ! (λ δ. split3 ! $
+    returns ! (look_at ! 0 refl) $ free_all ! refl $
+    suffices ! _ (ends_at 𝓛 (contract.ended X) (stayed X) clauses y (vptr b at) (record { ref_ptr = (b, at); ghost_name = δ; now = x }) (tt, (tt, (tt, tt))) (tt, (tt, (tt, tt)))) $
+    -- [the reference; its token; what the slots end as; the other tokens]
+    move ! (1 ∷ 3 ∷ []) $ join ! $ nothing ! $ nothing ! $ join ! $ nothing ! $ join ! $ nothing ! $ join ! $ move ! (1 ∷ 0 ∷ 2 ∷ []) $ group ! 3 $ frame ! $ says ! held.1 $ done !)))))))))

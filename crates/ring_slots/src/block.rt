@@ -1,0 +1,144 @@
+//! A block of memory that slots lie in.
+ghost use Rattle.std.specs.Prelude.{◌≡◌, ◌<◌, ℕ, List, Option, length, replicate, slice_index_or, None, Some, IsSome, IfOk, ⊤};
+ghost use Rattle.std.specs.Borrow.{sem};
+ghost use Rattle.std.specs.Mem.{type_size};
+ghost use Rattle.std.specs.Vec.Ownership.{FitsInBlock};
+ghost use base.Fml.{ftrue};
+ghost use denote.RawPtr.{Ptr};
+ghost use Rattle.std.specs.declared.alloc.Global as heap;
+ghost use Rattle.ring_slots.specs.Slots.{HoldsRun, IsFullRun};
+ghost use Rattle.ring_slots.specs.block.Memory.{owned, lent, right};
+
+use std::alloc::{AllocError, Allocator, Global};
+use std::marker::{Model, PhantomData};
+use std::mem::{align_of, size_of};
+use std::slice;
+
+/// The owner of the slots that lie side by side from a pointer on. It takes no bytes, and whoever calls it brings the
+/// pointer along.
+pub(crate) struct Owner<T> {
+    mark: PhantomData<*const T>,
+    pub(crate) ghost at: { Ptr },
+    pub(crate) ghost slots: { List (Option T) },
+    pub(crate) ghost changes: { ℕ },
+}
+
+impl<T> Model for Owner<T> {
+    ghost also_owns = { λ s. owned T.row s.at s.slots };
+
+    ghost also_shares = { λ s _ κ. lent T.row s.at s.slots κ };
+}
+
+/// The right to give back the block of so many slots. It takes no bytes, and ends in no other way than with its block.
+pub(crate) struct Deed<T> {
+    mark: PhantomData<*const T>,
+    pub(crate) ghost at: { Ptr },
+    pub(crate) ghost len: { ℕ },
+    pub(crate) ghost alloc: { heap.Global },
+}
+
+impl<T> Model for Deed<T> {
+    ghost also_owns = { λ d. right T.row d.alloc d.at d.len };
+
+    ghost also_shares = { λ _ _ _. ftrue };
+}
+
+impl<T> Owner<T> {
+    ghost use Rattle.ring_slots.specs.block.Block.{IsDeedOf, IsNewBlock};
+    ghost use Rattle.ring_slots.specs.block.Lends.{lends_slot, with_slot};
+
+    /// Empty slots in a new block.
+    pub(crate) fn allocate(
+        alloc: Global,
+        size: usize,
+    ) -> Result<(*mut T, Owner<T>, Deed<T>), AllocError>
+        requires fits { FitsInBlock T.row size }
+        requires sized { 0 < type_size T.row }
+        ensures { IfOk result (λ r. IsNewBlock alloc size r.0 r.1 r.2) }
+    {
+        match alloc.allocate(size * size_of::<T>(), align_of::<T>()) {
+            Ok(block) => Ok((
+                block as *mut T,
+                Owner { mark: PhantomData },
+                Deed { mark: PhantomData },
+            )),
+            Err(error) => Err(error),
+        }
+    }
+
+    /// Empty slots that need no memory, since items have no size. Their pointer is aligned as items are.
+    pub(crate) fn without_memory(alloc: Global, size: usize) -> (*mut T, Owner<T>, Deed<T>)
+        requires { type_size T.row ≡ 0 }
+        ensures { IsNewBlock alloc size result.0 result.1 result.2 }
+    {
+        let none: &[T; 0] = &[];
+        (
+            none as *const [T; 0] as *mut T,
+            Owner { mark: PhantomData },
+            Deed { mark: PhantomData },
+        )
+    }
+
+    /// Ends empty slots that have no block.
+    pub(crate) fn let_go(owner: Owner<T>, deed: Deed<T>)
+        requires sized { type_size T.row ≡ 0 }
+        requires empty { owner.slots ≡ replicate (length owner.slots) None }
+    {
+        let Owner { mark: _ } = owner;
+        let Deed { mark: _ } = deed;
+    }
+
+    /// Gives a block back, of which every slot is empty.
+    pub(crate) fn deallocate(
+        alloc: Global,
+        ptr: *mut T,
+        size: usize,
+        owner: Owner<T>,
+        deed: Deed<T>,
+    )
+        requires sized { 0 < type_size T.row }
+        requires empty { owner.slots ≡ replicate size None }
+        requires deed { IsDeedOf alloc ptr owner deed }
+    {
+        let Owner { mark: _ } = owner;
+        let Deed { mark: _ } = deed;
+        unsafe {
+            alloc.deallocate(ptr as *mut u8, size * size_of::<T>(), align_of::<T>());
+        }
+    }
+
+    #[inline]
+    pub(crate) fn put(&mut self, ptr: *mut T, place: usize, item: T)
+        requires { (ptr ≡ self.old.at) × (place < length self.old.slots) × (slice_index_or self.old.slots place None ≡ None) }
+        ensures { self.new ≡ with_slot self.old place (Some item) }
+    {
+        unsafe { ptr.add(place).write(item) }
+    }
+
+    #[inline]
+    pub(crate) fn take(&mut self, ptr: *mut T, place: usize) -> T
+        requires { (ptr ≡ self.old.at) × IsSome (slice_index_or self.old.slots place None) }
+        ensures value { slice_index_or self.old.slots place None ≡ Some result }
+        ensures after { self.new ≡ with_slot self.old place None }
+    {
+        unsafe { ptr.add(place).read() }
+    }
+
+    /// The items of slots side by side, which are all full.
+    #[inline]
+    pub(crate) fn run(&self, ptr: *mut T, from: usize, len: usize) -> &[T]
+        requires { (ptr ≡ self.now.at) × IsFullRun self.now.slots from len }
+        ensures { HoldsRun self.now.slots from len result.now }
+    {
+        unsafe { slice::from_raw_parts(ptr.add(from), len) }
+    }
+
+    #[inline]
+    pub(crate) fn get_mut(&mut self, ptr: *mut T, place: usize) -> &mut T
+        requires { (ptr ≡ self.old.at) × IsSome (slice_index_or self.old.slots place None) }
+        ensures* writes_back { sem 𝓛 (lends_slot T.row self.entry place result) }
+        ensures value { slice_index_or self.old.slots place None ≡ Some result.now }
+    {
+        unsafe { &mut *ptr.add(place) }
+    }
+}

@@ -1,0 +1,32 @@
+-- What a source gave in two parts, and what a vector holds that was filled by calls.
+use Rattle.std.proofs.Common.{◌≡◌, ℕ, zero, suc, ◌<◌, List, [], ◌∷◌, ◌++◌, take, Option, Some, refl, sym, ap, subst, ◌∙◌, arith}
+use Rattle.std.specs.Prelude.{Result, Ok, Err, OnOk, OnErr, MatchResult}
+use Rattle.std.specs.Iterator.{Yields, YieldsThen, Drains}
+use Rattle.std.specs.List.{AppendsResults, FoldsTo}
+
+module _ {S A : Type 0} (steps : S → Option A → S → Type 0) where
+  -- calls that gave xs, then one item, and then ys
+  yields_on : (s t u v : S) (xs : List A) (x : A) (ys : List A) → Yields steps s xs t → steps t (Some x) u → Yields steps u ys v → Yields steps s (xs ++ x ∷ ys) v
+  yields_on s t u v [] x ys first one later = (u, subst (λ w. steps w (Some x) u) (sym first) one, later)
+  yields_on s t u v (z ∷ xs) x ys first one later = (first.0, first.1, yields_on first.0 t u v xs x ys first.2 one later)
+
+  -- a part, an item, and all that comes after it or a part of that
+  pub both_parts : {E : Type 0} (s u : S) (xs ys : List A) (x : A) (r : Result (Unit {0}) E) → YieldsThen steps s xs (Some x) u
+      → MatchResult r (λ _. Drains steps u ys) (λ _. (y : A) × (after : S) × YieldsThen steps u ys (Some y) after)
+      → MatchResult r (λ _. Drains steps s (xs ++ x ∷ ys)) (λ _. (y : A) × (after : S) × YieldsThen steps s (xs ++ x ∷ ys) (Some y) after)
+  both_parts s u xs ys x (Ok done) first later =
+      let all = later.1 in (later.0, (all.0, yields_on s first.0 u all.0 xs x ys first.1 first.2 all.1, all.2))
+  both_parts s u xs ys x (Err e) first later =
+      let part = later.2 in (later.0, later.1, (part.0, yields_on s first.0 u part.0 xs x ys first.1 first.2 part.1, part.2))
+
+take_none : {A : Type 0} (n : ℕ) → take {A = A} n [] ≡ []
+take_none zero = refl
+take_none (suc n) = refl
+
+-- what was empty and is filled by calls holds their answers
+pub filled_by : {F X E : Type 0} (step : F → X → F → Type 0) (r : Result (Unit {0}) E) (old new : List X) (n room : ℕ) (f : F) → old ≡ [] → n ≡ room
+    → OnOk r (AppendsResults step (take n old) new f) → OnErr r (room < n) → (last : F) × FoldsTo step f new last
+filled_by step (Ok done) old new n room f none all made full =
+    let is : new ≡ made.0 = made.2 ∙ ap (λ (l : List _). take n l ++ made.0) none ∙ ap (λ (l : List _). l ++ made.0) (take_none n) in
+    (made.1, subst (λ (l : List _). FoldsTo step f l made.1) (sym is) made.3)
+filled_by step (Err e) old new n room f none all made full = absurd (omega (arith, full, all))

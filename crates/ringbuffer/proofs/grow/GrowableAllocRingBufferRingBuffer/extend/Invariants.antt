@@ -1,6 +1,0 @@
-use Rattle.std.proofs.Common.{◌≡◌, ◌++◌}
-use Rattle.ringbuffer.proofs.grow.GrowableAllocRingBufferRingBuffer.extend.Given as goal
-
--- the items so far came behind the old ones
-abbrev pub invariant-loop-item : goal.invariant-loop-item
-invariant-loop-item g l = l.self ≡ l.fn.self ++ l.yielded
