@@ -1,15 +1,17 @@
 -- A loop over commands: what holds at each turn, what one more command makes of it, and what follows at its end.
-use Rattle.std.proofs.Common.{◌≡◌, ℕ, ◌+◌, ◌<◌, List, [], ◌∷◌, ◌++◌, length, set, Option, Some, IsSome, refl, ap, sym, ◌∙◌, append-nil, append_assoc, length-append, arith}
+use Rattle.std.proofs.Common.{◌≡◌, ℕ, ◌+◌, ◌*◌, ◌<◌, ◌≤◌, List, [], ◌∷◌, ◌++◌, length, set, slice_get, take, Option, Some, IsSome, refl, ap, sym, ◌∙◌, append-nil, append_assoc, length-append, arith}
 use Rattle.std.proofs.lemmas.Grind.{flat_map-append}
-use Rattle.std.proofs.lemmas.List.{drop_all, length_push}
+use Rattle.std.proofs.lemmas.List.{drop_all, length_push, take_at}
 use Rattle.ring_core.specs.declared.runs.Command.{Command}
 use Rattle.ring_core.specs.declared.runs.Refused.{Refused}
 use Rattle.ring_core.specs.declared.runs.Reply.{Reply}
 use Rattle.ring_core.specs.Contents.{ChangesSlots, IsWithin}
 use Rattle.ring_core.specs.Meaning.{IsRefused, StopsAt, after_all, after_one, places, puts, replies_to, reply_to}
-use Rattle.ring_core.specs.History.{ChangesFewSlots, pushed, steps, steps_of}
-use Rattle.ring_core.proofs.RunParts.{StopsAt-refused, after_all-append, length-replies_to, places-more, replies_to-append}
-use Rattle.ring_core.proofs.BothMeanings.{ChangesFewSlots-run, pushed-append, pushed-steps_of}
+use Rattle.ring_core.specs.History.{ChangesFewSlots, all_items, contents_after, pushed, replies_of, steps, steps_of}
+use Rattle.ring_core.proofs.Items.{slice_get-at}
+use Rattle.ring_core.proofs.RunParts.{LeavesPart-refused, after_all-append, length-replies_to, places-more, replies_to-append}
+use Rattle.ring_core.proofs.HeldWindow.{pushed-append}
+use Rattle.ring_core.proofs.BothMeanings.{ChangesFewSlots-run, ChangesFewSlots-twice, contents_after-all, pushed-steps_of, replies_of-all}
 
 -- of all the commands some are done and the others to do, and the ring holds what those that are done leave
 pub record HasDone {T : Type 0} (limit : Option ℕ) (start : List T) (all done todo : List (Command T)) (at : ℕ) (limit' : Option ℕ) (now : List T) (before after : ℕ) : Type 0 where
@@ -18,6 +20,16 @@ pub record HasDone {T : Type 0} (limit : Option ℕ) (start : List T) (all done 
   pub same_limit : limit' ≡ limit
   pub left : now ≡ after_all limit start done
   pub changes : IsSome limit → ChangesSlots before start after now (length (pushed (steps done)))
+
+-- all commands are done, and what they leave and answer is the same by lists and by item numbers
+pub record HasRun {T : Type 0} (limit : Option ℕ) (start : List T) (all done : List (Command T)) (now : List T) (before after : ℕ) : Type 0 where
+  pub whole : done ≡ all
+  pub left : now ≡ after_all limit start all
+  pub left_by_number : now ≡ contents_after limit start all
+  pub answers : replies_of limit start all ≡ replies_to limit start all
+  pub changes : IsSome limit → ChangesSlots before start after now (length (pushed (steps all)))
+  pub few : IsSome limit → ChangesFewSlots limit start (steps all) before after
+  pub twice : IsSome limit → after ≤ before + 2 * length (all_items start (steps all))
 
 module _ {T : Type 0} {limit : Option ℕ} {start : List T} {all done todo : List (Command T)} {at : ℕ} {limit' : Option ℕ} {now : List T} {before after : ℕ} where
   -- One more command is done.
@@ -40,10 +52,22 @@ module _ {T : Type 0} {limit : Option ℕ} {start : List T} {all done todo : Lis
       }
 
   -- Where none is to do, all are done.
-  pub HasDone-whole : (n : ℕ) → HasDone limit start all done todo at limit' now before after → n ≡ length todo → n ≡ 0 → done ≡ all
-  HasDone-whole n h left none =
+  pub HasDone-end : (n : ℕ) → HasDone limit start all done todo at limit' now before after → n ≡ length todo → n ≡ 0 → IsWithin start limit → HasRun limit start all done now before after
+  HasDone-end n h count none within =
       let empty : todo ≡ [] = drop_all 0 todo (omega arith) in
-      rw (empty, append-nil) at h.parts
+      let whole : done ≡ all = rw (empty, append-nil) at h.parts in
+      let left : now ≡ after_all limit start all = rw (← whole) h.left in
+      let changes : IsSome limit → ChangesSlots before start after now (length (pushed (steps all))) = rw whole at h.changes in
+      let few = λ (some : IsSome limit). ChangesFewSlots-run limit start all within before after (rw (← left) (changes some)) in
+      record {
+        whole = whole;
+        left = left;
+        left_by_number = left ∙ sym (contents_after-all limit start all within);
+        answers = replies_of-all limit start all within;
+        changes = changes;
+        few = few;
+        twice = λ some. ChangesFewSlots-twice limit start all within before after (few some);
+      }
 
   -- One more command is answered.
   pub replies_to-turn : (c : Command T) (r : Reply T) → HasDone limit start all done todo at limit' now before after → r ≡ reply_to limit' now c
@@ -71,10 +95,6 @@ module _ {T : Type 0} {limit : Option ℕ} {start : List T} {all done todo : Lis
       → IsRefused c now new r → StopsAt limit start all at new
   HasDone-stops c rest new r h first refused =
       let whole : done ++ c ∷ rest ≡ all = rw (← first) h.parts in
-      rw (← whole, h.count) (StopsAt-refused limit start done rest c new r (rw (← h.left) refused))
-
-  -- The bound on the count at the end, by item numbers.
-  pub HasDone-few : HasDone limit start all done todo at limit' now before after → done ≡ all → IsWithin start limit → IsSome limit → ChangesFewSlots limit start (steps all) before after
-  HasDone-few h whole within some =
-      let changes : ChangesSlots before start after (after_all limit start all) (length (pushed (steps all))) = rw (← whole, ← h.left) (h.changes some) in
-      ChangesFewSlots-run limit start all within before after changes
+      let before : take at all ≡ done = rw (← whole, h.count) (take_at done (c ∷ rest) (length done) refl) in
+      let next : slice_get all at ≡ Some c = rw (← whole, h.count) (slice_get-at done c rest) in
+      (c, next, rw (before, ← h.left) (LeavesPart-refused c now new r refused))

@@ -1,7 +1,15 @@
 -- What a source gave that was taken to its end.
-use Rattle.std.specs.Prelude.{◌≡◌, List, map, Option, Some, IsOk, MatchResult, Ok, Err, Result, is_ok, true}
+use Rattle.std.specs.Prelude.{◌≡◌, ℕ, ◌++◌, List, length, map, Option, Some, IsOk, MatchResult, OnOk, Ok, Err, Result, is_ok, true}
 use Rattle.std.specs.Iterator.{Drains, YieldsThen}
+use Rattle.std.proofs.Common.{◌∙◌, ap, sym}
 use Rattle.std.proofs.lemmas.Iterator.{YieldsList, items_from_drains}
+use Rattle.std.proofs.lemmas.Iterator.Consumers.{YieldsList-from_shown}
+use Rattle.std.proofs.lemmas.List.{map-id}
+use Rattle.ring_core.specs.declared.iter.RingBufferDrainingIterator.{RingBufferDrainingIterator}
+use Rattle.ring_core.specs.declared.iter.RingBufferIntoIterator.{RingBufferIntoIterator}
+use Rattle.ring_core.specs.Contents.{keep_last}
+use Rattle.ring_core.specs.Extension.{Extends}
+use Rattle.ring_core.specs.Walk.{DrainsFirst, UnpacksFirst, drain_to_come, into_iter_to_come}
 
 module _ {S A B : Type 0} {steps : S → Option A → S → Type 0} {s : S} where
   -- what v takes the items to of a source that was taken to its end is the list that the source shows
@@ -14,3 +22,23 @@ module _ {S A B : Type 0} {steps : S → Option A → S → Type 0} {s : S} wher
       → IsOk r → YieldsList steps v s all → map v xs ≡ all
   shown_extended {v = v} {all = all} xs (Ok _) drained ok yields = shown_drained v xs all drained yields
   shown_extended {E = E} xs (Err e) ran ok yields = absurd (let no : is_ok {T = Unit {0}} {E = E} (Err e) ≡ true = ok in cc)
+
+module _ {T RB : Type 0} (contents : RB → List T) (limit : RB → Option ℕ) (slot_changes : RB → ℕ) where
+  -- an owning walk gives what its ring holds
+  pub YieldsList-unpacked : (it : RingBufferIntoIterator T RB) (xs : List T) → into_iter_to_come contents it ≡ xs
+      → YieldsList (UnpacksFirst contents limit slot_changes) (λ x. x) it xs
+  YieldsList-unpacked it xs is = rw (← is) (YieldsList-from_shown (UnpacksFirst contents limit slot_changes) (λ x. x) (into_iter_to_come contents)
+      (λ s t ends. ap length ends.0.0) (λ s x t gives. gives.0) it)
+
+  -- a drain that was taken to its end gave what its ring held
+  pub all_drained : (it : RingBufferDrainingIterator T RB) (xs : List T) → Drains (DrainsFirst contents limit slot_changes) it xs → xs ≡ contents it.ring.now
+  all_drained it xs drained = sym (map-id xs) ∙ shown_drained (λ x. x) xs (contents it.ring.now) drained
+      (YieldsList-from_shown (DrainsFirst contents limit slot_changes) (λ x. x) (drain_to_come contents) (λ s t ends. ap length ends.0.0) (λ s x t gives. gives.0) it)
+
+  -- an extension by a drain that was not refused pushes all that the drained ring held
+  pub extended_by_drain : {E : Type 0} (it : RingBufferDrainingIterator T RB) (bound : Option ℕ) (old new : List T) (a b : ℕ) (r : Result (Unit {0}) E)
+      → Extends (λ s t. t ≡ s) (DrainsFirst contents limit slot_changes) it bound old new a b r
+      → OnOk r (new ≡ keep_last bound (old ++ contents it.ring.now))
+  extended_by_drain it bound old new a b (Ok u) (s, xs, is, kept, changes, drained) =
+      kept ∙ ap (λ l. keep_last bound (old ++ l)) (all_drained s xs drained ∙ ap (λ d. contents d.ring.now) is)
+  extended_by_drain it bound old new a b (Err e) ran = tt

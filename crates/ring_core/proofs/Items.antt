@@ -1,22 +1,26 @@
 -- The items of a list by their places.
-use Rattle.std.proofs.Common.{ℕ, zero, suc, ◌≡◌, ◌<◌, List, [], ◌∷◌, ◌++◌, length, take, drop, slice_get, Some, refl, arith}
+use Rattle.std.proofs.Common.{ℕ, zero, suc, ◌≡◌, ◌+◌, ◌<◌, List, [], ◌∷◌, ◌++◌, length, take, drop, slice_get, Some, refl, ap, arith, zero-add}
 use Rattle.std.specs.List.{AllZip}
+use Rattle.std.specs.Option.{option_to_list}
+use Rattle.std.proofs.Math.Seq.{take-nil}
 
 -- The item behind a list.
 pub slice_get-at : {A : Type 0} (xs : List A) (y : A) (ys : List A) → slice_get (xs ++ y ∷ ys) (length xs) ≡ Some y
 slice_get-at [] y ys = refl
 slice_get-at (x ∷ xs) y ys = slice_get-at xs y ys
 
--- The first item that is left is the one at that place.
-pub slice_get-drop : {A : Type 0} (n : ℕ) (xs : List A) → slice_get (drop n xs) 0 ≡ slice_get xs n
-slice_get-drop zero xs = refl
-slice_get-drop (suc n) [] = refl
-slice_get-drop (suc n) (x ∷ xs) = slice_get-drop n xs
+-- What is left of a list has its items from the first place left.
+pub slice_get-drop : {A : Type 0} (n i : ℕ) (xs : List A) → slice_get (drop n xs) i ≡ slice_get xs (n + i)
+slice_get-drop zero i xs = rw zero-add refl
+slice_get-drop (suc n) i [] = refl
+slice_get-drop (suc n) i (x ∷ xs) = let e : suc n + i ≡ suc (n + i) = omega arith in rw e (slice_get-drop n i xs)
 
--- The first item of a list of one.
-pub slice_get-take_one : {A : Type 0} (xs : List A) → slice_get (take 1 xs) 0 ≡ slice_get xs 0
-slice_get-take_one [] = refl
-slice_get-take_one (x ∷ xs) = refl
+-- The first items stay at their places.
+pub slice_get-take : {A : Type 0} (n i : ℕ) (xs : List A) → i < n → slice_get (take n xs) i ≡ slice_get xs i
+slice_get-take zero i xs within = absurd (omega arith)
+slice_get-take (suc n) i [] within = refl
+slice_get-take (suc n) zero (x ∷ xs) within = refl
+slice_get-take (suc n) (suc i) (x ∷ xs) within = slice_get-take n i xs (omega arith)
 
 -- The first list's items stay at their places.
 pub slice_get-append_left : {A : Type 0} (n : ℕ) (xs ys : List A) → n < length xs → slice_get (xs ++ ys) n ≡ slice_get xs n
@@ -24,10 +28,16 @@ slice_get-append_left n [] ys within = absurd (omega arith)
 slice_get-append_left zero (x ∷ xs) ys within = refl
 slice_get-append_left (suc n) (x ∷ xs) ys within = slice_get-append_left n xs ys (omega arith)
 
--- one more pair of items
-pub AllZip-append : {A B : Type 0} (R : A → B → Type 0) (xs : List A) (ys : List B) (x : A) (y : B) → AllZip R xs ys → R x y
-    → AllZip R (xs ++ x ∷ []) (ys ++ y ∷ [])
-AllZip-append R [] [] x y all one = (one, tt)
-AllZip-append R [] (w ∷ ws) x y all one = absurd all
-AllZip-append R (w ∷ ws) [] x y all one = absurd all
-AllZip-append R (v ∷ vs) (w ∷ ws) x y all one = (all.0, AllZip-append R vs ws x y all.1 one)
+-- two pairs of lists, one behind the other
+pub AllZip-join : {A B : Type 0} (R : A → B → Type 0) (xs xs' : List A) (ys ys' : List B) → AllZip R xs ys → AllZip R xs' ys'
+    → AllZip R (xs ++ xs') (ys ++ ys')
+AllZip-join R [] xs' [] ys' all more = more
+AllZip-join R [] xs' (y ∷ ys) ys' all more = absurd all
+AllZip-join R (x ∷ xs) xs' [] ys' all more = absurd all
+AllZip-join R (x ∷ xs) xs' (y ∷ ys) ys' all more = (all.0, AllZip-join R xs xs' ys ys' all.1 more)
+
+-- One item more, if there is one.
+pub take-suc_get : {A : Type 0} (xs : List A) (k : ℕ) → take (suc k) xs ≡ take k xs ++ option_to_list (slice_get xs k)
+take-suc_get [] k = rw (take-nil k) refl
+take-suc_get (x ∷ xs) zero = refl
+take-suc_get (x ∷ xs) (suc k) = ap (λ ys. x ∷ ys) (take-suc_get xs k)

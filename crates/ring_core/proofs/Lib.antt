@@ -7,6 +7,7 @@ pub mod Items
 pub mod Lending
 pub mod Limits
 pub mod Reading
+pub mod MovedItems
 pub mod RunParts
 pub mod Walks
 pub mod WorkedRuns

@@ -1,13 +1,12 @@
 -- Runs of commands in parts, and the places of their replies.
 use Rattle.std.proofs.Common.{◌≡◌, ℕ, ◌-◌, ◌<◌, List, [], ◌∷◌, ◌++◌, length, map, set, replicate, Option, Some, None, refl, ap, arith, append-nil, append_assoc, suc}
-use Rattle.std.proofs.lemmas.List.{length-map, map-append, set_at, take_at}
+use Rattle.std.proofs.lemmas.List.{length-map, map-append, set_at}
 use Rattle.std.proofs.lemmas.List.{length_push}
 use Rattle.ring_core.specs.declared.runs.Command.{Command}
 use Rattle.ring_core.specs.declared.runs.Reply.{Reply}
 use Rattle.ring_core.specs.declared.runs.Refused.{Refused}
 use Rattle.ring_core.specs.declared.runs.Refused.TheVariants as refused
-use Rattle.ring_core.proofs.Items.{slice_get-at}
-use Rattle.ring_core.specs.Meaning.{after_one, after_all, reply_to, replies_to, places, IsRefused, LeavesPart, StopsAt}
+use Rattle.ring_core.specs.Meaning.{after_one, after_all, reply_to, replies_to, places, IsRefused, LeavesPart}
 
 module _ {T : Type 0} (limit : Option ℕ) where
   -- By induction on the first list.
@@ -38,12 +37,6 @@ places_all limit l cs =
     rw (none, append-nil) refl
 
 -- A push that was refused took none of its one item.
-LeavesPart-refused : {T : Type 0} (c : Command T) (old new : List T) (r : Refused T) → IsRefused c old new r → LeavesPart old c new
+pub LeavesPart-refused : {T : Type 0} (c : Command T) (old new : List T) (r : Refused T) → IsRefused c old new r → LeavesPart old c new
 LeavesPart-refused c old new (refused.Push x) (is, same) = rw is ([], (omega arith, refl), rw append-nil same)
 LeavesPart-refused c old new refused.Extend (items, is, part) = part
-
--- What a refused command leaves, said by its number.
-pub StopsAt-refused : {T : Type 0} (limit : Option ℕ) (old : List T) (done todo : List (Command T)) (c : Command T) (new : List T) (r : Refused T)
-    → IsRefused c (after_all limit old done) new r → StopsAt limit old (done ++ c ∷ todo) (length done) new
-StopsAt-refused limit old done todo c new r by =
-    (c, slice_get-at done c todo, rw (take_at done (c ∷ todo) (length done) refl) (LeavesPart-refused c _ new r by))

@@ -1,5 +1,5 @@
--- What an extension of a ring by a source of items does.
-use Rattle.std.specs.Prelude.{◌≡◌, ℕ, List, ◌++◌, length, Option, Some, Result, IfSome, MatchResult}
+-- What an extension of a ring by a source of items does, and what a move of a ring's items does that was refused memory.
+use Rattle.std.specs.Prelude.{◌≡◌, ℕ, List, ◌∷◌, ◌++◌, length, Option, Some, Result, IfSome, MatchResult}
 use Rattle.std.specs.Iterator.{Drains, YieldsThen}
 use Rattle.ring_core.specs.Contents.{keep_last, ChangesSlots}
 
@@ -10,3 +10,7 @@ module _ {I S A E : Type 0} (becomes : I → S → Type 0) (steps : S → Option
   Extends source limit old new a b r = (it : S) × (xs : List A) × becomes source it × (new ≡ keep_last limit (old ++ xs))
       × IfSome limit (λ _. ChangesSlots a old b new (length xs))
       × MatchResult r (λ _. Drains steps it xs) (λ _. (x : A) × (after : S) × YieldsThen steps it xs (Some x) after)
+
+-- a beginning of the source's items moved behind the old ones, the next one was refused and is gone, the others stayed
+abbrev pub MovesPart : {A : Type 0} → List A → List A → List A → List A → Type 0
+MovesPart {A} old source new rest = (moved : List A) × (refused : A) × (source ≡ moved ++ refused ∷ rest) × (new ≡ old ++ moved)

@@ -5,7 +5,8 @@ use Rattle.std.specs.List.{enumerate_from, filter_map, flat_map, range_with_len}
 use Rattle.ring_core.specs.declared.runs.Command.{Command}
 use Rattle.ring_core.specs.declared.runs.Command.TheVariants.{Push, Extend, Dequeue, Skip, Clear}
 use Rattle.ring_core.specs.declared.runs.Reply.{Reply}
-use Rattle.ring_core.specs.Meaning.{reply_with}
+use Rattle.ring_core.specs.Contents.{IsWithin}
+use Rattle.ring_core.specs.Meaning.{after_all, replies_to, reply_with}
 
 -- a step changes a ring by one item, or empties it
 pub data Step (T : Type 0) : Type 0 where
@@ -146,3 +147,15 @@ pub record KeepsToNumbers {T : Type 0} (limit : Option ℕ) (start : List T) (ss
 -- a count of slot changes never fell over the run, and rose by at most the items that it pushed and those that it removed
 abbrev pub ChangesFewSlots : {T : Type 0} → Option ℕ → List T → List (Step T) → ℕ → ℕ → Type 0
 ChangesFewSlots limit start ss before after = (before ≤ after) × (after ≤ before + (length (pushed ss) + removed limit start ss))
+
+-- on items within a limit, what a run leaves and answers by item numbers is what it leaves and answers as lists
+abbrev pub MeaningsAgree : Type 0 → Type 0
+MeaningsAgree T = (limit : Option ℕ) (start : List T) (cs : List (Command T)) → IsWithin start limit
+    → (contents_after limit start cs ≡ after_all limit start cs) × (replies_of limit start cs ≡ replies_to limit start cs)
+
+-- by item numbers too, a run of xs and then of ys leaves and answers what a run of xs followed by ys does, and pushes as many
+abbrev pub RunsJoinByNumber : Type 0 → Type 0
+RunsJoinByNumber T = (limit : Option ℕ) (start : List T) (xs ys : List (Command T)) → IsWithin start limit
+    → (contents_after limit start (xs ++ ys) ≡ contents_after limit (contents_after limit start xs) ys)
+    × (replies_of limit start (xs ++ ys) ≡ replies_of limit start xs ++ replies_of limit (contents_after limit start xs) ys)
+    × (pushed (steps (xs ++ ys)) ≡ pushed (steps xs) ++ pushed (steps ys))

@@ -1,7 +1,8 @@
 -- What the walks over a ring have still to come.
-use Rattle.std.specs.Prelude.{◌≡◌, ℕ, Option, List, length, take, drop}
+use Rattle.std.specs.Prelude.{◌≡◌, ℕ, IsSome, Option, List, length, take, drop}
 use Rattle.std.specs.Iterator.{YieldsFirst, YieldsFirstRef, YieldsLastRef}
 use Rattle.std.specs.Iterator.Runs.{YieldsRefsInOrder, YieldsRefsInReverse}
+use Rattle.ring_core.specs.Contents.{ChangesSlots}
 use Rattle.ring_core.specs.declared.iter.RingBufferDrainingIterator.{RingBufferDrainingIterator}
 use Rattle.ring_core.specs.declared.iter.RingBufferIntoIterator.{RingBufferIntoIterator}
 use Rattle.ring_core.specs.declared.iter.RingBufferIterator.{RingBufferIterator}
@@ -40,7 +41,15 @@ module _ {T RB : Type 0} (contents : RB → List T) where
   abbrev pub into_iter_to_come : RingBufferIntoIterator T RB → List T
   into_iter_to_come s = contents s.ring
 
-module _ {T RB : Type 0} (contents : RB → List T) (limit : RB → Option ℕ) where
-  -- a drain takes the first item out of its ring, whose limit stays
+module _ {T RB : Type 0} (contents : RB → List T) (limit : RB → Option ℕ) (slot_changes : RB → ℕ) where
+  -- what stays of a ring as an item leaves it: its limit, and with one all slots but at most as many as items left it
+  abbrev pub OnlyTakes : RB → RB → Type 0
+  OnlyTakes r r' = (limit r' ≡ limit r) × (IsSome (limit r) → ChangesSlots (slot_changes r) (contents r) (slot_changes r') (contents r') 0)
+
+  -- a drain takes the first item out of its ring, and does nothing else to it
   abbrev pub DrainsFirst : RingBufferDrainingIterator T RB → Option T → RingBufferDrainingIterator T RB → Type 0
-  DrainsFirst s r t = YieldsFirst (drain_to_come contents) s r t × (t.ring.ghost_name ≡ s.ring.ghost_name) × (limit t.ring.now ≡ limit s.ring.now)
+  DrainsFirst s r t = YieldsFirst (drain_to_come contents) s r t × (t.ring.ghost_name ≡ s.ring.ghost_name) × OnlyTakes s.ring.now t.ring.now
+
+  -- an owning walk takes the first item out of its ring, and does nothing else to it
+  abbrev pub UnpacksFirst : RingBufferIntoIterator T RB → Option T → RingBufferIntoIterator T RB → Type 0
+  UnpacksFirst s r t = YieldsFirst (into_iter_to_come contents) s r t × OnlyTakes s.ring t.ring

@@ -2,10 +2,10 @@
 
 ghost use Rattle.std.specs.Prelude.{◌≡◌, ◌-◌, ◌↔◌, [], length, IfSome, IsNone, Some, slice_get};
 ghost use Rattle.std.specs.Borrow.{sem};
-ghost use Rattle.std.specs.Iterator.{YieldsFirst, YieldsFirstRef, YieldsLastRef, UpTo, at_most, item_count};
+ghost use Rattle.std.specs.Iterator.{YieldsFirstRef, YieldsLastRef, UpTo, at_most, item_count};
 ghost use Rattle.std.specs.Iterator.SizeHint.{IsWithinCount};
 ghost use Rattle.std.specs.Option.{option_copied_mut};
-ghost use Rattle.ring_core.specs.Walk.{DrainsFirst, ReadsInOrder, ReadsInReverse, StartsOver, drain_to_come, into_iter_to_come, iterator_to_come, cursor_to_come};
+ghost use Rattle.ring_core.specs.Walk.{DrainsFirst, ReadsInOrder, ReadsInReverse, StartsOver, UnpacksFirst, drain_to_come, into_iter_to_come, iterator_to_come, cursor_to_come};
 
 use crate::ring::RingBuffer;
 use std::iter::FusedIterator;
@@ -13,11 +13,11 @@ use std::marker::PhantomData;
 
 /// A walk over the items of a ring, from either end.
 #[derive(Drop)]
-pub struct RingBufferIterator<'rb, T, RB> {
+pub struct RingBufferIterator<'rb, T: 'rb, RB> {
     ring: &'rb RB,
     front: usize,
     back: usize,
-    items: PhantomData<&'rb T>,
+    items: PhantomData<T>,
 }
 
 impl<'rb, T: Drop, RB: RingBuffer<T>> RingBufferIterator<'rb, T, RB> {
@@ -178,7 +178,7 @@ impl<'rb, T: Drop, RB: RingBuffer<T>> RingBufferDrainingIterator<'rb, T, RB> {
 impl<'rb, T: Drop, RB: RingBuffer<T>> Iterator for RingBufferDrainingIterator<'rb, T, RB> {
     type Item = T;
 
-    ghost next_gives = { DrainsFirst RB.contents RB.limit };
+    ghost next_gives = { DrainsFirst RB.contents RB.limit RB.slot_changes };
 
     ghost remaining = { item_count (drain_to_come RB.contents) };
 
@@ -221,7 +221,7 @@ impl<T: Drop, RB: RingBuffer<T>> RingBufferIntoIterator<T, RB> {
 impl<T: Drop, RB: RingBuffer<T> + Drop> Iterator for RingBufferIntoIterator<T, RB> {
     type Item = T;
 
-    ghost next_gives = { YieldsFirst (into_iter_to_come RB.contents) };
+    ghost next_gives = { UnpacksFirst RB.contents RB.limit RB.slot_changes };
 
     ghost remaining = { item_count (into_iter_to_come RB.contents) };
 

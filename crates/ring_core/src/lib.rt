@@ -1,12 +1,15 @@
-//! The interface of a ring buffer and what stands on it alone: the trait `RingBuffer`, its iterators, and runs of commands.
+//! The interface of a ring buffer and what stands on it alone: the trait `RingBuffer`, its iterators, runs of commands, and
+//! moving one ring into another.
 #![tactic(auto)]
 
 mod iter;
+mod moving;
 mod ring;
 mod runs;
 
 pub use iter::{
     RingBufferDrainingIterator, RingBufferIntoIterator, RingBufferIterator, RingBufferMutIterator,
 };
+pub use moving::move_all;
 pub use ring::RingBuffer;
 pub use runs::{Command, Refused, Reply, RunFault, Stopped, apply, run, run_into, runs_join};

@@ -2,7 +2,7 @@
 
 ghost use Rattle.std.specs.Prelude.{◌≡◌, [], ◌∷◌, ◌++◌, ◌+◌, ◌*◌, ◌<◌, ◌≤◌, IfErr, IfOk, IsOk, IsSome, OnOk, None, Some, length, map, replicate, slice_set, take, vec_capacity, vec_len};
 ghost use Rattle.ring_core.specs.Contents.{ChangesSlots};
-ghost use Rattle.ring_core.specs.History.{ChangesFewSlots, KeepsToNumbers, all_items, contents_after, replies_of, steps};
+ghost use Rattle.ring_core.specs.History.{ChangesFewSlots, KeepsToNumbers, MeaningsAgree, RunsJoinByNumber, all_items, contents_after, pushed, replies_of, steps};
 ghost use Rattle.ring_core.specs.Meaning.{IfNoRoom, IfStopped, IsRefused, RunsJoin, StopsAt, after_all, after_one, places, puts, replies_to, reply_to};
 
 use crate::ring::RingBuffer;
@@ -154,6 +154,9 @@ pub fn run_into<T: Drop, R: RingBuffer<T>>(
         ≡ map Some (replies_of (R.limit ring.old) (R.contents ring.old) commands.items)) }
     ensures numbers { KeepsToNumbers (R.limit ring.old) (R.contents ring.old)
         (steps commands.items) }
+    ensures changes { IsSome (R.limit ring.old)
+        → ChangesSlots (R.slot_changes ring.old) (R.contents ring.old) (R.slot_changes ring.new)
+        (R.contents ring.new) (length (pushed (steps commands.items))) }
     ensures few_changes { IsSome (R.limit ring.old)
         → ChangesFewSlots (R.limit ring.old) (R.contents ring.old) (steps commands.items)
         (R.slot_changes ring.old) (R.slot_changes ring.new) }
@@ -220,6 +223,9 @@ pub fn run<T: Drop, R: RingBuffer<T>>(
         (λ r. r.items ≡ replies_of (R.limit ring.old) (R.contents ring.old) commands.items) }
     ensures numbers { KeepsToNumbers (R.limit ring.old) (R.contents ring.old)
         (steps commands.items) }
+    ensures changes { IsSome (R.limit ring.old)
+        → ChangesSlots (R.slot_changes ring.old) (R.contents ring.old) (R.slot_changes ring.new)
+        (R.contents ring.new) (length (pushed (steps commands.items))) }
     ensures few_changes { IsSome (R.limit ring.old)
         → ChangesFewSlots (R.limit ring.old) (R.contents ring.old) (steps commands.items)
         (R.slot_changes ring.old) (R.slot_changes ring.new) }
@@ -256,7 +262,10 @@ pub fn run<T: Drop, R: RingBuffer<T>>(
     Ok(replies)
 }
 
-/// Shows by its contract that runs join. It does nothing.
+/// Shows by its contract that both meanings of a run are the same on a ring that is within its limit, and that runs join
+/// by both. It does nothing.
 pub fn runs_join<T>()
-    ensures { RunsJoin T }
+    ensures meanings { MeaningsAgree T }
+    ensures in_turn { RunsJoin T }
+    ensures by_number { RunsJoinByNumber T }
 {}

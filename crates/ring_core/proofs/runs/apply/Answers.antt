@@ -1,27 +1,22 @@
 -- An extension by a vector takes the vector's items in order: all of them, or a cut beginning at a refusal.
-use Rattle.std.proofs.Common.{◌≡◌, ℕ, List, ◌++◌, length, Option, Some, None, IfSome, IsSome, Global, sym, ◌∙◌, refl, map-id}
+use Rattle.std.proofs.Common.{◌≡◌, ℕ, List, ◌++◌, length, Option, Some, None, IsSome, Global, sym, ◌∙◌, refl, map-id, rules}
 use Rattle.std.specs.Iterator.{Drains, YieldsThen}
 use Rattle.std.specs.declared.vec.IntoIter.{IntoIter}
 use Rattle.std.specs.Vec.Iter.{into_iter_items, into_iter_len, into_iter_steps}
 use Rattle.std.proofs.lemmas.Iterator.Adapters.{YieldsList-from_vec}
-use Rattle.std.proofs.lemmas.Iterator.Consumers.{YieldsList-end, YieldsList-so_far, YieldsList-turn}
+use Rattle.std.proofs.lemmas.Iterator.Consumers.{YieldsList-so_far, YieldsList-turn}
 use Rattle.ring_core.specs.Contents.{IsCut, keep_last}
+use Rattle.ring_core.proofs.Drained.{shown_drained}
 use Rattle.ring_core.proofs.runs.apply.Goals as goal
 
 module _ {T : Type 0} (it : IntoIter T Global) (items taken : List T) (shows : into_iter_items it ≡ items) (counts : into_iter_len it ≡ length items) where
   taken_all : Drains into_iter_steps it taken → taken ≡ items
-  taken_all (u, (t, given, last)) =
-      sym (map-id taken) ∙ (YieldsList-end (YieldsList-from_vec items shows counts) taken t given None u refl last).0
+  taken_all drained = sym (map-id taken) ∙ shown_drained (λ x. x) taken items drained (YieldsList-from_vec items shows counts)
 
   IsCut-taken : (x : T) (u : IntoIter T Global) → YieldsThen into_iter_steps it taken (Some x) u → IsCut items taken
   IsCut-taken x u (t, given, more) =
       let road = YieldsList-from_vec {A = T} {Z = Global} {s = it} items shows counts in
       ((YieldsList-turn road taken t given (Some x) u x refl more).0, sym (map-id taken) ∙ YieldsList-so_far road taken t given)
-
--- what holds of the value that is there
-at_some : {A P : Type 0} (o : Option A) → IfSome o (λ _. P) → IsSome o → P
-at_some (Some x) holds some = holds
-at_some None holds some = cc
 
 -- where there is no limit, all is kept
 keep_last-unlimited : {A : Type 0} (limit : Option ℕ) (xs : List A) → ¬ (IsSome limit) → keep_last limit xs ≡ xs
@@ -40,7 +35,7 @@ returns-in-Ok-extend-clause-changes g c =
     let (it, taken, source, _, changes, ended) = c.in-Ok-extend.ensures.extends in
     let v = c.in-Extend.items in
     let all = taken_all it v.items taken source.0 (source.1 ∙ v.ok.0) ended in
-    rw c.in-Extend.is (rw (← all) (at_some (g.R.RingBuffer.limit c.args.ring.now) changes))
+    rw c.in-Extend.is (rw (← all) (λ some. search rules))
 
 pub returns-in-Err-extend-clause-refused : goal.returns-in-Err-extend-clause-refused
 returns-in-Err-extend-clause-refused g c =

@@ -1,9 +1,8 @@
 -- One turn of the loop, its end, its stop at a refusal, and what holds where no command was done.
-use Rattle.std.proofs.Common.{◌<◌, length, arith}
+use Rattle.std.proofs.Common.{◌<◌, length, arith, rules}
 use Rattle.ring_core.specs.History.{steps}
 use Rattle.ring_core.proofs.HeldWindow.{KeepsToNumbers-held}
-use Rattle.ring_core.proofs.BothMeanings.{ChangesFewSlots-twice, contents_after-all, replies_of-all}
-use Rattle.ring_core.proofs.CommandLoop.{HasDone-few, HasDone-stops, HasDone-turn, HasDone-whole, length-replies_so_far, replies_to-turn}
+use Rattle.ring_core.proofs.CommandLoop.{HasDone-end, HasDone-stops, HasDone-turn, length-replies_so_far, replies_to-turn}
 use Rattle.ring_core.proofs.runs.run.Goals as goal
 
 pub store-requires : goal.store-requires
@@ -27,41 +26,28 @@ pub returns-in_default-apply-clause-stopped : goal.returns-in_default-apply-clau
 returns-in_default-apply-clause-stopped g c =
     HasDone-stops c.in-Some.command _ _ c.in_default-apply.field-0 c.loop-command.invariant.done c.in-Some.ensures.steps.0 c.in_default-apply.ensures.refused
 
-pub returns-clause-in_turn : goal.returns-clause-in_turn
-returns-clause-in_turn g c =
+pub returns : goal.returns
+returns g c =
     let so_far = c.loop-command.invariant in
-    let whole = HasDone-whole _ so_far.done c.loop-command.command-iterator.rest.ok.0 c.in-None.ensures.steps.0 in
-    rw whole at so_far.done.left
+    let run = HasDone-end c.loop-command.command-iterator.rest.len so_far.done c.loop-command.command-iterator.rest.ok.0 c.in-None.ensures.steps.0 c.len.ensures.within in
+    let answered = rw run.whole at so_far.answered in
+    record {
+      never_stopped = search rules;
+      same_limit = search rules;
+      in_turn = run.left;
+      replies_in_turn = answered;
+      contents = run.left_by_number;
+      replies = rw run.answers answered;
+      numbers = KeepsToNumbers-held _ _ (steps c.args.commands.items) c.len.ensures.within;
+      changes = run.changes;
+      few_changes = run.few;
+      twice = run.twice;
+      no_room = tt;
+      stopped = tt;
+      replies_before = tt;
+    }
 
-pub returns-clause-replies_in_turn : goal.returns-clause-replies_in_turn
-returns-clause-replies_in_turn g c =
-    let so_far = c.loop-command.invariant in
-    let whole = HasDone-whole _ so_far.done c.loop-command.command-iterator.rest.ok.0 c.in-None.ensures.steps.0 in
-    rw whole at so_far.answered
-
--- ---- by item numbers
-
-pub returns-clause-contents : goal.returns-clause-contents
-returns-clause-contents g c =
-    rw (contents_after-all _ _ c.args.commands.items c.len.ensures.within) (returns-clause-in_turn g c)
-
-pub returns-clause-replies : goal.returns-clause-replies
-returns-clause-replies g c =
-    rw (replies_of-all _ _ c.args.commands.items c.len.ensures.within) (returns-clause-replies_in_turn g c)
-
-pub returns-clause-numbers : goal.returns-clause-numbers
-returns-clause-numbers g c = KeepsToNumbers-held _ _ (steps c.args.commands.items) c.len.ensures.within
-
-pub returns-clause-few_changes : goal.returns-clause-few_changes
-returns-clause-few_changes g c =
-    let so_far = c.loop-command.invariant in
-    let whole = HasDone-whole _ so_far.done c.loop-command.command-iterator.rest.ok.0 c.in-None.ensures.steps.0 in
-    HasDone-few so_far.done whole c.len.ensures.within
-
-pub returns-clause-twice : goal.returns-clause-twice
-returns-clause-twice g c = λ some. ChangesFewSlots-twice _ _ c.args.commands.items c.len.ensures.within _ _ (returns-clause-few_changes g c some)
-
--- ---- the same, where the run stopped, and where there was no room
+-- ---- where the run stopped, and where there was no room
 
 pub returns-in_default-apply-clause-numbers : goal.returns-in_default-apply-clause-numbers
 returns-in_default-apply-clause-numbers g c = KeepsToNumbers-held _ _ (steps c.args.commands.items) c.len.ensures.within

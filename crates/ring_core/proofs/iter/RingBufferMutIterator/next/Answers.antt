@@ -18,7 +18,7 @@ returns g c =
           lent (λ w. ap (λ i. stepped R.with_item s (s.front + 1) s.back i w) (mod-eq_of_lt within)),
       record {
         writes_back = tt;
-        value = slice_get-to_come (R.contents s.ring.now) s.front s.back (option_copied_mut c.get_mut.result) (omega arith) within c.get_mut.ensures.value;
+        value = slice_get-to_come (R.contents s.ring.now) s.front s.back 0 s.front (option_copied_mut c.get_mut.result) (omega arith) (omega arith) c.get_mut.ensures.value;
         none = none-to_come (R.contents s.ring.now) s.front s.back lent (omega arith);
       },
     )

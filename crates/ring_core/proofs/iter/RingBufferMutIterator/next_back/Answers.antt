@@ -4,7 +4,7 @@ use Rattle.std.proofs.Math.Nat.{mod-eq_of_lt}
 use Rattle.ring_core.specs.Contents.{place}
 use Rattle.ring_core.specs.Cursor.{stepped}
 use Rattle.ring_core.proofs.Lending.{lent_as}
-use Rattle.ring_core.proofs.Walks.{slice_get-to_come_last, none-to_come}
+use Rattle.ring_core.proofs.Walks.{length-to_come, none-to_come, slice_get-to_come}
 use Rattle.ring_core.proofs.iter.RingBufferMutIterator.next_back.Goals as goal
 
 pub returns : goal.returns
@@ -21,7 +21,7 @@ returns g c =
           lent (λ w. ap (λ i. stepped R.with_item s s.front last i w) (mod-eq_of_lt within)),
       record {
         writes_back = tt;
-        value = slice_get-to_come_last (R.contents s.ring.now) s.front s.back last (option_copied_mut c.get_mut.result) (omega arith) (omega arith) (rw end_is at c.get_mut.ensures.value);
+        value = slice_get-to_come (R.contents s.ring.now) s.front s.back _ last (option_copied_mut c.get_mut.result) (omega (arith, length-to_come (R.contents s.ring.now) s.front s.back)) (omega arith) (rw end_is at c.get_mut.ensures.value);
         none = none-to_come (R.contents s.ring.now) s.front s.back lent (omega arith);
       },
     )

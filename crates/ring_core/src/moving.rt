@@ -1,0 +1,45 @@
+//! Moving the items of one ring into another.
+
+ghost use Rattle.std.specs.Prelude.{◌≡◌, [], ◌++◌, IsOk, IsSome, OnErr, OnOk, length};
+ghost use Rattle.ring_core.specs.Contents.{ChangesSlots, keep_last};
+ghost use Rattle.ring_core.specs.Extension.{MovesPart};
+
+use crate::ring::RingBuffer;
+use std::alloc::AllocError;
+
+/// Moves all items of `from` onto `to`, oldest first, and leaves `from` empty. What they overwrite is dropped. This call
+/// is the library's own: the Rust crate has none like it.
+///
+/// # Errors
+///
+/// Where `to` was refused memory, which no ring with a limit meets. The items moved until then stay in `to`, the one that
+/// was refused is dropped, and the later ones stay in `from`.
+pub fn move_all<T: Drop, A: RingBuffer<T>, B: RingBuffer<T>>(
+    to: &mut A,
+    from: &mut B,
+) -> Result<(), AllocError>
+    ensures moved { OnOk result (A.contents to.new
+        ≡ keep_last (A.limit to.old) (A.contents to.old ++ B.contents from.old)) }
+    ensures emptied { OnOk result (B.contents from.new ≡ []) }
+    ensures refused { OnErr result (MovesPart (A.contents to.old) (B.contents from.old)
+        (A.contents to.new) (B.contents from.new)) }
+    ensures succeeds { IsSome (A.limit to.old) → IsOk result }
+    ensures limit_to { A.limit to.new ≡ A.limit to.old }
+    ensures limit_from { B.limit from.new ≡ B.limit from.old }
+    ensures changes_to { IsSome (A.limit to.old)
+        → ChangesSlots (A.slot_changes to.old) (A.contents to.old) (A.slot_changes to.new)
+        (A.contents to.new) (length (B.contents from.old)) }
+    ensures changes_from { IsSome (B.limit from.old)
+        → ChangesSlots (B.slot_changes from.old) (B.contents from.old) (B.slot_changes from.new)
+        (B.contents from.new) 0 }
+{
+    // Brings in that the contents of `to` are within its limit.
+    let _ = to.len();
+    while let Some(item) = from.dequeue() {
+        let Ok(overwritten) = to.push(item) else {
+            return Err(AllocError);
+        };
+        drop(overwritten);
+    }
+    Ok(())
+}
