@@ -1,10 +1,13 @@
 //! Generic code over `RingBuffer<T>`, proved from the trait's contract alone.
 
-ghost use Rattle.std.specs.Prelude.{◌≡◌, ◌+◌, ◌%◌, ◌<◌, ◌^◌, [], ◌∷◌, ◌++◌, All, IfOk, IfSome, IsSome, IsTrue, List, drop, length, map, reverse, slice_set, sum};
+ghost use Rattle.std.specs.Prelude.{◌≡◌, ◌+◌, ◌%◌, ◌<◌, ◌≤◌, ◌^◌, [], ◌∷◌, ◌++◌, All, IfOk, IfSome, IsNone, IsOk, IsSome, IsTrue, List, OnErr, OnOk, Some, drop, length, map, reverse, slice_set, sum};
+ghost use Rattle.std.specs.List.{Any};
 ghost use Rattle.ringbuffer.specs.Contents.{ChangesSlots, keep_last};
+ghost use Rattle.ringbuffer.specs.Extension.{MovesPart};
 
 use ringbuffer::{
-    RingBuffer, RingBufferDrainingIterator, RingBufferIterator, RingBufferMutIterator,
+    AllocRingBuffer, ConstGenericRingBuffer, GrowableAllocRingBuffer, RingBuffer,
+    RingBufferDrainingIterator, RingBufferIterator, RingBufferMutIterator, move_all,
 };
 use std::alloc::{AllocError, Global};
 
@@ -109,4 +112,215 @@ pub fn increment_each<R: RingBuffer<u32>>(ring: &mut R)
     while let Some(item) = walk.next() {
         *item = item.wrapping_add(1);
     }
+}
+
+/// The least item and the greatest, or `None` if the ring is empty: two walks with a branch between them.
+pub fn range<R: RingBuffer<u32>>(ring: &R) -> Option<(u32, u32)>
+    ensures none { IsNone result → R.contents ring.now ≡ [] }
+    ensures least { IfSome result (λ r. Any (λ x. x ≡ r.0) (R.contents ring.now)) }
+    ensures greatest { IfSome result (λ r. Any (λ x. x ≡ r.1) (R.contents ring.now)) }
+    ensures between { IfSome result (λ r. All (λ x. (r.0 ≤ x) × (x ≤ r.1)) (R.contents ring.now)) }
+{
+    let least = RingBufferIterator::new(ring).copied().min()?;
+    let greatest = RingBufferIterator::new(ring).copied().max()?;
+    Some((least, greatest))
+}
+
+/// The same of an array ring that is lent for writing.
+pub fn range_in_array(ring: &mut ConstGenericRingBuffer<u32, 4>) -> Option<(u32, u32)>
+    ensures ring { ring.new ≡ ring.old }
+    ensures between { IfSome result (λ r. All (λ x. (r.0 ≤ x) × (x ≤ r.1)) ring.old.items) }
+{
+    let least = ring.iter().copied().min()?;
+    let greatest = ring.iter().copied().max()?;
+    Some((least, greatest))
+}
+
+/// The same of a heap ring that is lent for writing.
+pub fn range_on_heap(ring: &mut AllocRingBuffer<u32>) -> Option<(u32, u32)>
+    ensures ring { ring.new ≡ ring.old }
+    ensures between { IfSome result (λ r. All (λ x. (r.0 ≤ x) × (x ≤ r.1)) ring.old.items) }
+{
+    let least = ring.iter().copied().min()?;
+    let greatest = ring.iter().copied().max()?;
+    Some((least, greatest))
+}
+
+/// The same of a growable ring that is lent for writing.
+pub fn range_in_growable(ring: &mut GrowableAllocRingBuffer<u32>) -> Option<(u32, u32)>
+    ensures ring { ring.new ≡ ring.old }
+    ensures between { IfSome result (λ r. All (λ x. (r.0 ≤ x) × (x ≤ r.1)) ring.old) }
+{
+    let least = ring.iter().copied().min()?;
+    let greatest = ring.iter().copied().max()?;
+    Some((least, greatest))
+}
+
+/// The least and the greatest of the last two of three numbers, by a local array ring.
+pub fn range_in_local_array(x: u32, y: u32, z: u32) -> Option<(u32, u32)>
+    ensures { IsSome result }
+{
+    let mut ring = ConstGenericRingBuffer::<u32, 2>::new();
+    let _ = ring.push(x);
+    let _ = ring.push(y);
+    let _ = ring.push(z);
+    let least = ring.iter().copied().min()?;
+    let greatest = ring.iter().copied().max()?;
+    Some((least, greatest))
+}
+
+/// The same by a local heap ring.
+pub fn range_in_local_heap(alloc: Global, x: u32, y: u32) -> Result<Option<(u32, u32)>, AllocError>
+    ensures { IfOk result (λ range. IsSome range) }
+{
+    let mut ring = AllocRingBuffer::new(alloc, 2)?;
+    let _ = ring.push(x);
+    let _ = ring.push(y);
+    let Some(least) = ring.iter().copied().min() else {
+        return Ok(None);
+    };
+    let Some(greatest) = ring.iter().copied().max() else {
+        return Ok(None);
+    };
+    Ok(Some((least, greatest)))
+}
+
+/// The same by a local growable ring, or `None` if it was refused memory.
+pub fn range_in_local_growable(alloc: Global, x: u32, y: u32) -> Option<(u32, u32)> {
+    let mut ring = GrowableAllocRingBuffer::new(alloc);
+    ring.push(x).ok()?;
+    ring.push(y).ok()?;
+    let least = ring.iter().copied().min()?;
+    let greatest = ring.iter().copied().max()?;
+    Some((least, greatest))
+}
+
+/// Replaces the oldest item, twice, and takes out the two oldest: four walks, with a branch after each.
+pub fn replace_and_take_two<R: RingBuffer<u32>>(ring: &mut R, x: u32, y: u32) -> Option<(u32, u32)>
+    ensures contents { R.contents ring.new ≡ drop 2 (R.contents ring.old) }
+    ensures limit { R.limit ring.new ≡ R.limit ring.old }
+    ensures first { IfSome result (λ r. r.0 ≡ y) }
+{
+    *RingBufferMutIterator::new(ring).next()? = x;
+    *RingBufferMutIterator::new(ring).next()? = y;
+    let first = RingBufferDrainingIterator::new(ring).next()?;
+    let second = RingBufferDrainingIterator::new(ring).next()?;
+    Some((first, second))
+}
+
+/// The same in an array ring.
+pub fn replace_and_take_two_in_array(
+    ring: &mut ConstGenericRingBuffer<u32, 4>,
+    x: u32,
+    y: u32,
+) -> Option<(u32, u32)>
+    ensures contents { ring.new.items ≡ drop 2 ring.old.items }
+    ensures first { IfSome result (λ r. r.0 ≡ y) }
+{
+    *ring.iter_mut().next()? = x;
+    *ring.iter_mut().next()? = y;
+    let first = ring.drain().next()?;
+    let second = ring.drain().next()?;
+    Some((first, second))
+}
+
+/// The same on the heap.
+pub fn replace_and_take_two_on_heap(
+    ring: &mut AllocRingBuffer<u32>,
+    x: u32,
+    y: u32,
+) -> Option<(u32, u32)>
+    ensures contents { ring.new.items ≡ drop 2 ring.old.items }
+    ensures first { IfSome result (λ r. r.0 ≡ y) }
+{
+    *ring.iter_mut().next()? = x;
+    *ring.iter_mut().next()? = y;
+    let first = ring.drain().next()?;
+    let second = ring.drain().next()?;
+    Some((first, second))
+}
+
+/// The same in a growable ring.
+pub fn replace_and_take_two_in_growable(
+    ring: &mut GrowableAllocRingBuffer<u32>,
+    x: u32,
+    y: u32,
+) -> Option<(u32, u32)>
+    ensures contents { ring.new ≡ drop 2 ring.old }
+    ensures first { IfSome result (λ r. r.0 ≡ y) }
+{
+    *ring.iter_mut().next()? = x;
+    *ring.iter_mut().next()? = y;
+    let first = ring.drain().next()?;
+    let second = ring.drain().next()?;
+    Some((first, second))
+}
+
+/// Moves the items of a heap ring into an array ring, which keeps the last four of both.
+pub fn heap_into_array(to: &mut ConstGenericRingBuffer<u32, 4>, from: &mut AllocRingBuffer<u32>)
+    ensures moved { to.new.items ≡ keep_last (Some 4) (to.old.items ++ from.old.items) }
+    ensures emptied { from.new.items ≡ [] }
+    ensures capacity { from.new.capacity ≡ from.old.capacity }
+{
+    let _ = move_all(to, from);
+}
+
+/// Moves the items of a growable ring onto a heap ring.
+pub fn growable_onto_heap(to: &mut AllocRingBuffer<u32>, from: &mut GrowableAllocRingBuffer<u32>)
+    ensures moved { to.new.items ≡ keep_last (Some to.old.capacity) (to.old.items ++ from.old) }
+    ensures emptied { from.new ≡ [] }
+    ensures capacity { to.new.capacity ≡ to.old.capacity }
+{
+    let _ = move_all(to, from);
+}
+
+/// Moves the items of an array ring into a growable ring, which may be refused memory for them.
+pub fn array_into_growable(
+    to: &mut GrowableAllocRingBuffer<u32>,
+    from: &mut ConstGenericRingBuffer<u32, 4>,
+) -> Result<(), AllocError>
+    ensures moved { OnOk result (to.new ≡ to.old ++ from.old.items) }
+    ensures emptied { OnOk result (from.new.items ≡ []) }
+    ensures refused { OnErr result (MovesPart to.old from.old.items to.new from.new.items) }
+{
+    move_all(to, from)
+}
+
+/// The same by an extension by the drain. It says as much of the ring that is extended, and nothing of the one that is
+/// drained.
+pub fn extend_by_drain<T: Drop, A: RingBuffer<T>, B: RingBuffer<T>>(
+    to: &mut A,
+    from: &mut B,
+) -> Result<(), AllocError>
+    ensures moved { OnOk result (A.contents to.new
+        ≡ keep_last (A.limit to.old) (A.contents to.old ++ B.contents from.old)) }
+    ensures limit { A.limit to.new ≡ A.limit to.old }
+    ensures succeeds { IsSome (A.limit to.old) → IsOk result }
+{
+    to.extend(RingBufferDrainingIterator::new(from))
+}
+
+/// The bytes of a heap ring, copied a slice at a time.
+pub fn bytes_on_heap(alloc: Global, ring: &AllocRingBuffer<u8>) -> Result<Vec<u8>, AllocError>
+    ensures { IfOk result (λ bytes. bytes.items ≡ ring.now.items) }
+{
+    let (first, second) = ring.as_slices();
+    let mut bytes = Vec::with_capacity(alloc, ring.len())?;
+    bytes.extend_from_slice(first)?;
+    bytes.extend_from_slice(second)?;
+    Ok(bytes)
+}
+
+/// The bytes of a growable ring, copied a slice at a time.
+pub fn bytes_in_growable(
+    alloc: Global,
+    ring: &GrowableAllocRingBuffer<u8>,
+) -> Result<Vec<u8>, AllocError>
+    ensures { IfOk result (λ bytes. bytes.items ≡ ring.now) }
+{
+    let (first, second) = ring.as_slices();
+    let mut bytes = Vec::with_capacity(alloc, ring.len())?;
+    bytes.extend_from_slice(first)?;
+    bytes.extend_from_slice(second)?;
+    Ok(bytes)
 }

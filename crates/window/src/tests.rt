@@ -2,7 +2,7 @@
 
 use crate::WindowSum;
 use ringbuffer::{AllocRingBuffer, ConstGenericRingBuffer, GrowableAllocRingBuffer, RingBuffer};
-use std::alloc::{AllocError, Global};
+use std::alloc::AllocError;
 use std::process::Abort;
 
 /// A test on an empty ring of any type.
@@ -69,49 +69,6 @@ fn window_over_a_ring_without_a_limit(rt: HostRuntime) -> Result<(), AllocError>
     assert_eq!(rt; window.push(4), Ok(None));
     assert_eq!(rt; window.sum(), 10);
     assert_eq!(rt; window.len(), 4);
-    Ok(())
-}
-
-// More blocks than an address space is cut into.
-const MOST_BLOCKS: usize = 1 << 17;
-
-// A request that no address space has room for.
-const TOO_LARGE: usize = 1 << 47;
-
-// The C library keeps freed blocks of each small size apart, in steps of so many bytes.
-const SMALL: usize = 1 << 11;
-
-const STEP: usize = 16;
-
-/// Blocks that take all address space, so that no memory is had while they last. Nothing is written there.
-///
-/// Under `rt try`, whose allocator has limits of its own, nothing is known of it.
-fn all_memory(alloc: Global) -> Result<Vec<Vec<u8>>, AllocError> {
-    let mut taken = Vec::with_capacity(alloc, MOST_BLOCKS)?;
-    let mut size = TOO_LARGE;
-    for _ in 0..MOST_BLOCKS {
-        if let Ok(block) = Vec::with_capacity(alloc, size) {
-            taken.push(block)?;
-        } else if size > SMALL {
-            size /= 2;
-        } else if size > STEP {
-            size -= STEP;
-        } else {
-            break;
-        }
-    }
-    Ok(taken)
-}
-
-#[test]
-fn push_that_is_refused_memory(rt: HostRuntime) -> Result<(), AllocError> {
-    let mut window = WindowSum::new(GrowableAllocRingBuffer::<i64>::new(rt.alloc()));
-    let taken = all_memory(rt.alloc())?;
-    let answer = window.push(7);
-    drop(taken);
-    assert_eq!(rt; answer, Err(7));
-    assert_eq!(rt; window.sum(), 0);
-    assert_eq!(rt; window.len(), 0);
     Ok(())
 }
 

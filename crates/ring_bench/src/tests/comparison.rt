@@ -3,33 +3,10 @@
 ghost use Rattle.std.specs.Prelude.{◌<◌, ◌^◌};
 
 use super::{assert_holds, push_all};
+use ring_test_support::rings::Twin;
 use ringbuffer::{AllocRingBuffer, ConstGenericRingBuffer, GrowableAllocRingBuffer, RingBuffer};
 use std::alloc::AllocError;
 use std::process::Abort;
-
-/// A ring that can be cloned. Each type has a `clone` of its own, and no trait that the rings share has it.
-trait Twin: Sized {
-    /// The ring's clone.
-    fn twin(&self) -> Result<Self, AllocError>;
-}
-
-impl<const CAP: usize> Twin for ConstGenericRingBuffer<i64, CAP> {
-    fn twin(&self) -> Result<Self, AllocError> {
-        self.clone()
-    }
-}
-
-impl Twin for AllocRingBuffer<i64> {
-    fn twin(&self) -> Result<Self, AllocError> {
-        self.clone()
-    }
-}
-
-impl Twin for GrowableAllocRingBuffer<i64> {
-    fn twin(&self) -> Result<Self, AllocError> {
-        self.clone()
-    }
-}
 
 /// What a test does with a ring that is new, and another like it.
 trait TwinCase {

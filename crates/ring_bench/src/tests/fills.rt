@@ -1,6 +1,7 @@
 //! Fills.
 
-use super::{Case, assert_gives, assert_holds, on_fixed, push_all};
+use super::{assert_gives, assert_holds, push_all};
+use ring_test_support::rings::{Case, Rings};
 use ringbuffer::{AllocRingBuffer, GrowableAllocRingBuffer, RingBuffer};
 use std::alloc::AllocError;
 use std::process::Abort;
@@ -20,36 +21,38 @@ fn assert_filled<R: RingBuffer<i64>>(rt: &impl Abort, ring: &mut R, held: usize,
 
 struct FillsByDefault;
 
-impl Case for FillsByDefault {
-    fn on<R: RingBuffer<i64> + Drop>(&self, rt: &(impl Abort + AllocGlobal), mut ring: R) {
+impl<Rt: Abort + AllocGlobal> Case<Rt> for FillsByDefault {
+    fn on<R: RingBuffer<i64> + Drop>(&self, rt: &Rt, mut ring: R) -> Result<(), AllocError> {
         for held in 0..4 {
             push_ones(rt, &mut ring, held);
             assert!(rt; ring.fill_default().is_ok());
             assert_filled(rt, &mut ring, held, &[0, 0, 0, 0]);
         }
+        Ok(())
     }
 }
 
 #[test]
 fn a_default_fill_fills_from_any_length(rt: HostRuntime) -> Result<(), AllocError> {
-    on_fixed::<4>(&rt, &FillsByDefault)
+    Rings::<4>::fixed(&rt, &FillsByDefault)
 }
 
 struct FillsByClones;
 
-impl Case for FillsByClones {
-    fn on<R: RingBuffer<i64> + Drop>(&self, rt: &(impl Abort + AllocGlobal), mut ring: R) {
+impl<Rt: Abort + AllocGlobal> Case<Rt> for FillsByClones {
+    fn on<R: RingBuffer<i64> + Drop>(&self, rt: &Rt, mut ring: R) -> Result<(), AllocError> {
         for held in 0..4 {
             push_ones(rt, &mut ring, held);
             assert!(rt; ring.fill(3).is_ok());
             assert_filled(rt, &mut ring, held, &[3, 3, 3, 3]);
         }
+        Ok(())
     }
 }
 
 #[test]
 fn a_fill_of_clones_fills_from_any_length(rt: HostRuntime) -> Result<(), AllocError> {
-    on_fixed::<4>(&rt, &FillsByClones)
+    Rings::<4>::fixed(&rt, &FillsByClones)
 }
 
 #[test]
@@ -72,8 +75,8 @@ struct FillsByCounts {
     held: &'static [i64],
 }
 
-impl Case for FillsByCounts {
-    fn on<R: RingBuffer<i64> + Drop>(&self, rt: &(impl Abort + AllocGlobal), mut ring: R) {
+impl<Rt: Abort + AllocGlobal> Case<Rt> for FillsByCounts {
+    fn on<R: RingBuffer<i64> + Drop>(&self, rt: &Rt, mut ring: R) -> Result<(), AllocError> {
         push_all(rt, &mut ring, self.held);
         let mut calls = 0i64;
         let filled = ring.fill_with(|| {
@@ -85,19 +88,20 @@ impl Case for FillsByCounts {
         assert_eq!(rt; calls, 3);
         assert!(rt; ring.is_full());
         assert_holds(rt, &ring, &[0, 1, 2]);
+        Ok(())
     }
 }
 
 #[test]
 fn a_fill_takes_the_answers_of_its_closure(rt: HostRuntime) -> Result<(), AllocError> {
-    on_fixed::<3>(&rt, &FillsByCounts { held: &[7, 8] })?;
-    on_fixed::<3>(&rt, &FillsByCounts { held: &[9] })
+    Rings::<3>::fixed(&rt, &FillsByCounts { held: &[7, 8] })?;
+    Rings::<3>::fixed(&rt, &FillsByCounts { held: &[9] })
 }
 
 struct FillsByTurns;
 
-impl Case for FillsByTurns {
-    fn on<R: RingBuffer<i64> + Drop>(&self, rt: &(impl Abort + AllocGlobal), mut ring: R) {
+impl<Rt: Abort + AllocGlobal> Case<Rt> for FillsByTurns {
+    fn on<R: RingBuffer<i64> + Drop>(&self, rt: &Rt, mut ring: R) -> Result<(), AllocError> {
         let mut calls = 0i64;
         let mut last = 0i64;
         let filled = ring.fill_with(|| {
@@ -108,12 +112,13 @@ impl Case for FillsByTurns {
         assert!(rt; filled.is_ok());
         assert_holds(rt, &ring, &[1, 0, 1, 0]);
         assert_eq!(rt; calls, 4);
+        Ok(())
     }
 }
 
 #[test]
 fn a_fill_keeps_the_state_of_its_closure(rt: HostRuntime) -> Result<(), AllocError> {
-    on_fixed::<4>(&rt, &FillsByTurns)
+    Rings::<4>::fixed(&rt, &FillsByTurns)
 }
 
 #[test]
@@ -134,34 +139,44 @@ fn assert_agrees(rt: &impl Abort, ring: &GrowableAllocRingBuffer<i64>) {
     assert_eq!(rt; ring.buffer_size(), ring.capacity());
 }
 
+/// A growable ring of room for so many items, which holds three.
+fn three_in_room_for(
+    rt: &(impl Abort + AllocGlobal),
+    asked: usize,
+) -> Result<GrowableAllocRingBuffer<i64>, AllocError> {
+    let mut ring = GrowableAllocRingBuffer::with_capacity(rt.alloc(), asked)?;
+    push_all(rt, &mut ring, &[1, 2, 3]);
+    Ok(ring)
+}
+
 #[test]
 fn a_growable_ring_is_filled_to_its_capacity(rt: HostRuntime) -> Result<(), AllocError> {
-    let mut ring = GrowableAllocRingBuffer::with_capacity(rt.alloc(), 4)?;
-    push_all(&rt, &mut ring, &[1, 2, 3]);
-    let capacity = ring.capacity();
-    assert!(rt; capacity >= 3);
-    assert_agrees(&rt, &ring);
-    let mut calls = 0i64;
-    ring.fill_with(|| {
-        let answer = calls;
-        calls = answer.wrapping_add(1);
-        answer
-    })?;
-    assert_eq!(rt; ring.len(), capacity);
-    assert_agrees(&rt, &ring);
-    let mut count = 0i64;
-    for item in &ring {
-        assert_eq!(rt; *item, count);
-        count = count.wrapping_add(1);
+    for asked in [4, 100, 1000] {
+        let mut ring = three_in_room_for(&rt, asked)?;
+        let capacity = ring.capacity();
+        assert!(rt; capacity >= 3);
+        assert_agrees(&rt, &ring);
+        let mut calls = 0i64;
+        ring.fill_with(|| {
+            let answer = calls;
+            calls = answer.wrapping_add(1);
+            answer
+        })?;
+        assert_eq!(rt; ring.len(), capacity);
+        assert_agrees(&rt, &ring);
+        let mut count = 0i64;
+        for item in &ring {
+            assert_eq!(rt; *item, count);
+            count = count.wrapping_add(1);
+        }
+        assert_eq!(rt; calls, count);
     }
-    assert_eq!(rt; calls, count);
     Ok(())
 }
 
 #[test]
 fn other_fills_of_a_growable_ring_fill_it_too(rt: HostRuntime) -> Result<(), AllocError> {
-    let mut ring = GrowableAllocRingBuffer::with_capacity(rt.alloc(), 4)?;
-    push_all(&rt, &mut ring, &[1, 2, 3]);
+    let mut ring = three_in_room_for(&rt, 100)?;
     let capacity = ring.capacity();
     ring.fill(5)?;
     assert_eq!(rt; ring.len(), capacity);

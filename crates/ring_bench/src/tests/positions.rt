@@ -1,6 +1,7 @@
 //! Positions, reading and writing.
 
-use super::{Case, assert_gives, assert_holds, on_each, on_fixed, on_growable, push_all};
+use super::{assert_gives, assert_holds, push_all};
+use ring_test_support::rings::{Case, Rings};
 use ringbuffer::{AllocRingBuffer, ConstGenericRingBuffer, GrowableAllocRingBuffer, RingBuffer};
 use std::alloc::AllocError;
 use std::process::Abort;
@@ -44,72 +45,76 @@ fn write_signed<R: RingBuffer<i64>>(rt: &impl Abort, ring: &mut R, index: isize,
 
 struct NewestAtMinusOne;
 
-impl Case for NewestAtMinusOne {
-    fn on<R: RingBuffer<i64> + Drop>(&self, rt: &(impl Abort + AllocGlobal), mut ring: R) {
+impl<Rt: Abort + AllocGlobal> Case<Rt> for NewestAtMinusOne {
+    fn on<R: RingBuffer<i64> + Drop>(&self, rt: &Rt, mut ring: R) -> Result<(), AllocError> {
         for item in 0..10 {
             push_all(rt, &mut ring, &[item]);
             assert_at(rt, &mut ring, -1, item);
         }
+        Ok(())
     }
 }
 
 #[test]
 fn position_minus_one_is_the_newest(rt: HostRuntime) -> Result<(), AllocError> {
-    on_each::<8>(&rt, &NewestAtMinusOne)
+    Rings::<8>::each(&rt, &NewestAtMinusOne)
 }
 
 struct OldestAtZero;
 
-impl Case for OldestAtZero {
-    fn on<R: RingBuffer<i64> + Drop>(&self, rt: &(impl Abort + AllocGlobal), mut ring: R) {
+impl<Rt: Abort + AllocGlobal> Case<Rt> for OldestAtZero {
+    fn on<R: RingBuffer<i64> + Drop>(&self, rt: &Rt, mut ring: R) -> Result<(), AllocError> {
         push_all(rt, &mut ring, &[0, 1, 2, 3, 4, 5, 6, 7]);
         assert_from_oldest(rt, &mut ring, &[0, 1, 2, 3, 4, 5, 6, 7]);
+        Ok(())
     }
 }
 
 #[test]
 fn position_zero_is_the_oldest(rt: HostRuntime) -> Result<(), AllocError> {
-    on_each::<8>(&rt, &OldestAtZero)
+    Rings::<8>::each(&rt, &OldestAtZero)
 }
 
 struct NamedEnds;
 
-impl Case for NamedEnds {
-    fn on<R: RingBuffer<i64> + Drop>(&self, rt: &(impl Abort + AllocGlobal), mut ring: R) {
+impl<Rt: Abort + AllocGlobal> Case<Rt> for NamedEnds {
+    fn on<R: RingBuffer<i64> + Drop>(&self, rt: &Rt, mut ring: R) -> Result<(), AllocError> {
         push_all(rt, &mut ring, &[1, 2]);
         assert_eq!(rt; ring.peek().copied(), Some(1));
         assert_eq!(rt; ring.front().copied(), Some(1));
         assert_eq!(rt; ring.front_mut().copied(), Some(1));
         assert_eq!(rt; ring.back().copied(), Some(2));
         assert_eq!(rt; ring.back_mut().copied(), Some(2));
+        Ok(())
     }
 }
 
 #[test]
 fn the_ends_have_names(rt: HostRuntime) -> Result<(), AllocError> {
-    on_each::<2>(&rt, &NamedEnds)
+    Rings::<2>::each(&rt, &NamedEnds)
 }
 
 struct WrittenEnds;
 
-impl Case for WrittenEnds {
-    fn on<R: RingBuffer<i64> + Drop>(&self, rt: &(impl Abort + AllocGlobal), mut ring: R) {
+impl<Rt: Abort + AllocGlobal> Case<Rt> for WrittenEnds {
+    fn on<R: RingBuffer<i64> + Drop>(&self, rt: &Rt, mut ring: R) -> Result<(), AllocError> {
         push_all(rt, &mut ring, &[1, 2, 3]);
         *ring.front_mut().expect(rt, "an oldest item") = 8;
         *ring.back_mut().expect(rt, "a newest item") = 9;
         assert_holds(rt, &ring, &[8, 2, 9]);
+        Ok(())
     }
 }
 
 #[test]
 fn the_ends_can_be_written(rt: HostRuntime) -> Result<(), AllocError> {
-    on_each::<4>(&rt, &WrittenEnds)
+    Rings::<4>::each(&rt, &WrittenEnds)
 }
 
 struct NoPositions;
 
-impl Case for NoPositions {
-    fn on<R: RingBuffer<i64> + Drop>(&self, rt: &(impl Abort + AllocGlobal), mut ring: R) {
+impl<Rt: Abort + AllocGlobal> Case<Rt> for NoPositions {
+    fn on<R: RingBuffer<i64> + Drop>(&self, rt: &Rt, mut ring: R) -> Result<(), AllocError> {
         assert!(rt; ring.peek().is_none());
         assert!(rt; ring.front().is_none());
         assert!(rt; ring.back().is_none());
@@ -120,42 +125,45 @@ impl Case for NoPositions {
         assert!(rt; ring.get_mut(1).is_none());
         assert!(rt; ring.get_mut_signed(-1).is_none());
         assert!(rt; ring.dequeue().is_none());
+        Ok(())
     }
 }
 
 #[test]
 fn an_empty_ring_has_no_positions(rt: HostRuntime) -> Result<(), AllocError> {
-    on_each::<8>(&rt, &NoPositions)
+    Rings::<8>::each(&rt, &NoPositions)
 }
 
 struct WrapsByTheLength;
 
-impl Case for WrapsByTheLength {
-    fn on<R: RingBuffer<i64> + Drop>(&self, rt: &(impl Abort + AllocGlobal), mut ring: R) {
+impl<Rt: Abort + AllocGlobal> Case<Rt> for WrapsByTheLength {
+    fn on<R: RingBuffer<i64> + Drop>(&self, rt: &Rt, mut ring: R) -> Result<(), AllocError> {
         push_all(rt, &mut ring, &[0, 1]);
         assert_from_oldest(rt, &mut ring, &[0, 1, 0, 1]);
         assert_each_at(rt, &mut ring, &[(-1, 1), (-2, 0), (-3, 1), (-4, 0)]);
+        Ok(())
     }
 }
 
 #[test]
 fn positions_wrap_by_the_length(rt: HostRuntime) -> Result<(), AllocError> {
-    on_each::<8>(&rt, &WrapsByTheLength)
+    Rings::<8>::each(&rt, &WrapsByTheLength)
 }
 
 struct WrapsBelowZero;
 
-impl Case for WrapsBelowZero {
-    fn on<R: RingBuffer<i64> + Drop>(&self, rt: &(impl Abort + AllocGlobal), mut ring: R) {
+impl<Rt: Abort + AllocGlobal> Case<Rt> for WrapsBelowZero {
+    fn on<R: RingBuffer<i64> + Drop>(&self, rt: &Rt, mut ring: R) -> Result<(), AllocError> {
         push_all(rt, &mut ring, &[1, 2]);
         assert_each_at(rt, &mut ring, &[(1, 2), (0, 1), (-1, 2), (-2, 1), (-3, 2)]);
+        Ok(())
     }
 }
 
 #[test]
 fn positions_wrap_below_zero(rt: HostRuntime) -> Result<(), AllocError> {
-    on_fixed::<2>(&rt, &WrapsBelowZero)?;
-    WrapsBelowZero.on(&rt, GrowableAllocRingBuffer::new(rt.alloc()));
+    Rings::<2>::fixed(&rt, &WrapsBelowZero)?;
+    WrapsBelowZero.on(&rt, GrowableAllocRingBuffer::new(rt.alloc()))?;
     Ok(())
 }
 
@@ -166,59 +174,62 @@ struct MovesWithTheOldest {
     after: &'static [i64],
 }
 
-impl Case for MovesWithTheOldest {
-    fn on<R: RingBuffer<i64> + Drop>(&self, rt: &(impl Abort + AllocGlobal), mut ring: R) {
+impl<Rt: Abort + AllocGlobal> Case<Rt> for MovesWithTheOldest {
+    fn on<R: RingBuffer<i64> + Drop>(&self, rt: &Rt, mut ring: R) -> Result<(), AllocError> {
         push_all(rt, &mut ring, &[0, 1, 2]);
         assert_from_oldest(rt, &mut ring, self.before);
         write(rt, &mut ring, 0, 3);
         assert_holds(rt, &ring, self.after);
+        Ok(())
     }
 }
 
 #[test]
 fn positions_move_with_the_oldest_item(rt: HostRuntime) -> Result<(), AllocError> {
     let (before, after) = (&[1, 2], &[3, 2]);
-    on_fixed::<2>(&rt, &MovesWithTheOldest { before, after })
+    Rings::<2>::fixed(&rt, &MovesWithTheOldest { before, after })
 }
 
 #[test]
 fn a_growable_ring_has_every_position(rt: HostRuntime) -> Result<(), AllocError> {
     let (before, after) = (&[0, 1, 2], &[3, 1, 2]);
-    on_growable::<2>(&rt, &MovesWithTheOldest { before, after })
+    Rings::<2>::growable(&rt, &MovesWithTheOldest { before, after })
 }
 
 struct WritesOnePlace;
 
-impl Case for WritesOnePlace {
-    fn on<R: RingBuffer<i64> + Drop>(&self, rt: &(impl Abort + AllocGlobal), mut ring: R) {
+impl<Rt: Abort + AllocGlobal> Case<Rt> for WritesOnePlace {
+    fn on<R: RingBuffer<i64> + Drop>(&self, rt: &Rt, mut ring: R) -> Result<(), AllocError> {
         push_all(rt, &mut ring, &[0, 1]);
         write(rt, &mut ring, 0, 3);
         assert_holds(rt, &ring, &[3, 1]);
         write(rt, &mut ring, 1, 4);
         assert_holds(rt, &ring, &[3, 4]);
+        Ok(())
     }
 }
 
 #[test]
 fn a_write_changes_its_place_alone(rt: HostRuntime) -> Result<(), AllocError> {
-    on_each::<8>(&rt, &WritesOnePlace)
+    Rings::<8>::each(&rt, &WritesOnePlace)
 }
 
 struct WritesWrap;
 
-impl Case for WritesWrap {
-    fn on<R: RingBuffer<i64> + Drop>(&self, rt: &(impl Abort + AllocGlobal), mut ring: R) {
+impl<Rt: Abort + AllocGlobal> Case<Rt> for WritesWrap {
+    fn on<R: RingBuffer<i64> + Drop>(&self, rt: &Rt, mut ring: R) -> Result<(), AllocError> {
         push_all(rt, &mut ring, &[1, 2, 3]);
         write_signed(rt, &mut ring, -4, 9);
         assert_holds(rt, &ring, &[1, 2, 9]);
         write(rt, &mut ring, 4, 8);
         assert_holds(rt, &ring, &[1, 8, 9]);
+        Ok(())
     }
 }
 
 #[test]
 fn writes_wrap_by_the_length(rt: HostRuntime) -> Result<(), AllocError> {
-    on_each::<4>(&rt, &WritesWrap)
+    Rings::<4>::each(&rt, &WritesWrap)
 }
 
 /// Pushes 0, 1 and 2 and takes all, twice. Then it pushes them once more.
@@ -228,14 +239,15 @@ struct Emptied {
     found: &'static [(isize, i64)],
 }
 
-impl Case for Emptied {
-    fn on<R: RingBuffer<i64> + Drop>(&self, rt: &(impl Abort + AllocGlobal), mut ring: R) {
+impl<Rt: Abort + AllocGlobal> Case<Rt> for Emptied {
+    fn on<R: RingBuffer<i64> + Drop>(&self, rt: &Rt, mut ring: R) -> Result<(), AllocError> {
         for _ in 0..2 {
             push_all(rt, &mut ring, &[0, 1, 2]);
             assert_gives(rt, &mut ring, self.kept);
         }
         push_all(rt, &mut ring, &[0, 1, 2]);
         assert_each_at(rt, &mut ring, self.found);
+        Ok(())
     }
 }
 
@@ -243,21 +255,21 @@ impl Case for Emptied {
 fn positions_hold_after_a_ring_was_emptied(rt: HostRuntime) -> Result<(), AllocError> {
     let kept = &[1, 2];
     let found = &[(-1, 2), (-2, 1), (-3, 2)];
-    on_fixed::<2>(&rt, &Emptied { kept, found })
+    Rings::<2>::fixed(&rt, &Emptied { kept, found })
 }
 
 #[test]
 fn growable_positions_hold_after_a_ring_was_emptied(rt: HostRuntime) -> Result<(), AllocError> {
     let kept = &[0, 1, 2];
     let found = &[(-1, 2), (-2, 1), (-3, 0)];
-    on_growable::<2>(&rt, &Emptied { kept, found })
+    Rings::<2>::growable(&rt, &Emptied { kept, found })
 }
 
 // The remainders of -(2^63), 2^63 - 1 and 2^64 - 1 by the lengths 3, 5, 7 and 1 were found by hand.
 struct ExtremePositions;
 
-impl Case for ExtremePositions {
-    fn on<R: RingBuffer<i64> + Drop>(&self, rt: &(impl Abort + AllocGlobal), mut ring: R) {
+impl<Rt: Abort + AllocGlobal> Case<Rt> for ExtremePositions {
+    fn on<R: RingBuffer<i64> + Drop>(&self, rt: &Rt, mut ring: R) -> Result<(), AllocError> {
         let cases: [(&[i64], i64, i64, i64); 4] = [
             (&[1, 2, 3], 2, 2, 1),
             (&[0, 1, 2, 3, 4], 2, 2, 0),
@@ -274,12 +286,13 @@ impl Case for ExtremePositions {
         }
         push_all(rt, &mut ring, &[7]);
         assert_at(rt, &mut ring, -1, 7);
+        Ok(())
     }
 }
 
 #[test]
 fn extreme_positions_wrap_too(rt: HostRuntime) -> Result<(), AllocError> {
-    on_each::<8>(&rt, &ExtremePositions)
+    Rings::<8>::each(&rt, &ExtremePositions)
 }
 
 // No trait that the rings share has indexes, so the body is a macro.

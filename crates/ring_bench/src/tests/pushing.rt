@@ -3,7 +3,8 @@
 ghost use Rattle.std.specs.Prelude.{◌-◌};
 ghost use Rattle.std.specs.Iterator.{at_most};
 
-use super::{Case, assert_gives, assert_holds, on_each, on_fixed, on_growable, push_all};
+use super::{assert_gives, assert_holds, push_all};
+use ring_test_support::rings::{Case, Rings};
 use ringbuffer::{AllocRingBuffer, ConstGenericRingBuffer, RingBuffer};
 use std::alloc::AllocError;
 use std::process::Abort;
@@ -17,8 +18,8 @@ fn assert_pushes<R: RingBuffer<i64>>(rt: &impl Abort, ring: &mut R, pushes: &[(i
 
 struct KeepsTheNewest;
 
-impl Case for KeepsTheNewest {
-    fn on<R: RingBuffer<i64> + Drop>(&self, rt: &(impl Abort + AllocGlobal), mut ring: R) {
+impl<Rt: Abort + AllocGlobal> Case<Rt> for KeepsTheNewest {
+    fn on<R: RingBuffer<i64> + Drop>(&self, rt: &Rt, mut ring: R) -> Result<(), AllocError> {
         push_all(rt, &mut ring, &[5]);
         assert_eq!(rt; ring.back().copied(), Some(5));
         push_all(rt, &mut ring, &[42]);
@@ -27,75 +28,80 @@ impl Case for KeepsTheNewest {
         push_all(rt, &mut ring, &[1]);
         let items = ring.to_vec(rt.alloc()).expect(rt, "memory");
         assert_eq!(rt; items.as_slice(), [42, 1].as_slice());
+        Ok(())
     }
 }
 
 #[test]
 fn a_full_ring_keeps_the_newest(rt: HostRuntime) -> Result<(), AllocError> {
-    on_fixed::<2>(&rt, &KeepsTheNewest)?;
-    KeepsTheNewest.on(&rt, AllocRingBuffer::with_capacity(rt.alloc(), 2)?);
+    Rings::<2>::fixed(&rt, &KeepsTheNewest)?;
+    KeepsTheNewest.on(&rt, AllocRingBuffer::with_capacity(rt.alloc(), 2)?)?;
     Ok(())
 }
 
 struct HandsBack;
 
-impl Case for HandsBack {
-    fn on<R: RingBuffer<i64> + Drop>(&self, rt: &(impl Abort + AllocGlobal), mut ring: R) {
+impl<Rt: Abort + AllocGlobal> Case<Rt> for HandsBack {
+    fn on<R: RingBuffer<i64> + Drop>(&self, rt: &Rt, mut ring: R) -> Result<(), AllocError> {
         assert_pushes(rt, &mut ring, &[(5, None), (42, None), (1, Some(5))]);
         assert_eq!(rt; ring.enqueue(6), Ok(Some(42)));
         assert_eq!(rt; ring.enqueue(7), Ok(Some(1)));
+        Ok(())
     }
 }
 
 #[test]
 fn a_push_hands_back_what_it_overwrote(rt: HostRuntime) -> Result<(), AllocError> {
-    on_fixed::<2>(&rt, &HandsBack)
+    Rings::<2>::fixed(&rt, &HandsBack)
 }
 
 struct PushesAfterADequeue;
 
-impl Case for PushesAfterADequeue {
-    fn on<R: RingBuffer<i64> + Drop>(&self, rt: &(impl Abort + AllocGlobal), mut ring: R) {
+impl<Rt: Abort + AllocGlobal> Case<Rt> for PushesAfterADequeue {
+    fn on<R: RingBuffer<i64> + Drop>(&self, rt: &Rt, mut ring: R) -> Result<(), AllocError> {
         push_all(rt, &mut ring, &[0, 1]);
         assert_eq!(rt; ring.dequeue(), Some(0));
         assert_pushes(rt, &mut ring, &[(2, None), (3, None), (4, Some(1))]);
         assert_gives(rt, &mut ring, &[2, 3, 4]);
+        Ok(())
     }
 }
 
 #[test]
 fn a_push_after_a_dequeue_hands_nothing_back(rt: HostRuntime) -> Result<(), AllocError> {
-    on_fixed::<3>(&rt, &PushesAfterADequeue)
+    Rings::<3>::fixed(&rt, &PushesAfterADequeue)
 }
 
 struct PushesAfterAClear;
 
-impl Case for PushesAfterAClear {
-    fn on<R: RingBuffer<i64> + Drop>(&self, rt: &(impl Abort + AllocGlobal), mut ring: R) {
+impl<Rt: Abort + AllocGlobal> Case<Rt> for PushesAfterAClear {
+    fn on<R: RingBuffer<i64> + Drop>(&self, rt: &Rt, mut ring: R) -> Result<(), AllocError> {
         assert_pushes(rt, &mut ring, &[(0, None), (1, None)]);
         ring.clear();
         assert_pushes(rt, &mut ring, &[(2, None), (3, None), (4, Some(2))]);
         assert_gives(rt, &mut ring, &[3, 4]);
+        Ok(())
     }
 }
 
 #[test]
 fn a_push_after_a_clear_hands_nothing_back(rt: HostRuntime) -> Result<(), AllocError> {
-    on_fixed::<2>(&rt, &PushesAfterAClear)
+    Rings::<2>::fixed(&rt, &PushesAfterAClear)
 }
 
 struct HandsNothingBack;
 
-impl Case for HandsNothingBack {
-    fn on<R: RingBuffer<i64> + Drop>(&self, rt: &(impl Abort + AllocGlobal), mut ring: R) {
+impl<Rt: Abort + AllocGlobal> Case<Rt> for HandsNothingBack {
+    fn on<R: RingBuffer<i64> + Drop>(&self, rt: &Rt, mut ring: R) -> Result<(), AllocError> {
         assert_pushes(rt, &mut ring, &[(1, None), (2, None), (3, None)]);
         assert_gives(rt, &mut ring, &[1, 2, 3]);
+        Ok(())
     }
 }
 
 #[test]
 fn a_push_without_a_limit_hands_nothing_back(rt: HostRuntime) -> Result<(), AllocError> {
-    on_growable::<2>(&rt, &HandsNothingBack)
+    Rings::<2>::growable(&rt, &HandsNothingBack)
 }
 
 /// A ring that is new has this capacity, and no item.
@@ -104,27 +110,27 @@ struct New {
     capacity: usize,
 }
 
-impl Case for New {
-    fn on<R: RingBuffer<i64> + Drop>(&self, rt: &(impl Abort + AllocGlobal), ring: R) {
+impl<Rt: Abort + AllocGlobal> Case<Rt> for New {
+    fn on<R: RingBuffer<i64> + Drop>(&self, rt: &Rt, ring: R) -> Result<(), AllocError> {
         assert_eq!(rt; ring.capacity(), self.capacity);
         assert_eq!(rt; ring.len(), 0);
+        Ok(())
     }
 }
 
 #[test]
 fn a_new_ring_is_empty(rt: HostRuntime) -> Result<(), AllocError> {
     let new = New { capacity: 8 };
-    on_fixed::<8>(&rt, &new)?;
-    new.on(&rt, ConstGenericRingBuffer::<i64, 8>::default());
-    new.on(&rt, AllocRingBuffer::with_capacity(rt.alloc(), 8)?);
+    Rings::<8>::fixed(&rt, &new)?;
+    new.on(&rt, ConstGenericRingBuffer::<i64, 8>::default())?;
+    new.on(&rt, AllocRingBuffer::with_capacity(rt.alloc(), 8)?)?;
     Ok(())
 }
 
 #[test]
 fn a_capacity_may_be_given_as_a_power_of_two(rt: HostRuntime) -> Result<(), AllocError> {
     let ring = AllocRingBuffer::with_capacity_power_of_2(rt.alloc(), 2)?;
-    New { capacity: 4 }.on(&rt, ring);
-    Ok(())
+    New { capacity: 4 }.on(&rt, ring)
 }
 
 /// Pushes, each with the length before it and after it.
@@ -133,109 +139,114 @@ struct Lengths {
     pushes: &'static [(i64, usize, usize)],
 }
 
-impl Case for Lengths {
-    fn on<R: RingBuffer<i64> + Drop>(&self, rt: &(impl Abort + AllocGlobal), mut ring: R) {
+impl<Rt: Abort + AllocGlobal> Case<Rt> for Lengths {
+    fn on<R: RingBuffer<i64> + Drop>(&self, rt: &Rt, mut ring: R) -> Result<(), AllocError> {
         for (item, before, after) in self.pushes {
             assert_eq!(rt; ring.len(), *before, "before {item}");
             push_all(rt, &mut ring, &[*item]);
             assert_eq!(rt; ring.len(), *after, "after {item}");
         }
+        Ok(())
     }
 }
 
 #[test]
 fn length_counts_the_pushes(rt: HostRuntime) -> Result<(), AllocError> {
     let pushes = &[(1, 0, 1), (2, 1, 2)];
-    on_each::<8>(&rt, &Lengths { pushes })
+    Rings::<8>::each(&rt, &Lengths { pushes })
 }
 
 #[test]
 fn length_stops_at_the_capacity(rt: HostRuntime) -> Result<(), AllocError> {
     let pushes = &[(1, 0, 1), (2, 1, 2), (3, 2, 2), (4, 2, 2)];
-    on_fixed::<2>(&rt, &Lengths { pushes })
+    Rings::<2>::fixed(&rt, &Lengths { pushes })
 }
 
 #[test]
 fn length_grows_without_a_limit(rt: HostRuntime) -> Result<(), AllocError> {
     let pushes = &[(0, 0, 1), (1, 1, 2), (2, 2, 3)];
-    on_growable::<2>(&rt, &Lengths { pushes })
+    Rings::<2>::growable(&rt, &Lengths { pushes })
 }
 
 struct Cleared;
 
-impl Case for Cleared {
-    fn on<R: RingBuffer<i64> + Drop>(&self, rt: &(impl Abort + AllocGlobal), mut ring: R) {
+impl<Rt: Abort + AllocGlobal> Case<Rt> for Cleared {
+    fn on<R: RingBuffer<i64> + Drop>(&self, rt: &Rt, mut ring: R) -> Result<(), AllocError> {
         assert!(rt; ring.is_empty());
         push_all(rt, &mut ring, &[1, 2, 3]);
         assert!(rt; !ring.is_empty());
         ring.clear();
         assert!(rt; ring.is_empty());
         assert_eq!(rt; ring.len(), 0);
+        Ok(())
     }
 }
 
 #[test]
 fn a_cleared_ring_is_empty(rt: HostRuntime) -> Result<(), AllocError> {
-    on_each::<8>(&rt, &Cleared)
+    Rings::<8>::each(&rt, &Cleared)
 }
 
 struct FullAtTwo;
 
-impl Case for FullAtTwo {
-    fn on<R: RingBuffer<i64> + Drop>(&self, rt: &(impl Abort + AllocGlobal), mut ring: R) {
+impl<Rt: Abort + AllocGlobal> Case<Rt> for FullAtTwo {
+    fn on<R: RingBuffer<i64> + Drop>(&self, rt: &Rt, mut ring: R) -> Result<(), AllocError> {
         for (item, full_before) in [(1, false), (2, false), (3, true), (4, true)] {
             assert_eq!(rt; ring.is_full(), full_before, "before {item}");
             push_all(rt, &mut ring, &[item]);
         }
         ring.skip();
         assert!(rt; !ring.is_full());
+        Ok(())
     }
 }
 
 #[test]
 fn a_ring_is_full_at_its_capacity_alone(rt: HostRuntime) -> Result<(), AllocError> {
-    on_fixed::<2>(&rt, &FullAtTwo)
+    Rings::<2>::fixed(&rt, &FullAtTwo)
 }
 
 struct LeavesInOrder;
 
-impl Case for LeavesInOrder {
-    fn on<R: RingBuffer<i64> + Drop>(&self, rt: &(impl Abort + AllocGlobal), mut ring: R) {
+impl<Rt: Abort + AllocGlobal> Case<Rt> for LeavesInOrder {
+    fn on<R: RingBuffer<i64> + Drop>(&self, rt: &Rt, mut ring: R) -> Result<(), AllocError> {
         push_all(rt, &mut ring, &[0, 1]);
         assert_eq!(rt; ring.len(), 2);
         assert_eq!(rt; ring.dequeue(), Some(0));
         assert_eq!(rt; ring.dequeue(), Some(1));
         assert_eq!(rt; ring.len(), 0);
         assert_eq!(rt; ring.dequeue(), None);
+        Ok(())
     }
 }
 
 #[test]
 fn items_leave_in_the_order_of_their_pushes(rt: HostRuntime) -> Result<(), AllocError> {
-    on_each::<8>(&rt, &LeavesInOrder)
+    Rings::<8>::each(&rt, &LeavesInOrder)
 }
 
 struct SkipsTheOldest;
 
-impl Case for SkipsTheOldest {
-    fn on<R: RingBuffer<i64> + Drop>(&self, rt: &(impl Abort + AllocGlobal), mut ring: R) {
+impl<Rt: Abort + AllocGlobal> Case<Rt> for SkipsTheOldest {
+    fn on<R: RingBuffer<i64> + Drop>(&self, rt: &Rt, mut ring: R) -> Result<(), AllocError> {
         push_all(rt, &mut ring, &[0, 1]);
         ring.skip();
         assert_holds(rt, &ring, &[1]);
         ring.skip();
         assert_eq!(rt; ring.len(), 0);
+        Ok(())
     }
 }
 
 #[test]
 fn skip_drops_the_oldest(rt: HostRuntime) -> Result<(), AllocError> {
-    on_each::<8>(&rt, &SkipsTheOldest)
+    Rings::<8>::each(&rt, &SkipsTheOldest)
 }
 
 struct SkipsNothing;
 
-impl Case for SkipsNothing {
-    fn on<R: RingBuffer<i64> + Drop>(&self, rt: &(impl Abort + AllocGlobal), mut ring: R) {
+impl<Rt: Abort + AllocGlobal> Case<Rt> for SkipsNothing {
+    fn on<R: RingBuffer<i64> + Drop>(&self, rt: &Rt, mut ring: R) -> Result<(), AllocError> {
         for _ in 0..3 {
             ring.skip();
         }
@@ -244,18 +255,19 @@ impl Case for SkipsNothing {
         assert_eq!(rt; ring.dequeue(), None);
         ring.skip();
         assert_eq!(rt; ring.dequeue(), None);
+        Ok(())
     }
 }
 
 #[test]
 fn skip_does_nothing_to_an_empty_ring(rt: HostRuntime) -> Result<(), AllocError> {
-    on_each::<2>(&rt, &SkipsNothing)
+    Rings::<2>::each(&rt, &SkipsNothing)
 }
 
 struct UsedAgain;
 
-impl Case for UsedAgain {
-    fn on<R: RingBuffer<i64> + Drop>(&self, rt: &(impl Abort + AllocGlobal), mut ring: R) {
+impl<Rt: Abort + AllocGlobal> Case<Rt> for UsedAgain {
+    fn on<R: RingBuffer<i64> + Drop>(&self, rt: &Rt, mut ring: R) -> Result<(), AllocError> {
         for _ in 0..2 {
             push_all(rt, &mut ring, &[0, 1]);
             assert_gives(rt, &mut ring, &[0, 1]);
@@ -265,12 +277,13 @@ impl Case for UsedAgain {
             assert!(rt; ring.enqueue(1).is_ok());
             assert_gives(rt, &mut ring, &[0, 1]);
         }
+        Ok(())
     }
 }
 
 #[test]
 fn an_emptied_ring_is_used_again(rt: HostRuntime) -> Result<(), AllocError> {
-    on_each::<8>(&rt, &UsedAgain)
+    Rings::<8>::each(&rt, &UsedAgain)
 }
 
 /// Pushes 0, 1 and 2, and takes all. Then it does so again.
@@ -279,29 +292,30 @@ struct FilledTwice {
     kept: &'static [i64],
 }
 
-impl Case for FilledTwice {
-    fn on<R: RingBuffer<i64> + Drop>(&self, rt: &(impl Abort + AllocGlobal), mut ring: R) {
+impl<Rt: Abort + AllocGlobal> Case<Rt> for FilledTwice {
+    fn on<R: RingBuffer<i64> + Drop>(&self, rt: &Rt, mut ring: R) -> Result<(), AllocError> {
         for _ in 0..2 {
             push_all(rt, &mut ring, &[0, 1, 2]);
             assert_gives(rt, &mut ring, self.kept);
         }
+        Ok(())
     }
 }
 
 #[test]
 fn an_overwritten_item_does_not_leave(rt: HostRuntime) -> Result<(), AllocError> {
-    on_fixed::<2>(&rt, &FilledTwice { kept: &[1, 2] })
+    Rings::<2>::fixed(&rt, &FilledTwice { kept: &[1, 2] })
 }
 
 #[test]
 fn a_growable_ring_overwrites_nothing(rt: HostRuntime) -> Result<(), AllocError> {
-    on_growable::<2>(&rt, &FilledTwice { kept: &[0, 1, 2] })
+    Rings::<2>::growable(&rt, &FilledTwice { kept: &[0, 1, 2] })
 }
 
 struct KeepsTheLastTen;
 
-impl Case for KeepsTheLastTen {
-    fn on<R: RingBuffer<i64> + Drop>(&self, rt: &(impl Abort + AllocGlobal), mut ring: R) {
+impl<Rt: Abort + AllocGlobal> Case<Rt> for KeepsTheLastTen {
+    fn on<R: RingBuffer<i64> + Drop>(&self, rt: &Rt, mut ring: R) -> Result<(), AllocError> {
         for _ in 0..100 {
             for item in 0..1000 {
                 assert!(rt; ring.enqueue(item).is_ok());
@@ -312,18 +326,19 @@ impl Case for KeepsTheLastTen {
             }
             assert!(rt; ring.is_empty());
         }
+        Ok(())
     }
 }
 
 #[test]
 fn the_last_of_many_stay(rt: HostRuntime) -> Result<(), AllocError> {
-    on_fixed::<10>(&rt, &KeepsTheLastTen)
+    Rings::<10>::fixed(&rt, &KeepsTheLastTen)
 }
 
 struct ComesAndGoes;
 
-impl Case for ComesAndGoes {
-    fn on<R: RingBuffer<i64> + Drop>(&self, rt: &(impl Abort + AllocGlobal), mut ring: R) {
+impl<Rt: Abort + AllocGlobal> Case<Rt> for ComesAndGoes {
+    fn on<R: RingBuffer<i64> + Drop>(&self, rt: &Rt, mut ring: R) -> Result<(), AllocError> {
         for _ in 0..100_000 {
             for _ in 0..2 {
                 push_all(rt, &mut ring, &[1, 2]);
@@ -334,90 +349,96 @@ impl Case for ComesAndGoes {
             assert_eq!(rt; ring.get_signed(-1).copied(), Some(2));
             assert_eq!(rt; ring.get_signed(-2).copied(), Some(1));
         }
+        Ok(())
     }
 }
 
 #[test]
 fn items_come_and_go_for_long(rt: HostRuntime) -> Result<(), AllocError> {
-    on_each::<8>(&rt, &ComesAndGoes)
+    Rings::<8>::each(&rt, &ComesAndGoes)
 }
 
 struct ExtendsInOrder;
 
-impl Case for ExtendsInOrder {
-    fn on<R: RingBuffer<i64> + Drop>(&self, rt: &(impl Abort + AllocGlobal), mut ring: R) {
+impl<Rt: Abort + AllocGlobal> Case<Rt> for ExtendsInOrder {
+    fn on<R: RingBuffer<i64> + Drop>(&self, rt: &Rt, mut ring: R) -> Result<(), AllocError> {
         push_all(rt, &mut ring, &[0, 0, 0, 0]);
         assert!(rt; ring.extend([0, 1, 2]).is_ok());
         assert_holds(rt, &ring, &[0, 0, 1, 2]);
+        Ok(())
     }
 }
 
 #[test]
 fn extend_pushes_in_order(rt: HostRuntime) -> Result<(), AllocError> {
-    on_fixed::<4>(&rt, &ExtendsInOrder)
+    Rings::<4>::fixed(&rt, &ExtendsInOrder)
 }
 
 struct ExtendsByMore;
 
-impl Case for ExtendsByMore {
-    fn on<R: RingBuffer<i64> + Drop>(&self, rt: &(impl Abort + AllocGlobal), mut ring: R) {
+impl<Rt: Abort + AllocGlobal> Case<Rt> for ExtendsByMore {
+    fn on<R: RingBuffer<i64> + Drop>(&self, rt: &Rt, mut ring: R) -> Result<(), AllocError> {
         push_all(rt, &mut ring, &[0, 0, 0, 0, 0, 0, 0, 0]);
         assert!(rt; ring.extend([0, 1, 2, 3, 4, 5, 6, 7, 8, 9]).is_ok());
         assert_holds(rt, &ring, &[2, 3, 4, 5, 6, 7, 8, 9]);
+        Ok(())
     }
 }
 
 #[test]
 fn extend_keeps_the_last_of_a_long_source(rt: HostRuntime) -> Result<(), AllocError> {
-    on_fixed::<8>(&rt, &ExtendsByMore)
+    Rings::<8>::fixed(&rt, &ExtendsByMore)
 }
 
 struct ExtendsByNothing;
 
-impl Case for ExtendsByNothing {
-    fn on<R: RingBuffer<i64> + Drop>(&self, rt: &(impl Abort + AllocGlobal), mut ring: R) {
+impl<Rt: Abort + AllocGlobal> Case<Rt> for ExtendsByNothing {
+    fn on<R: RingBuffer<i64> + Drop>(&self, rt: &Rt, mut ring: R) -> Result<(), AllocError> {
         push_all(rt, &mut ring, &[1, 2]);
         assert!(rt; ring.extend([]).is_ok());
         assert_holds(rt, &ring, &[1, 2]);
         assert!(rt; ring.extend([3, 4, 5, 6, 7]).is_ok());
         assert_holds(rt, &ring, &[5, 6, 7]);
+        Ok(())
     }
 }
 
 #[test]
 fn an_empty_source_changes_nothing(rt: HostRuntime) -> Result<(), AllocError> {
-    on_fixed::<3>(&rt, &ExtendsByNothing)
+    Rings::<3>::fixed(&rt, &ExtendsByNothing)
 }
 
 struct ExtendsOneSlot;
 
-impl Case for ExtendsOneSlot {
-    fn on<R: RingBuffer<i64> + Drop>(&self, rt: &(impl Abort + AllocGlobal), mut ring: R) {
+impl<Rt: Abort + AllocGlobal> Case<Rt> for ExtendsOneSlot {
+    fn on<R: RingBuffer<i64> + Drop>(&self, rt: &Rt, mut ring: R) -> Result<(), AllocError> {
         assert!(rt; ring.extend([1, 2, 3]).is_ok());
         assert_holds(rt, &ring, &[3]);
+        Ok(())
     }
 }
 
 #[test]
 fn one_slot_keeps_the_last_of_a_source(rt: HostRuntime) -> Result<(), AllocError> {
-    on_fixed::<1>(&rt, &ExtendsOneSlot)
+    Rings::<1>::fixed(&rt, &ExtendsOneSlot)
 }
 
 struct TakesAll;
 
-impl Case for TakesAll {
-    fn on<R: RingBuffer<i64> + Drop>(&self, rt: &(impl Abort + AllocGlobal), mut ring: R) {
+impl<Rt: Abort + AllocGlobal> Case<Rt> for TakesAll {
+    fn on<R: RingBuffer<i64> + Drop>(&self, rt: &Rt, mut ring: R) -> Result<(), AllocError> {
         assert!(rt; ring.extend([]).is_ok());
         assert_holds(rt, &ring, &[]);
         assert!(rt; ring.extend([1, 2, 3]).is_ok());
         assert!(rt; ring.extend([4, 5]).is_ok());
         assert_holds(rt, &ring, &[1, 2, 3, 4, 5]);
+        Ok(())
     }
 }
 
 #[test]
 fn a_growable_ring_takes_a_whole_source(rt: HostRuntime) -> Result<(), AllocError> {
-    on_growable::<2>(&rt, &TakesAll)
+    Rings::<2>::growable(&rt, &TakesAll)
 }
 
 /// A source of one's own: the numbers from `next` up to `end`.
@@ -444,90 +465,95 @@ impl Iterator for Numbers {
 
 struct ExtendsByNumbers;
 
-impl Case for ExtendsByNumbers {
-    fn on<R: RingBuffer<i64> + Drop>(&self, rt: &(impl Abort + AllocGlobal), mut ring: R) {
+impl<Rt: Abort + AllocGlobal> Case<Rt> for ExtendsByNumbers {
+    fn on<R: RingBuffer<i64> + Drop>(&self, rt: &Rt, mut ring: R) -> Result<(), AllocError> {
         let numbers = Numbers {
             next: 0,
             end: 10_000,
         };
         assert!(rt; ring.extend(numbers).is_ok());
         assert_holds(rt, &ring, &[9998, 9999]);
+        Ok(())
     }
 }
 
 #[test]
 fn extend_takes_any_source_that_ends(rt: HostRuntime) -> Result<(), AllocError> {
-    on_fixed::<2>(&rt, &ExtendsByNumbers)
+    Rings::<2>::fixed(&rt, &ExtendsByNumbers)
 }
 
 struct TakesForRoom;
 
-impl Case for TakesForRoom {
-    fn on<R: RingBuffer<i64> + Drop>(&self, rt: &(impl Abort + AllocGlobal), mut ring: R) {
+impl<Rt: Abort + AllocGlobal> Case<Rt> for TakesForRoom {
+    fn on<R: RingBuffer<i64> + Drop>(&self, rt: &Rt, mut ring: R) -> Result<(), AllocError> {
         push_all(rt, &mut ring, &[0, 1]);
         assert_eq!(rt; ring.dequeue(), Some(0));
         push_all(rt, &mut ring, &[2, 3]);
         assert_holds(rt, &ring, &[1, 2, 3]);
         push_all(rt, &mut ring, &[4]);
         assert_holds(rt, &ring, &[2, 3, 4]);
+        Ok(())
     }
 }
 
 #[test]
 fn a_taken_item_makes_room(rt: HostRuntime) -> Result<(), AllocError> {
-    on_fixed::<3>(&rt, &TakesForRoom)
+    Rings::<3>::fixed(&rt, &TakesForRoom)
 }
 
 struct ClearsForRoom;
 
-impl Case for ClearsForRoom {
-    fn on<R: RingBuffer<i64> + Drop>(&self, rt: &(impl Abort + AllocGlobal), mut ring: R) {
+impl<Rt: Abort + AllocGlobal> Case<Rt> for ClearsForRoom {
+    fn on<R: RingBuffer<i64> + Drop>(&self, rt: &Rt, mut ring: R) -> Result<(), AllocError> {
         push_all(rt, &mut ring, &[0, 1]);
         ring.clear();
         push_all(rt, &mut ring, &[2, 3]);
         assert_holds(rt, &ring, &[2, 3]);
         push_all(rt, &mut ring, &[4]);
         assert_holds(rt, &ring, &[3, 4]);
+        Ok(())
     }
 }
 
 #[test]
 fn a_clear_makes_room(rt: HostRuntime) -> Result<(), AllocError> {
-    on_fixed::<2>(&rt, &ClearsForRoom)
+    Rings::<2>::fixed(&rt, &ClearsForRoom)
 }
 
 struct GoesRound;
 
-impl Case for GoesRound {
-    fn on<R: RingBuffer<i64> + Drop>(&self, rt: &(impl Abort + AllocGlobal), mut ring: R) {
+impl<Rt: Abort + AllocGlobal> Case<Rt> for GoesRound {
+    fn on<R: RingBuffer<i64> + Drop>(&self, rt: &Rt, mut ring: R) -> Result<(), AllocError> {
         push_all(rt, &mut ring, &[0, 1, 2, 3, 4, 5, 6, 7, 8]);
         assert_holds(rt, &ring, &[4, 5, 6, 7, 8]);
         assert_eq!(rt; ring.dequeue(), Some(4));
         push_all(rt, &mut ring, &[9, 10]);
         assert_holds(rt, &ring, &[6, 7, 8, 9, 10]);
+        Ok(())
     }
 }
 
 #[test]
 fn items_go_round_the_slots(rt: HostRuntime) -> Result<(), AllocError> {
-    on_fixed::<5>(&rt, &GoesRound)
+    Rings::<5>::fixed(&rt, &GoesRound)
 }
 
 struct OneSlot;
 
-impl Case for OneSlot {
-    fn on<R: RingBuffer<i64> + Drop>(&self, rt: &(impl Abort + AllocGlobal), mut ring: R) {
+impl<Rt: Abort + AllocGlobal> Case<Rt> for OneSlot {
+    fn on<R: RingBuffer<i64> + Drop>(&self, rt: &Rt, mut ring: R) -> Result<(), AllocError> {
         assert_eq!(rt; ring.buffer_size(), 1);
         push_all(rt, &mut ring, &[1, 2]);
         assert_holds(rt, &ring, &[2]);
         push_all(rt, &mut ring, &[3, 4, 5, 6, 7, 8, 9]);
         assert_holds(rt, &ring, &[9]);
+        Ok(())
     }
 }
 
 #[test]
 fn a_ring_may_have_one_slot(rt: HostRuntime) -> Result<(), AllocError> {
-    on_fixed::<1>(&rt, &OneSlot)
+    Rings::<1>::fixed(&rt, &OneSlot)
 }
 
 /// The ring has this capacity, and this number of slots.

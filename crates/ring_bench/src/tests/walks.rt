@@ -1,7 +1,8 @@
 //! Walks over the items: reading, writing and taking; lists of the items.
 
-use super::{Case, assert_holds, on_each, on_fixed, on_growable, push_all};
+use super::{assert_holds, push_all};
 use End::{Back, Front};
+use ring_test_support::rings::{Case, Rings};
 use ringbuffer::{
     AllocRingBuffer, ConstGenericRingBuffer, GrowableAllocRingBuffer, RingBuffer,
     RingBufferDrainingIterator, RingBufferIntoIterator, RingBufferIterator, RingBufferMutIterator,
@@ -70,11 +71,12 @@ struct Steps {
     steps: &'static [(End, Option<i64>)],
 }
 
-impl Case for Steps {
-    fn on<R: RingBuffer<i64> + Drop>(&self, rt: &(impl Abort + AllocGlobal), mut ring: R) {
+impl<Rt: Abort + AllocGlobal> Case<Rt> for Steps {
+    fn on<R: RingBuffer<i64> + Drop>(&self, rt: &Rt, mut ring: R) -> Result<(), AllocError> {
         push_all(rt, &mut ring, self.items);
         assert_reads(rt, &ring, self.steps);
         assert_lends(rt, &mut ring, self.steps);
+        Ok(())
     }
 }
 
@@ -91,8 +93,8 @@ fn walks_meet_in_the_middle(rt: HostRuntime) -> Result<(), AllocError> {
         (Front, Some(4)),
         (Front, None),
     ];
-    on_each::<8>(&rt, &Steps { items, steps })?;
-    on_each::<7>(&rt, &Steps { items, steps })
+    Rings::<8>::each(&rt, &Steps { items, steps })?;
+    Rings::<7>::each(&rt, &Steps { items, steps })
 }
 
 #[test]
@@ -105,54 +107,56 @@ fn walks_begin_at_either_end(rt: HostRuntime) -> Result<(), AllocError> {
         (Back, Some(2)),
         (Back, None),
     ];
-    on_each::<8>(&rt, &Steps { items, steps })
+    Rings::<8>::each(&rt, &Steps { items, steps })
 }
 
 #[test]
 fn an_ended_walk_stays_ended(rt: HostRuntime) -> Result<(), AllocError> {
     let items = &[1];
     let steps = &[(Back, Some(1)), (Front, None), (Back, None), (Front, None)];
-    on_each::<8>(&rt, &Steps { items, steps })
+    Rings::<8>::each(&rt, &Steps { items, steps })
 }
 
 struct NothingToCome;
 
-impl Case for NothingToCome {
-    fn on<R: RingBuffer<i64> + Drop>(&self, rt: &(impl Abort + AllocGlobal), mut ring: R) {
+impl<Rt: Abort + AllocGlobal> Case<Rt> for NothingToCome {
+    fn on<R: RingBuffer<i64> + Drop>(&self, rt: &Rt, mut ring: R) -> Result<(), AllocError> {
         assert_reads(rt, &ring, &[(Front, None), (Back, None)]);
         assert_lends(rt, &mut ring, &[(Front, None), (Back, None)]);
         assert!(rt; RingBufferDrainingIterator::new(&mut ring).next().is_none());
         assert!(rt; RingBufferIntoIterator::new(ring).next().is_none());
+        Ok(())
     }
 }
 
 #[test]
 fn an_empty_ring_has_nothing_to_come(rt: HostRuntime) -> Result<(), AllocError> {
-    on_each::<8>(&rt, &NothingToCome)
+    Rings::<8>::each(&rt, &NothingToCome)
 }
 
 struct ReadsInOrder;
 
-impl Case for ReadsInOrder {
-    fn on<R: RingBuffer<i64> + Drop>(&self, rt: &(impl Abort + AllocGlobal), mut ring: R) {
+impl<Rt: Abort + AllocGlobal> Case<Rt> for ReadsInOrder {
+    fn on<R: RingBuffer<i64> + Drop>(&self, rt: &Rt, mut ring: R) -> Result<(), AllocError> {
         push_all(rt, &mut ring, &[1, 2, 3, 4, 5, 6, 7]);
         let mut walk = RingBufferIterator::new(&ring);
         for item in 1..8 {
             assert_eq!(rt; walk.next().copied(), Some(item));
         }
         assert!(rt; walk.next().is_none());
+        Ok(())
     }
 }
 
 #[test]
 fn a_walk_reads_in_order(rt: HostRuntime) -> Result<(), AllocError> {
-    on_each::<7>(&rt, &ReadsInOrder)
+    Rings::<7>::each(&rt, &ReadsInOrder)
 }
 
 struct TakesInOrder;
 
-impl Case for TakesInOrder {
-    fn on<R: RingBuffer<i64> + Drop>(&self, rt: &(impl Abort + AllocGlobal), mut ring: R) {
+impl<Rt: Abort + AllocGlobal> Case<Rt> for TakesInOrder {
+    fn on<R: RingBuffer<i64> + Drop>(&self, rt: &Rt, mut ring: R) -> Result<(), AllocError> {
         push_all(rt, &mut ring, &[1, 2, 3, 4, 5, 6, 7]);
         let mut walk = RingBufferIntoIterator::new(ring);
         for (item, left) in [(1, 7), (2, 6), (3, 5), (4, 4), (5, 3), (6, 2), (7, 1)] {
@@ -161,12 +165,13 @@ impl Case for TakesInOrder {
         }
         assert_eq!(rt; walk.size_hint(), (0, Some(0)));
         assert!(rt; walk.next().is_none());
+        Ok(())
     }
 }
 
 #[test]
 fn an_owning_walk_takes_in_order(rt: HostRuntime) -> Result<(), AllocError> {
-    on_each::<8>(&rt, &TakesInOrder)
+    Rings::<8>::each(&rt, &TakesInOrder)
 }
 
 #[test]
@@ -220,8 +225,8 @@ fn items_may_be_references(rt: HostRuntime) -> Result<(), AllocError> {
 
 struct SideBySide;
 
-impl Case for SideBySide {
-    fn on<R: RingBuffer<i64> + Drop>(&self, rt: &(impl Abort + AllocGlobal), mut ring: R) {
+impl<Rt: Abort + AllocGlobal> Case<Rt> for SideBySide {
+    fn on<R: RingBuffer<i64> + Drop>(&self, rt: &Rt, mut ring: R) -> Result<(), AllocError> {
         push_all(rt, &mut ring, &[1, 2, 3]);
         let mut one = RingBufferIterator::new(&ring);
         let mut other = RingBufferIterator::new(&ring);
@@ -231,12 +236,13 @@ impl Case for SideBySide {
         assert_eq!(rt; other.next().copied(), Some(2));
         assert_eq!(rt; one.next().copied(), Some(3));
         assert_eq!(rt; other.next().copied(), Some(3));
+        Ok(())
     }
 }
 
 #[test]
 fn two_walks_go_side_by_side(rt: HostRuntime) -> Result<(), AllocError> {
-    on_each::<8>(&rt, &SideBySide)
+    Rings::<8>::each(&rt, &SideBySide)
 }
 
 /// Pushes 1, 2 and 3. Walks and lists see what is kept of them, and then each item has one added.
@@ -247,13 +253,14 @@ struct Seen {
     incremented: &'static [i64],
 }
 
-impl Case for Seen {
-    fn on<R: RingBuffer<i64> + Drop>(&self, rt: &(impl Abort + AllocGlobal), mut ring: R) {
+impl<Rt: Abort + AllocGlobal> Case<Rt> for Seen {
+    fn on<R: RingBuffer<i64> + Drop>(&self, rt: &Rt, mut ring: R) -> Result<(), AllocError> {
         push_all(rt, &mut ring, &[1, 2, 3]);
         assert_reads(rt, &ring, self.steps);
         assert_lists(rt, &ring, self.kept);
         increment(rt, &mut ring);
         assert_holds(rt, &ring, self.incremented);
+        Ok(())
     }
 }
 
@@ -264,7 +271,7 @@ fn an_overwritten_item_is_not_seen(rt: HostRuntime) -> Result<(), AllocError> {
         kept: &[2, 3],
         incremented: &[3, 4],
     };
-    on_fixed::<2>(&rt, &seen)
+    Rings::<2>::fixed(&rt, &seen)
 }
 
 #[test]
@@ -279,28 +286,29 @@ fn all_items_of_a_growable_ring_are_seen(rt: HostRuntime) -> Result<(), AllocErr
         kept: &[1, 2, 3],
         incremented: &[2, 3, 4],
     };
-    on_growable::<2>(&rt, &seen)
+    Rings::<2>::growable(&rt, &seen)
 }
 
 struct Increments;
 
-impl Case for Increments {
-    fn on<R: RingBuffer<i64> + Drop>(&self, rt: &(impl Abort + AllocGlobal), mut ring: R) {
+impl<Rt: Abort + AllocGlobal> Case<Rt> for Increments {
+    fn on<R: RingBuffer<i64> + Drop>(&self, rt: &Rt, mut ring: R) -> Result<(), AllocError> {
         push_all(rt, &mut ring, &[1, 2, 3]);
         increment(rt, &mut ring);
         assert_holds(rt, &ring, &[2, 3, 4]);
+        Ok(())
     }
 }
 
 #[test]
 fn a_cursor_writes_each_item(rt: HostRuntime) -> Result<(), AllocError> {
-    on_each::<8>(&rt, &Increments)
+    Rings::<8>::each(&rt, &Increments)
 }
 
 struct WritesFromBothEnds;
 
-impl Case for WritesFromBothEnds {
-    fn on<R: RingBuffer<i64> + Drop>(&self, rt: &(impl Abort + AllocGlobal), mut ring: R) {
+impl<Rt: Abort + AllocGlobal> Case<Rt> for WritesFromBothEnds {
+    fn on<R: RingBuffer<i64> + Drop>(&self, rt: &Rt, mut ring: R) -> Result<(), AllocError> {
         push_all(rt, &mut ring, &[1, 2, 3, 4]);
         let mut walk = RingBufferMutIterator::new(&mut ring);
         let first = walk.next().expect(rt, "a first item");
@@ -310,35 +318,37 @@ impl Case for WritesFromBothEnds {
         assert_eq!(rt; walk.size_hint(), (2, Some(2)));
         drop(walk);
         assert_holds(rt, &ring, &[11, 2, 3, 24]);
+        Ok(())
     }
 }
 
 #[test]
 fn a_cursor_writes_from_both_ends(rt: HostRuntime) -> Result<(), AllocError> {
-    on_each::<4>(&rt, &WritesFromBothEnds)
+    Rings::<4>::each(&rt, &WritesFromBothEnds)
 }
 
 struct WritesTheFirst;
 
-impl Case for WritesTheFirst {
-    fn on<R: RingBuffer<i64> + Drop>(&self, rt: &(impl Abort + AllocGlobal), mut ring: R) {
+impl<Rt: Abort + AllocGlobal> Case<Rt> for WritesTheFirst {
+    fn on<R: RingBuffer<i64> + Drop>(&self, rt: &Rt, mut ring: R) -> Result<(), AllocError> {
         push_all(rt, &mut ring, &[1, 2, 3]);
         let mut walk = RingBufferMutIterator::new(&mut ring);
         *walk.next().expect(rt, "a first item") = 5;
         drop(walk);
         assert_holds(rt, &ring, &[5, 2, 3]);
+        Ok(())
     }
 }
 
 #[test]
 fn a_dropped_cursor_keeps_what_was_written(rt: HostRuntime) -> Result<(), AllocError> {
-    on_each::<3>(&rt, &WritesTheFirst)
+    Rings::<3>::each(&rt, &WritesTheFirst)
 }
 
 struct DrainsAll;
 
-impl Case for DrainsAll {
-    fn on<R: RingBuffer<i64> + Drop>(&self, rt: &(impl Abort + AllocGlobal), mut ring: R) {
+impl<Rt: Abort + AllocGlobal> Case<Rt> for DrainsAll {
+    fn on<R: RingBuffer<i64> + Drop>(&self, rt: &Rt, mut ring: R) -> Result<(), AllocError> {
         push_all(rt, &mut ring, &[0, 1, 2, 3, 4, 5, 6, 7]);
         assert_eq!(rt; ring.len(), 8);
         let mut walk = RingBufferDrainingIterator::new(&mut ring);
@@ -358,18 +368,19 @@ impl Case for DrainsAll {
         assert!(rt; walk.next().is_none());
         drop(walk);
         assert_eq!(rt; ring.len(), 0);
+        Ok(())
     }
 }
 
 #[test]
 fn a_drain_empties_the_ring(rt: HostRuntime) -> Result<(), AllocError> {
-    on_each::<16>(&rt, &DrainsAll)
+    Rings::<16>::each(&rt, &DrainsAll)
 }
 
 struct DrainsInParts;
 
-impl Case for DrainsInParts {
-    fn on<R: RingBuffer<i64> + Drop>(&self, rt: &(impl Abort + AllocGlobal), mut ring: R) {
+impl<Rt: Abort + AllocGlobal> Case<Rt> for DrainsInParts {
+    fn on<R: RingBuffer<i64> + Drop>(&self, rt: &Rt, mut ring: R) -> Result<(), AllocError> {
         push_all(rt, &mut ring, &[1, 2, 3, 4]);
         drop(RingBufferDrainingIterator::new(&mut ring));
         assert_holds(rt, &ring, &[1, 2, 3, 4]);
@@ -380,62 +391,68 @@ impl Case for DrainsInParts {
         assert_holds(rt, &ring, &[3, 4]);
         assert_eq!(rt; RingBufferDrainingIterator::new(&mut ring).next(), Some(3));
         assert_holds(rt, &ring, &[4]);
+        Ok(())
     }
 }
 
 #[test]
 fn a_dropped_drain_leaves_the_rest(rt: HostRuntime) -> Result<(), AllocError> {
-    on_each::<4>(&rt, &DrainsInParts)
+    Rings::<4>::each(&rt, &DrainsInParts)
 }
 
 struct DrainsThree;
 
-impl Case for DrainsThree {
-    fn on<R: RingBuffer<i64> + Drop>(&self, rt: &(impl Abort + AllocGlobal), mut ring: R) {
+impl<Rt: Abort + AllocGlobal> Case<Rt> for DrainsThree {
+    fn on<R: RingBuffer<i64> + Drop>(&self, rt: &Rt, mut ring: R) -> Result<(), AllocError> {
         push_all(rt, &mut ring, &[1, 2, 3, 4]);
+        drop(RingBufferDrainingIterator::new(&mut ring));
+        assert_holds(rt, &ring, &[1, 2, 3, 4]);
         let mut walk = RingBufferDrainingIterator::new(&mut ring);
         assert_eq!(rt; walk.next(), Some(1));
         assert_eq!(rt; walk.next(), Some(2));
         assert_eq!(rt; walk.next(), Some(3));
         drop(walk);
         assert_holds(rt, &ring, &[4]);
+        Ok(())
     }
 }
 
 #[test]
 fn a_drain_of_three_leaves_the_fourth(rt: HostRuntime) -> Result<(), AllocError> {
-    on_each::<4>(&rt, &DrainsThree)
+    Rings::<4>::each(&rt, &DrainsThree)
 }
 
 struct Listed;
 
-impl Case for Listed {
-    fn on<R: RingBuffer<i64> + Drop>(&self, rt: &(impl Abort + AllocGlobal), mut ring: R) {
+impl<Rt: Abort + AllocGlobal> Case<Rt> for Listed {
+    fn on<R: RingBuffer<i64> + Drop>(&self, rt: &Rt, mut ring: R) -> Result<(), AllocError> {
         push_all(rt, &mut ring, &[1, 2, 3]);
         assert_lists(rt, &ring, &[1, 2, 3]);
         assert_holds(rt, &ring, &[1, 2, 3]);
+        Ok(())
     }
 }
 
 #[test]
 fn to_vec_clones_the_items_in_order(rt: HostRuntime) -> Result<(), AllocError> {
-    on_each::<8>(&rt, &Listed)
+    Rings::<8>::each(&rt, &Listed)
 }
 
 struct Contains;
 
-impl Case for Contains {
-    fn on<R: RingBuffer<i64> + Drop>(&self, rt: &(impl Abort + AllocGlobal), mut ring: R) {
+impl<Rt: Abort + AllocGlobal> Case<Rt> for Contains {
+    fn on<R: RingBuffer<i64> + Drop>(&self, rt: &Rt, mut ring: R) -> Result<(), AllocError> {
         push_all(rt, &mut ring, &[1, 2]);
         assert!(rt; ring.contains(&1));
         assert!(rt; ring.contains(&2));
         assert!(rt; !ring.contains(&3));
+        Ok(())
     }
 }
 
 #[test]
 fn contains_finds_the_items_alone(rt: HostRuntime) -> Result<(), AllocError> {
-    on_each::<8>(&rt, &Contains)
+    Rings::<8>::each(&rt, &Contains)
 }
 
 /// A ring that makes its own walks. Each type has these calls, and no trait that the rings share has them.

@@ -1,8 +1,5 @@
 //! Rings made of other collections.
 
-ghost use Rattle.std.specs.Prelude.{All, IsSome};
-
-use super::counted::{Counted, Drops};
 use super::{assert_gives, assert_holds, push_all};
 use ringbuffer::{AllocRingBuffer, ConstGenericRingBuffer, GrowableAllocRingBuffer, RingBuffer};
 use std::alloc::AllocError;
@@ -307,45 +304,5 @@ fn a_ring_may_be_made_of_one_after_the_other(rt: HostRuntime) -> Result<(), Allo
     let array = ConstGenericRingBuffer::<i64, 3>::from_alloc(heap);
     let mut growable = GrowableAllocRingBuffer::from_const(rt.alloc(), array)?;
     assert_gives(&rt, &mut growable, &[3, 4, 5]);
-    Ok(())
-}
-
-#[test]
-fn items_that_were_moved_in_are_dropped_once(rt: HostRuntime) -> Result<(), AllocError> {
-    fn on<'a, R: RingBuffer<Counted<'a>> + Drop>(rt: &impl Abort, ring: R, drops: &'a Drops) {
-        assert_eq!(rt; ring.len(), 3);
-        for number in 0..3 {
-            assert_eq!(rt; drops.of(rt, number), 0);
-        }
-        drop(ring);
-        drops.assert_each_once(rt);
-    }
-    fn places<'a>(rt: &impl Abort, drops: &'a Drops) -> [Option<Counted<'a>>; 3]
-        ensures { All IsSome result }
-    {
-        [
-            Some(drops.item(rt, 0)),
-            Some(drops.item(rt, 1)),
-            Some(drops.item(rt, 2)),
-        ]
-    }
-    let drops = Drops::new(rt.alloc(), 3)?;
-    on(
-        &rt,
-        ConstGenericRingBuffer::<Counted, 3>::from_array(places(&rt, &drops)),
-        &drops,
-    );
-    let drops = Drops::new(rt.alloc(), 3)?;
-    on(
-        &rt,
-        AllocRingBuffer::from_array(rt.alloc(), places(&rt, &drops))?,
-        &drops,
-    );
-    let drops = Drops::new(rt.alloc(), 3)?;
-    on(
-        &rt,
-        GrowableAllocRingBuffer::from_array(rt.alloc(), places(&rt, &drops))?,
-        &drops,
-    );
     Ok(())
 }

@@ -1,88 +1,163 @@
-//! Items that count their drops.
+//! Items that count their drops, and whose clones can be refused.
 
-use ringbuffer::{RingBuffer, RingBufferIterator};
+ghost use Rattle.std.specs.Prelude.{◌<◌, ◌^◌};
+
+use ring_test_support::rings::Twin;
+use ringbuffer::{
+    AllocRingBuffer, ConstGenericRingBuffer, GrowableAllocRingBuffer, RingBuffer,
+    RingBufferIterator,
+};
 use std::alloc::{AllocError, Global};
 use std::cell::Cell;
-use std::ops::Range;
 use std::process::Abort;
 
-/// How often each item of a test was dropped, by its number.
+/// Gives out items, clones among them, and numbers them in that order. It counts how often each is dropped.
 #[derive(Drop)]
-pub struct Drops {
-    counts: Vec<Cell<u8>>,
+pub struct Supply {
+    drops: Vec<Cell<u8>>,
+    most: Cell<usize>,
+    given: Cell<usize>,
+    last_dropped: Cell<usize>,
+    in_order: Cell<bool>,
 }
 
-impl Drops {
-    /// Counts for so many items, none of which was dropped.
-    pub fn new(alloc: Global, items: usize) -> Result<Drops, AllocError> {
-        let mut counts = Vec::with_capacity(alloc, items)?;
+impl Supply {
+    /// A supply of so many items.
+    pub fn new(alloc: Global, items: usize) -> Result<Supply, AllocError> {
+        let mut drops = Vec::with_capacity(alloc, items)?;
         for _ in 0..items {
-            counts.push(Cell::new(0))?;
+            drops.push(Cell::new(0))?;
         }
-        Ok(Drops { counts })
+        Ok(Supply {
+            drops,
+            most: Cell::new(items),
+            given: Cell::new(0),
+            last_dropped: Cell::new(0),
+            in_order: Cell::new(true),
+        })
     }
 
-    /// The item of this number. Each number is given to one item.
-    pub fn item(&self, rt: &impl Abort, number: usize) -> Counted<'_> {
-        self.item_if_counted(number)
-            .expect(rt, "a count for the item")
+    /// Forgets the items that were given out, and has as many as at first.
+    pub fn begin_again(&self) {
+        self.begin_again_with(self.drops.len());
     }
 
-    /// The item of this number, if there is a count for it.
-    fn item_if_counted(&self, number: usize) -> Option<Counted<'_>> {
-        let drops = self.counts.get(number)?;
-        Some(Counted { number, drops })
+    /// Forgets the items that were given out, and has so many, at most as many as at first.
+    pub fn begin_again_with(&self, items: usize) {
+        for drops in &self.drops {
+            drops.set(0);
+        }
+        self.most.set(items);
+        self.given.set(0);
+        self.last_dropped.set(0);
+        self.in_order.set(true);
     }
 
-    /// The items whose numbers are in the range.
+    /// The next item.
+    pub fn item(&self, rt: &impl Abort) -> Counted<'_> {
+        self.next().expect(rt, "one item more")
+    }
+
+    /// The next item, if there is one.
+    fn next(&self) -> Option<Counted<'_>> {
+        let number = self.given.get();
+        if number >= self.most.get() {
+            return None;
+        }
+        self.given.set(number.saturating_add(1));
+        Some(Counted {
+            number,
+            supply: self,
+        })
+    }
+
+    /// So many items.
     pub fn items(
         &self,
         rt: &(impl Abort + AllocGlobal),
-        numbers: Range<usize>,
+        count: usize,
     ) -> Result<Vec<Counted<'_>>, AllocError> {
         let mut items = Vec::new(rt.alloc());
-        for number in numbers {
-            items.push(self.item(rt, number))?;
+        for _ in 0..count {
+            items.push(self.item(rt))?;
         }
         Ok(items)
     }
 
+    /// How many items were given out, clones among them.
+    pub fn given(&self) -> usize {
+        self.given.get()
+    }
+
     /// How often the item of this number was dropped.
-    pub fn of(&self, rt: &impl Abort, number: usize) -> u8 {
-        self.counts
+    pub fn drops_of(&self, rt: &impl Abort, number: usize) -> u8 {
+        self.drops
             .get(number)
             .expect(rt, "a count for the item")
             .get()
     }
 
-    /// Forgets all drops, so that the items can be made anew.
-    pub fn begin_again(&self) {
-        for count in &self.counts {
-            count.set(0);
+    // Counts a drop of the item of this number.
+    fn note_drop(&self, number: usize) {
+        if let Some(drops) = self.drops.get(number) {
+            drops.set(drops.get().saturating_add(1));
+        }
+        if number < self.last_dropped.get() {
+            self.in_order.set(false);
+        }
+        self.last_dropped.set(number);
+    }
+
+    /// Each item that was given out was dropped exactly once.
+    pub fn assert_each_dropped(&self, rt: &impl Abort) {
+        self.assert_all_dropped_but(rt, 0);
+    }
+
+    /// The first items were not dropped yet. All others that were given out were dropped exactly once.
+    pub fn assert_all_dropped_but(&self, rt: &impl Abort, first: usize) {
+        for number in 0..self.given() {
+            let wanted = if number < first { 0 } else { 1 };
+            assert_eq!(rt; self.drops_of(rt, number), wanted, "item {number}");
         }
     }
 
-    /// Each item was dropped exactly once.
-    pub fn assert_each_once(&self, rt: &impl Abort) {
-        for (number, count) in self.counts.iter().enumerate() {
-            assert_eq!(rt; count.get(), 1, "item {number}");
-        }
+    /// Each item was dropped after those of lower numbers.
+    pub fn assert_dropped_in_order(&self, rt: &impl Abort) {
+        assert!(rt; self.in_order.get());
     }
 }
 
-/// An item that knows its number, and counts its drop.
+/// An item that knows its number, and counts its drop. Its clone is the next item of its supply.
 pub struct Counted<'a> {
     pub number: usize,
-    drops: &'a Cell<u8>,
+    supply: &'a Supply,
 }
 
 impl Drop for Counted<'_> {
     fn drop(self) {
-        self.drops.set(self.drops.get().saturating_add(1));
+        self.supply.note_drop(self.number);
         let Counted {
             number: _,
-            drops: _,
+            supply: _,
         } = self;
+    }
+}
+
+impl<'a> Clone for Counted<'a> {
+    fn clone(&self) -> Result<Counted<'a>, AllocError> {
+        self.supply.next().ok_or(AllocError)
+    }
+}
+
+/// Pushes so many items of a supply. None is refused.
+pub fn push_items<'a, R: RingBuffer<Counted<'a>>>(
+    rt: &impl Abort,
+    ring: &mut R,
+    supply: &'a Supply,
+    items: usize,
+) {
+    for _ in 0..items {
+        assert!(rt; ring.push(supply.item(rt)).is_ok());
     }
 }
 
@@ -93,65 +168,51 @@ pub fn assert_numbered<'a, R: RingBuffer<Counted<'a>>>(rt: &impl Abort, ring: &R
     }
 }
 
-/// Items that can be cloned, so many in all. After that a clone is refused.
-#[derive(Drop)]
-pub struct Supply {
-    drops: Drops,
-    given: Cell<usize>,
+/// What a test does with a ring that is new, and items that count their drops.
+pub trait CountedCase<T: Drop, S> {
+    fn on<R: RingBuffer<T> + Twin + Drop>(
+        &self,
+        rt: &(impl Abort + AllocGlobal),
+        ring: R,
+        supply: S,
+    ) -> Result<(), AllocError>;
 }
 
-impl Supply {
-    /// A supply of so many items.
-    pub fn new(alloc: Global, items: usize) -> Result<Supply, AllocError> {
-        Ok(Supply {
-            drops: Drops::new(alloc, items)?,
-            given: Cell::new(0),
-        })
-    }
-
-    /// The next item, in the order of the numbers.
-    pub fn item(&self, rt: &impl Abort) -> Clonable<'_> {
-        self.next().expect(rt, "one item more")
-    }
-
-    /// The next item, if there is one.
-    fn next(&self) -> Option<Clonable<'_>> {
-        let number = self.given.get();
-        let item = self.drops.item_if_counted(number)?;
-        self.given.set(number.saturating_add(1));
-        Some(Clonable { item, supply: self })
-    }
-
-    /// How many items were given out, clones among them.
-    pub fn given(&self) -> usize {
-        self.given.get()
-    }
-
-    /// The first items were not dropped yet. All others that were given out were dropped exactly once.
-    pub fn assert_all_dropped_but(&self, rt: &impl Abort, first: usize) {
-        for number in 0..self.given() {
-            let wanted = if number < first { 0 } else { 1 };
-            assert_eq!(rt; self.drops.of(rt, number), wanted, "item {number}");
-        }
-    }
-}
-
-/// An item that counts its drop. Its clone is the next item of its supply.
-#[derive(Drop)]
-pub struct Clonable<'a> {
-    item: Counted<'a>,
+/// The case on a ring of each type that has a limit. Each begins with the whole supply.
+pub fn on_fixed<'a, const CAP: usize>(
+    rt: &(impl Abort + AllocGlobal),
     supply: &'a Supply,
+    case: &impl CountedCase<Counted<'a>, &'a Supply>,
+) -> Result<(), AllocError>
+    requires some { 0 < CAP }
+    requires few { CAP < 2 ^ 16 }
+{
+    supply.begin_again();
+    case.on(rt, ConstGenericRingBuffer::<Counted, CAP>::new(), supply)?;
+    supply.begin_again();
+    case.on(rt, AllocRingBuffer::new(rt.alloc(), CAP)?, supply)
 }
 
-impl Clonable<'_> {
-    /// The item's number.
-    pub fn number(&self) -> usize {
-        self.item.number
-    }
+/// The case on a growable ring, which has room for so many items.
+pub fn on_growable<'a, const CAP: usize>(
+    rt: &(impl Abort + AllocGlobal),
+    supply: &'a Supply,
+    case: &impl CountedCase<Counted<'a>, &'a Supply>,
+) -> Result<(), AllocError> {
+    supply.begin_again();
+    let ring = GrowableAllocRingBuffer::with_capacity(rt.alloc(), CAP)?;
+    case.on(rt, ring, supply)
 }
 
-impl<'a> Clone for Clonable<'a> {
-    fn clone(&self) -> Result<Clonable<'a>, AllocError> {
-        self.supply.next().ok_or(AllocError)
-    }
+/// The case on a ring of each type.
+pub fn on_each<'a, const CAP: usize>(
+    rt: &(impl Abort + AllocGlobal),
+    supply: &'a Supply,
+    case: &impl CountedCase<Counted<'a>, &'a Supply>,
+) -> Result<(), AllocError>
+    requires some { 0 < CAP }
+    requires few { CAP < 2 ^ 16 }
+{
+    on_fixed::<CAP>(rt, supply, case)?;
+    on_growable::<CAP>(rt, supply, case)
 }

@@ -1,14 +1,16 @@
-//! Memory that is refused, and calls that take none.
+//! How large a ring may be, memory that is refused to it, and calls that ask for none.
 
-use super::counted::{Counted, Drops, assert_numbered};
-use super::drought::Drought;
-use super::{Case, assert_gives, assert_holds, on_each, on_fixed, push_all};
+use super::runs::{REPLIES_OF_TWO, every_command};
+use super::{assert_gives, assert_holds, push_all};
+use ring_test_support::drought::Drought;
+use ring_test_support::rings::{Case, Rings};
 use ringbuffer::{
-    AllocRingBuffer, Command, GrowableAllocRingBuffer, Refused, Reply, RingBuffer,
+    AllocRingBuffer, Command, ConstGenericRingBuffer, GrowableAllocRingBuffer, Reply, RingBuffer,
     RingBufferDrainingIterator, RingBufferIterator, RingBufferMutIterator, RunFault, apply, run,
     run_into,
 };
 use std::alloc::AllocError;
+use std::mem::size_of;
 use std::process::Abort;
 
 #[test]
@@ -25,6 +27,51 @@ fn more_bytes_than_there_can_be_are_refused(rt: HostRuntime) {
     assert!(rt; AllocRingBuffer::<u64>::with_capacity_power_of_2(rt.alloc(), 63).is_err());
     assert!(rt; AllocRingBuffer::<u64>::new(rt.alloc(), 1 << 44).is_err());
     assert!(rt; GrowableAllocRingBuffer::<i64>::with_capacity(rt.alloc(), usize::MAX).is_err());
+}
+
+// No item is written, so they take addresses and no memory: more than there are addresses for, if none were given back.
+#[test]
+fn rings_of_a_gibibyte_give_back_their_memory(rt: HostRuntime) -> Result<(), AllocError> {
+    for _ in 0..150_000 {
+        let ring = AllocRingBuffer::<u64>::new(rt.alloc(), 1 << 27)?;
+        assert_eq!(rt; ring.buffer_size(), 1 << 27);
+    }
+    Ok(())
+}
+
+#[test]
+fn large_capacities_are_had_where_there_is_memory(rt: HostRuntime) -> Result<(), AllocError> {
+    for capacity in [(1 << 16) + 1, (1 << 20) + 1, 1 << 24, (1 << 24) + 1] {
+        let mut heap = AllocRingBuffer::new(rt.alloc(), capacity)?;
+        assert_eq!(rt; heap.capacity(), capacity);
+        push_all(&rt, &mut heap, &[1, 2]);
+        assert_holds(&rt, &heap, &[1, 2]);
+        let mut growable = GrowableAllocRingBuffer::with_capacity(rt.alloc(), capacity)?;
+        assert!(rt; growable.capacity() >= capacity);
+        push_all(&rt, &mut growable, &[1, 2]);
+        assert_holds(&rt, &growable, &[1, 2]);
+    }
+    Ok(())
+}
+
+#[test]
+fn a_ring_of_items_without_size_has_any_capacity(rt: HostRuntime) -> Result<(), AllocError> {
+    let greatest = 1 << 63;
+    let cases = [
+        (5, 8),
+        ((1 << 16) + 1, 1 << 17),
+        ((1 << 32) + 1, 1 << 33),
+        (greatest - 1, greatest),
+        (greatest, greatest),
+    ];
+    for (capacity, slots) in cases {
+        let ring = AllocRingBuffer::<()>::new(rt.alloc(), capacity)?;
+        assert_eq!(rt; ring.capacity(), capacity);
+        assert_eq!(rt; ring.buffer_size(), slots);
+    }
+    let ring = AllocRingBuffer::<()>::with_capacity_power_of_2(rt.alloc(), 63)?;
+    assert_eq!(rt; ring.capacity(), greatest);
+    Ok(())
 }
 
 #[test]
@@ -72,14 +119,25 @@ fn a_refused_push_can_be_tried_again(rt: HostRuntime) -> Result<(), AllocError> 
     Ok(())
 }
 
+#[test]
+fn a_refused_extension_keeps_what_there_was_room_for(rt: HostRuntime) -> Result<(), AllocError> {
+    let mut ring = GrowableAllocRingBuffer::new(rt.alloc());
+    push_all(&rt, &mut ring, &[1, 2]);
+    let drought = Drought::total(rt.alloc())?;
+    let extended = ring.extend([3, 4, 5]);
+    drop(drought);
+    assert!(rt; extended.is_err());
+    assert!(rt; (2..5).contains(&ring.len()));
+    for (item, kept) in ring.iter().zip([1, 2, 3, 4]) {
+        assert_eq!(rt; *item, kept);
+    }
+    Ok(())
+}
+
 struct FixedTakesNone;
 
-impl Case for FixedTakesNone {
-    fn on<R: RingBuffer<i64> + Drop>(
-        &self,
-        rt: &(impl Abort + AllocGlobal),
-        mut ring: R,
-    ) -> Result<(), AllocError> {
+impl<Rt: Abort + AllocGlobal> Case<Rt> for FixedTakesNone {
+    fn on<R: RingBuffer<i64> + Drop>(&self, rt: &Rt, mut ring: R) -> Result<(), AllocError> {
         let drought = Drought::total(rt.alloc())?;
         push_all(rt, &mut ring, &[1, 2, 3]);
         assert!(rt; ring.enqueue(4).is_ok());
@@ -87,12 +145,10 @@ impl Case for FixedTakesNone {
         assert_holds(rt, &ring, &[6, 7]);
         assert!(rt; ring.fill_default().is_ok());
         assert_gives(rt, &mut ring, &[0, 0]);
+        assert!(rt; ring.fill(9).is_ok());
+        assert_gives(rt, &mut ring, &[9, 9]);
         assert!(rt; ring.fill_with(|| 8).is_ok());
-        ring.skip();
-        assert!(rt; ring.contains(&8));
-        assert_eq!(rt; ring.back_mut().copied(), Some(8));
-        ring.clear();
-        assert!(rt; ring.is_empty());
+        assert_gives(rt, &mut ring, &[8, 8]);
         drop(drought);
         Ok(())
     }
@@ -100,17 +156,68 @@ impl Case for FixedTakesNone {
 
 #[test]
 fn fixed_rings_take_no_memory(rt: HostRuntime) -> Result<(), AllocError> {
-    on_fixed::<2>(&rt, &FixedTakesNone)
+    Rings::<2>::fixed(&rt, &FixedTakesNone)
+}
+
+struct LooksTakeNone;
+
+impl<Rt: Abort + AllocGlobal> Case<Rt> for LooksTakeNone {
+    fn on<R: RingBuffer<i64> + Drop>(&self, rt: &Rt, mut ring: R) -> Result<(), AllocError> {
+        push_all(rt, &mut ring, &[1, 2, 3]);
+        let drought = Drought::total(rt.alloc())?;
+        assert!(rt; !ring.is_empty());
+        assert_eq!(rt; ring.is_full(), ring.len() == ring.capacity());
+        assert!(rt; ring.buffer_size() >= 3);
+        assert_eq!(rt; ring.get(4).copied(), Some(2));
+        assert_eq!(rt; ring.get_signed(-1).copied(), Some(3));
+        assert_eq!(rt; ring.peek().copied(), Some(1));
+        assert_eq!(rt; ring.front().copied(), Some(1));
+        assert_eq!(rt; ring.back().copied(), Some(3));
+        assert!(rt; ring.contains(&2));
+        assert!(rt; !ring.contains(&4));
+        drop(drought);
+        assert_holds(rt, &ring, &[1, 2, 3]);
+        Ok(())
+    }
+}
+
+#[test]
+fn looking_at_a_ring_takes_no_memory(rt: HostRuntime) -> Result<(), AllocError> {
+    Rings::<3>::each(&rt, &LooksTakeNone)
+}
+
+struct ChangesTakeNone;
+
+impl<Rt: Abort + AllocGlobal> Case<Rt> for ChangesTakeNone {
+    fn on<R: RingBuffer<i64> + Drop>(&self, rt: &Rt, mut ring: R) -> Result<(), AllocError> {
+        push_all(rt, &mut ring, &[1, 2, 3]);
+        let drought = Drought::total(rt.alloc())?;
+        *ring.get_mut(4).expect(rt, "an item") = 5;
+        *ring.get_mut_signed(-1).expect(rt, "an item") = 6;
+        assert_holds(rt, &ring, &[1, 5, 6]);
+        *ring.front_mut().expect(rt, "an item") = 4;
+        *ring.back_mut().expect(rt, "an item") = 7;
+        assert_holds(rt, &ring, &[4, 5, 7]);
+        ring.skip();
+        assert_eq!(rt; ring.dequeue(), Some(5));
+        ring.clear();
+        assert!(rt; ring.is_empty());
+        ring.skip();
+        assert_eq!(rt; ring.dequeue(), None);
+        drop(drought);
+        Ok(())
+    }
+}
+
+#[test]
+fn writing_and_taking_take_no_memory(rt: HostRuntime) -> Result<(), AllocError> {
+    Rings::<3>::each(&rt, &ChangesTakeNone)
 }
 
 struct WalksTakeNone;
 
-impl Case for WalksTakeNone {
-    fn on<R: RingBuffer<i64> + Drop>(
-        &self,
-        rt: &(impl Abort + AllocGlobal),
-        mut ring: R,
-    ) -> Result<(), AllocError> {
+impl<Rt: Abort + AllocGlobal> Case<Rt> for WalksTakeNone {
+    fn on<R: RingBuffer<i64> + Drop>(&self, rt: &Rt, mut ring: R) -> Result<(), AllocError> {
         push_all(rt, &mut ring, &[1, 2, 3]);
         let drought = Drought::total(rt.alloc())?;
         assert!(rt; RingBufferIterator::new(&ring).copied().eq([1, 2, 3]));
@@ -125,17 +232,60 @@ impl Case for WalksTakeNone {
 
 #[test]
 fn walks_take_no_memory(rt: HostRuntime) -> Result<(), AllocError> {
-    on_each::<3>(&rt, &WalksTakeNone)
+    Rings::<3>::each(&rt, &WalksTakeNone)
+}
+
+// No trait that the rings share has the indexes, `iter`, `iter_mut`, `drain` and `into_iter`, so the body is a macro.
+macro_rules! assert_own_calls_take_none {
+    ($rt:ident, $ring:expr) => {
+        let mut ring = $ring;
+        push_all(&$rt, &mut ring, &[1, 2, 3]);
+        assert_eq!($rt; ring.len(), 3);
+        let drought = Drought::total($rt.alloc())?;
+        assert_eq!($rt; ring[4], 2);
+        ring[4] = 5;
+        assert!($rt; ring.iter().copied().eq([1, 5, 3]));
+        *ring.iter_mut().next().expect(&$rt, "an item") = 4;
+        assert_eq!($rt; ring.drain().next(), Some(4));
+        assert!($rt; ring.into_iter().eq([5, 3]));
+        drop(drought);
+    };
+}
+
+#[test]
+fn calls_of_an_array_ring_alone_take_no_memory(rt: HostRuntime) -> Result<(), AllocError> {
+    assert_own_calls_take_none!(rt, ConstGenericRingBuffer::<i64, 3>::new());
+    Ok(())
+}
+
+#[test]
+fn calls_of_a_heap_ring_alone_take_no_memory(rt: HostRuntime) -> Result<(), AllocError> {
+    assert_own_calls_take_none!(rt, AllocRingBuffer::new(rt.alloc(), 3)?);
+    Ok(())
+}
+
+#[test]
+fn calls_of_a_growable_ring_alone_take_no_memory(rt: HostRuntime) -> Result<(), AllocError> {
+    assert_own_calls_take_none!(rt, GrowableAllocRingBuffer::with_capacity(rt.alloc(), 3)?);
+    Ok(())
+}
+
+#[test]
+fn the_deque_of_a_growable_ring_is_lent_without_memory(rt: HostRuntime) -> Result<(), AllocError> {
+    let mut ring = GrowableAllocRingBuffer::with_capacity(rt.alloc(), 3)?;
+    push_all(&rt, &mut ring, &[1, 2, 3]);
+    let drought = Drought::total(rt.alloc())?;
+    assert_eq!(rt; ring.as_ref().len(), 3);
+    assert_eq!(rt; ring.as_mut().pop_back(), Some(3));
+    drop(drought);
+    assert_holds(&rt, &ring, &[1, 2]);
+    Ok(())
 }
 
 struct RunsTakeNone;
 
-impl Case for RunsTakeNone {
-    fn on<R: RingBuffer<i64> + Drop>(
-        &self,
-        rt: &(impl Abort + AllocGlobal),
-        mut ring: R,
-    ) -> Result<(), AllocError> {
+impl<Rt: Abort + AllocGlobal> Case<Rt> for RunsTakeNone {
+    fn on<R: RingBuffer<i64> + Drop>(&self, rt: &Rt, mut ring: R) -> Result<(), AllocError> {
         let extension = vec![in rt.alloc(); 2, 3]?;
         let commands = vec![in rt.alloc(); Command::Extend(extension), Command::Dequeue]?;
         let other_extension = vec![in rt.alloc(); 4, 5]?;
@@ -157,17 +307,13 @@ impl Case for RunsTakeNone {
 
 #[test]
 fn runs_into_places_take_no_memory(rt: HostRuntime) -> Result<(), AllocError> {
-    on_fixed::<2>(&rt, &RunsTakeNone)
+    Rings::<2>::fixed(&rt, &RunsTakeNone)
 }
 
 struct ListRefused;
 
-impl Case for ListRefused {
-    fn on<R: RingBuffer<i64> + Drop>(
-        &self,
-        rt: &(impl Abort + AllocGlobal),
-        mut ring: R,
-    ) -> Result<(), AllocError> {
+impl<Rt: Abort + AllocGlobal> Case<Rt> for ListRefused {
+    fn on<R: RingBuffer<i64> + Drop>(&self, rt: &Rt, mut ring: R) -> Result<(), AllocError> {
         push_all(rt, &mut ring, &[1, 2, 3]);
         let drought = Drought::total(rt.alloc())?;
         let refused = ring.to_vec(rt.alloc());
@@ -180,17 +326,13 @@ impl Case for ListRefused {
 
 #[test]
 fn a_refused_to_vec_leaves_the_ring(rt: HostRuntime) -> Result<(), AllocError> {
-    on_each::<3>(&rt, &ListRefused)
+    Rings::<3>::each(&rt, &ListRefused)
 }
 
 struct RunWithoutRoom;
 
-impl Case for RunWithoutRoom {
-    fn on<R: RingBuffer<i64> + Drop>(
-        &self,
-        rt: &(impl Abort + AllocGlobal),
-        mut ring: R,
-    ) -> Result<(), AllocError> {
+impl<Rt: Abort + AllocGlobal> Case<Rt> for RunWithoutRoom {
+    fn on<R: RingBuffer<i64> + Drop>(&self, rt: &Rt, mut ring: R) -> Result<(), AllocError> {
         push_all(rt, &mut ring, &[8]);
         let commands = vec![in rt.alloc(); Command::Push(1), Command::Dequeue]?;
         let drought = Drought::total(rt.alloc())?;
@@ -207,81 +349,26 @@ impl Case for RunWithoutRoom {
 
 #[test]
 fn a_run_without_room_hands_its_commands_back(rt: HostRuntime) -> Result<(), AllocError> {
-    on_each::<2>(&rt, &RunWithoutRoom)
+    Rings::<2>::each(&rt, &RunWithoutRoom)
 }
 
-#[test]
-fn a_refused_push_hands_its_item_back(rt: HostRuntime) -> Result<(), AllocError> {
-    fn on<'a, R: RingBuffer<Counted<'a>> + Drop>(
-        rt: &(impl Abort + AllocGlobal),
-        mut ring: R,
-        drops: &'a Drops,
-        room: usize,
-    ) -> Result<(), AllocError> {
-        ring.extend(drops.items(rt, 0..room)?)?;
-        assert!(rt; ring.is_full());
-        let drought = Drought::total(rt.alloc())?;
-        let pushed = ring.push(drops.item(rt, room));
-        let enqueued = ring.enqueue(pushed.err().expect(rt, "the item that was pushed"));
-        let item = enqueued.err().expect(rt, "the item that was enqueued");
-        let applied = apply(&mut ring, Command::Push(item));
+struct RunWithRoomForReplies;
+
+impl<Rt: Abort + AllocGlobal> Case<Rt> for RunWithRoomForReplies {
+    fn on<R: RingBuffer<i64> + Drop>(&self, rt: &Rt, mut ring: R) -> Result<(), AllocError> {
+        let commands = every_command(rt.alloc())?;
+        let room = size_of::<Reply<i64>>().saturating_mul(commands.len());
+        let drought = Drought::but_for(rt.alloc(), room)?;
+        let answered = run(rt.alloc(), &mut ring, commands);
         drop(drought);
-        let Err(Refused::Push(item)) = applied else {
-            panic!(rt; "the push was not refused");
-        };
-        assert_eq!(rt; item.number, room);
-        assert_eq!(rt; ring.len(), room);
-        assert_numbered(rt, &ring, 0);
-        drop((ring, item));
-        drops.assert_each_once(rt);
+        let replies = answered.expect(rt, "no request but for the replies");
+        assert_eq!(rt; replies.as_slice(), REPLIES_OF_TWO.as_slice());
+        assert_holds(rt, &ring, &[]);
         Ok(())
     }
-    let room = GrowableAllocRingBuffer::<()>::with_capacity(rt.alloc(), 4)?.capacity();
-    let drops = Drops::new(rt.alloc(), room.saturating_add(1))?;
-    on(
-        &rt,
-        GrowableAllocRingBuffer::with_capacity(rt.alloc(), 4)?,
-        &drops,
-        room,
-    )
 }
 
-// The block that a drought spares grows from one attempt to the next, so each request is refused in turn.
-const STEP: usize = 256;
-
-const MOST_STEPS: usize = 100;
-
 #[test]
-fn a_refused_extension_leaves_a_beginning(rt: HostRuntime) -> Result<(), AllocError> {
-    fn extends<'a, R: RingBuffer<Counted<'a>> + Drop>(
-        rt: &(impl Abort + AllocGlobal),
-        mut ring: R,
-        drops: &'a Drops,
-        spare: usize,
-    ) -> Result<bool, AllocError> {
-        ring.extend(drops.items(rt, 0..2)?)?;
-        let extension = drops.items(rt, 2..102)?;
-        let drought = Drought::but_for(rt.alloc(), spare)?;
-        let extended = ring.extend(extension).is_ok();
-        drop(drought);
-        let len = ring.len();
-        assert_numbered(rt, &ring, 0);
-        drop(ring);
-        drops.assert_each_once(rt);
-        if extended {
-            assert_eq!(rt; len, 102);
-        } else {
-            assert!(rt; (2..102).contains(&len));
-        }
-        Ok(extended)
-    }
-    for step in 0..MOST_STEPS {
-        let drops = Drops::new(rt.alloc(), 102)?;
-        let ring = GrowableAllocRingBuffer::new(rt.alloc());
-        if extends(&rt, ring, &drops, step * STEP)? {
-            assert!(rt; step > 1);
-            return Ok(());
-        }
-    }
-    panic!(rt; "each attempt was refused")
+fn a_run_on_a_fixed_ring_asks_for_the_replies_alone(rt: HostRuntime) -> Result<(), AllocError> {
+    Rings::<2>::fixed(&rt, &RunWithRoomForReplies)
 }

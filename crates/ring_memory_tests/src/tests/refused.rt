@@ -1,393 +1,356 @@
-//! Clones, fills, extensions and runs that are refused part of the way, and calls that no refusal meets. Items count
-//! their drops, and each is dropped exactly once.
+//! Clones, fills, pushes, extensions and runs that are refused part of the way, and calls that no refusal meets. Items
+//! count their drops, and each is dropped exactly once.
 
-use super::counted::{Clonable, Counted, Drops, Supply, assert_numbered};
-use super::drought::Drought;
-use super::scarce::{MOST_STEPS, is_cloned, is_made, spared, three_in_a_list, three_places};
+use super::counted::{
+    Counted, CountedCase, Supply, assert_numbered, on_each, on_growable, push_items,
+};
+use super::scarce::{MOST_STEPS, is_cloned, spared};
 use super::{assert_holds, push_all};
+use ring_test_support::drought::Drought;
+use ring_test_support::rings::{Case, Rings, Twin};
 use ringbuffer::{
     AllocRingBuffer, Command, ConstGenericRingBuffer, GrowableAllocRingBuffer, Refused, Reply,
-    RingBuffer, RingBufferIterator, RunFault, Stopped, apply, run, run_into,
+    RingBuffer, RunFault, Stopped, apply, run, run_into,
 };
-use std::alloc::AllocError;
-use std::collections::VecDeque;
+use std::alloc::{AllocError, Global};
+use std::mem::size_of;
 use std::process::Abort;
 
-// Tries an attempt in one drought after the other, until none is refused. The first is.
-macro_rules! assert_granted_at_last {
-    ($rt:ident, $step:ident => $attempt:expr) => {
-        let mut refused = 0;
-        for $step in 0..MOST_STEPS {
-            if $attempt {
-                break;
-            }
-            refused = $step + 1;
-        }
-        assert!($rt; (1..MOST_STEPS).contains(&refused));
-    };
-}
-
-/// Pushes so many items of a supply.
-fn push_next<'a, R: RingBuffer<Clonable<'a>>>(
+/// The ring holds the first items of a supply, which then has so many in all.
+fn hold_first<'a, R: RingBuffer<Counted<'a>>>(
     rt: &impl Abort,
     ring: &mut R,
     supply: &'a Supply,
-    items: usize,
+    held: usize,
+    most: usize,
 ) {
-    for _ in 0..items {
-        assert!(rt; ring.push(supply.item(rt)).is_ok());
-    }
+    ring.clear();
+    supply.begin_again_with(most);
+    push_items(rt, ring, supply, held);
 }
 
-/// The ring holds items that are numbered in order, from this number on.
-fn assert_in_order<'a, R: RingBuffer<Clonable<'a>>>(rt: &impl Abort, ring: &R, first: usize) {
-    for (i, item) in RingBufferIterator::new(ring).enumerate() {
-        assert_eq!(rt; item.number(), i.saturating_add(first));
-    }
-}
-
-/// The ring still holds the first three items of their supply. Then it ends.
-fn assert_unchanged<'a, R: RingBuffer<Clonable<'a>> + Drop>(
-    rt: &impl Abort,
-    ring: R,
-    supply: &Supply,
-) {
+/// The ring still holds the first three items of their supply.
+fn assert_unchanged<'a, R: RingBuffer<Counted<'a>>>(rt: &impl Abort, ring: &R) {
     assert_eq!(rt; ring.len(), 3);
-    assert_in_order(rt, &ring, 0);
-    drop(ring);
-    supply.assert_all_dropped_but(rt, 0);
+    assert_numbered(rt, ring, 0);
 }
 
-// No trait that the rings share has `clone`, so the body is a macro.
-macro_rules! assert_clone_needs_clones {
-    ($rt:ident, $ring:expr) => {
+struct ClonesItems;
+
+impl<'a> CountedCase<Counted<'a>, &'a Supply> for ClonesItems {
+    fn on<R: RingBuffer<Counted<'a>> + Twin + Drop>(
+        &self,
+        rt: &(impl Abort + AllocGlobal),
+        mut ring: R,
+        supply: &'a Supply,
+    ) -> Result<(), AllocError> {
         for clones in 0..4 {
-            let supply = Supply::new($rt.alloc(), clones + 3)?;
-            let mut ring = $ring;
-            push_next(&$rt, &mut ring, &supply, 3);
-            let made = ring.clone();
-            assert_eq!($rt; is_cloned(&$rt, made, &supply), clones == 3);
-            assert_unchanged(&$rt, ring, &supply);
+            hold_first(rt, &mut ring, supply, 3, clones + 3);
+            let made = ring.twin();
+            assert_eq!(rt; is_cloned(rt, made, supply), clones == 3);
+            assert_unchanged(rt, &ring);
         }
-    };
+        drop(ring);
+        supply.assert_each_dropped(rt);
+        Ok(())
+    }
 }
 
 #[test]
 fn a_refused_clone_of_an_item_ends_a_clone(rt: HostRuntime) -> Result<(), AllocError> {
-    assert_clone_needs_clones!(rt, ConstGenericRingBuffer::<Clonable, 3>::new());
-    assert_clone_needs_clones!(rt, AllocRingBuffer::new(rt.alloc(), 3)?);
-    assert_clone_needs_clones!(rt, GrowableAllocRingBuffer::new(rt.alloc()));
-    Ok(())
-}
-
-macro_rules! assert_clone_needs_memory {
-    ($rt:ident, $ring:expr) => {
-        assert_granted_at_last!($rt, step => {
-            let supply = Supply::new($rt.alloc(), 6)?;
-            let mut ring = $ring;
-            push_next(&$rt, &mut ring, &supply, 3);
-            let drought = Drought::but_for($rt.alloc(), spared(step))?;
-            let made = ring.clone();
-            drop(drought);
-            let is_made = is_cloned(&$rt, made, &supply);
-            assert_unchanged(&$rt, ring, &supply);
-            is_made
-        });
-    };
+    let supply = Supply::new(rt.alloc(), 6)?;
+    on_each::<3>(&rt, &supply, &ClonesItems)
 }
 
 #[test]
 fn a_clone_is_refused_in_turn(rt: HostRuntime) -> Result<(), AllocError> {
-    assert_clone_needs_memory!(rt, AllocRingBuffer::new(rt.alloc(), 3)?);
-    assert_clone_needs_memory!(rt, GrowableAllocRingBuffer::new(rt.alloc()));
-    Ok(())
+    fn on<'a, R: RingBuffer<Counted<'a>> + Twin + Drop>(
+        rt: &(impl Abort + AllocGlobal),
+        mut ring: R,
+        supply: &'a Supply,
+    ) -> Result<(), AllocError> {
+        for step in 0..MOST_STEPS {
+            hold_first(rt, &mut ring, supply, 3, 6);
+            let drought = Drought::but_for(rt.alloc(), spared(step))?;
+            let made = ring.twin();
+            drop(drought);
+            let is_made = is_cloned(rt, made, supply);
+            assert_unchanged(rt, &ring);
+            if is_made {
+                assert!(rt; step > 0);
+                return Ok(());
+            }
+        }
+        panic!(rt; "each attempt was refused")
+    }
+    let supply = Supply::new(rt.alloc(), 6)?;
+    on(&rt, AllocRingBuffer::new(rt.alloc(), 3)?, &supply)?;
+    on(&rt, GrowableAllocRingBuffer::new(rt.alloc()), &supply)
 }
 
 /// A list of clones of three items has them in order, and where it was refused they were dropped. Answers whether the
 /// list was made.
-fn is_listed(
-    rt: &impl Abort,
-    made: Result<Vec<Clonable<'_>>, AllocError>,
-    supply: &Supply,
-) -> bool {
+fn is_listed(rt: &impl Abort, made: Result<Vec<Counted<'_>>, AllocError>, supply: &Supply) -> bool {
     let is_made = made.is_ok();
     if let Ok(items) = made {
         assert_eq!(rt; items.len(), 3);
         for (i, item) in items.iter().enumerate() {
-            assert_eq!(rt; item.number(), i.saturating_add(3));
+            assert_eq!(rt; item.number, i.saturating_add(3));
         }
     }
     supply.assert_all_dropped_but(rt, 3);
     is_made
 }
 
-#[test]
-fn a_refused_clone_of_an_item_ends_a_list(rt: HostRuntime) -> Result<(), AllocError> {
-    fn on<'a, R: RingBuffer<Clonable<'a>> + Drop>(
+struct ListsClones;
+
+impl<'a> CountedCase<Counted<'a>, &'a Supply> for ListsClones {
+    fn on<R: RingBuffer<Counted<'a>> + Twin + Drop>(
+        &self,
         rt: &(impl Abort + AllocGlobal),
         mut ring: R,
         supply: &'a Supply,
-        clones: usize,
-    ) {
-        push_next(rt, &mut ring, supply, 3);
-        let made = ring.to_vec(rt.alloc());
-        assert_eq!(rt; is_listed(rt, made, supply), clones == 3);
-        assert_unchanged(rt, ring, supply);
+    ) -> Result<(), AllocError> {
+        for clones in 0..4 {
+            hold_first(rt, &mut ring, supply, 3, clones + 3);
+            let made = ring.to_vec(rt.alloc());
+            assert_eq!(rt; is_listed(rt, made, supply), clones == 3);
+            assert_unchanged(rt, &ring);
+        }
+        drop(ring);
+        supply.assert_each_dropped(rt);
+        Ok(())
     }
-    for clones in 0..4 {
-        let supply = Supply::new(rt.alloc(), clones + 3)?;
-        on(
-            &rt,
-            ConstGenericRingBuffer::<Clonable, 3>::new(),
-            &supply,
-            clones,
-        );
-        let supply = Supply::new(rt.alloc(), clones + 3)?;
-        on(&rt, AllocRingBuffer::new(rt.alloc(), 3)?, &supply, clones);
-        let supply = Supply::new(rt.alloc(), clones + 3)?;
-        on(
-            &rt,
-            GrowableAllocRingBuffer::new(rt.alloc()),
-            &supply,
-            clones,
-        );
+}
+
+#[test]
+fn a_refused_clone_of_an_item_ends_a_list(rt: HostRuntime) -> Result<(), AllocError> {
+    let supply = Supply::new(rt.alloc(), 6)?;
+    on_each::<3>(&rt, &supply, &ListsClones)
+}
+
+struct ListsInADrought;
+
+impl<'a> CountedCase<Counted<'a>, &'a Supply> for ListsInADrought {
+    fn on<R: RingBuffer<Counted<'a>> + Twin + Drop>(
+        &self,
+        rt: &(impl Abort + AllocGlobal),
+        mut ring: R,
+        supply: &'a Supply,
+    ) -> Result<(), AllocError> {
+        for step in 0..MOST_STEPS {
+            hold_first(rt, &mut ring, supply, 3, 6);
+            let drought = Drought::but_for(rt.alloc(), spared(step))?;
+            let made = ring.to_vec(rt.alloc());
+            drop(drought);
+            let is_made = is_listed(rt, made, supply);
+            assert_unchanged(rt, &ring);
+            if is_made {
+                assert!(rt; step > 0);
+                return Ok(());
+            }
+        }
+        panic!(rt; "each attempt was refused")
     }
-    Ok(())
 }
 
 #[test]
 fn a_list_is_refused_in_turn(rt: HostRuntime) -> Result<(), AllocError> {
-    fn lists<'a, R: RingBuffer<Clonable<'a>> + Drop>(
+    let supply = Supply::new(rt.alloc(), 6)?;
+    on_each::<3>(&rt, &supply, &ListsInADrought)
+}
+
+struct FillsByClones;
+
+impl<'a> CountedCase<Counted<'a>, &'a Supply> for FillsByClones {
+    fn on<R: RingBuffer<Counted<'a>> + Twin + Drop>(
+        &self,
         rt: &(impl Abort + AllocGlobal),
         mut ring: R,
         supply: &'a Supply,
-        spare: usize,
-    ) -> Result<bool, AllocError> {
-        push_next(rt, &mut ring, supply, 3);
-        let drought = Drought::but_for(rt.alloc(), spare)?;
-        let made = ring.to_vec(rt.alloc());
-        drop(drought);
-        let is_made = is_listed(rt, made, supply);
-        assert_unchanged(rt, ring, supply);
-        Ok(is_made)
+    ) -> Result<(), AllocError> {
+        let capacity = ring.capacity();
+        // Up to one clone more than there is room for.
+        for clones in 0..capacity.saturating_add(2) {
+            hold_first(rt, &mut ring, supply, 2, clones.saturating_add(3));
+            let filled = ring.fill(supply.item(rt));
+            assert_eq!(rt; filled.is_ok(), clones >= capacity, "of {clones} clones");
+            assert_eq!(rt; ring.len(), clones.min(capacity));
+            assert_numbered(rt, &ring, 3);
+            assert_eq!(rt; supply.given(), ring.len().saturating_add(3));
+            assert_eq!(rt; supply.drops_of(rt, 2), 1);
+        }
+        drop(ring);
+        supply.assert_each_dropped(rt);
+        Ok(())
     }
-    assert_granted_at_last!(rt, step => {
-        let supply = Supply::new(rt.alloc(), 6)?;
-        lists(&rt, ConstGenericRingBuffer::<Clonable, 3>::new(), &supply, spared(step))?
-    });
-    assert_granted_at_last!(rt, step => {
-        let supply = Supply::new(rt.alloc(), 6)?;
-        lists(&rt, AllocRingBuffer::new(rt.alloc(), 3)?, &supply, spared(step))?
-    });
-    assert_granted_at_last!(rt, step => {
-        let supply = Supply::new(rt.alloc(), 6)?;
-        lists(&rt, GrowableAllocRingBuffer::new(rt.alloc()), &supply, spared(step))?
-    });
-    Ok(())
 }
 
 #[test]
 fn a_refused_clone_of_the_value_ends_a_fill(rt: HostRuntime) -> Result<(), AllocError> {
-    fn on<'a, R: RingBuffer<Clonable<'a>> + Drop>(
-        rt: &impl Abort,
-        mut ring: R,
-        supply: &'a Supply,
-        clones: usize,
-    ) {
-        push_next(rt, &mut ring, supply, 2);
-        let capacity = ring.capacity();
-        let filled = ring.fill(supply.item(rt));
-        assert_eq!(rt; filled.is_ok(), clones == capacity);
-        assert_eq!(rt; ring.len(), clones);
-        assert_in_order(rt, &ring, 3);
-        assert_eq!(rt; supply.given(), clones.saturating_add(3));
-        drop(ring);
-        supply.assert_all_dropped_but(rt, 0);
-    }
-    for clones in 0..4 {
-        let supply = Supply::new(rt.alloc(), clones + 3)?;
-        on(
-            &rt,
-            ConstGenericRingBuffer::<Clonable, 3>::new(),
-            &supply,
-            clones,
-        );
-        let supply = Supply::new(rt.alloc(), clones + 3)?;
-        on(&rt, AllocRingBuffer::new(rt.alloc(), 3)?, &supply, clones);
-        let supply = Supply::new(rt.alloc(), clones + 3)?;
-        on(
-            &rt,
-            GrowableAllocRingBuffer::with_capacity(rt.alloc(), 3)?,
-            &supply,
-            clones,
-        );
-    }
-    Ok(())
+    let supply = Supply::new(rt.alloc(), 40)?;
+    on_each::<3>(&rt, &supply, &FillsByClones)
 }
 
-/// A fill of a ring in a drought leaves a beginning of the new items, which are numbered from here on, or all of them.
-fn assert_filled<'a, R: RingBuffer<Clonable<'a>> + Drop>(
-    rt: &impl Abort,
-    filled: Result<(), AllocError>,
-    ring: R,
-    capacity: usize,
+/// A fill in a drought leaves a beginning of the new items, which are numbered from `first` on, or all of them.
+#[derive(Drop)]
+struct FillsInADrought {
+    by_clones: bool,
     first: usize,
-    supply: &Supply,
-) {
-    assert!(rt; ring.len() <= capacity);
-    assert_eq!(rt; filled.is_ok(), ring.len() == capacity);
-    assert_in_order(rt, &ring, first);
-    drop(ring);
-    supply.assert_all_dropped_but(rt, 0);
+}
+
+impl<'a> CountedCase<Counted<'a>, &'a Supply> for FillsInADrought {
+    fn on<R: RingBuffer<Counted<'a>> + Twin + Drop>(
+        &self,
+        rt: &(impl Abort + AllocGlobal),
+        mut ring: R,
+        supply: &'a Supply,
+    ) -> Result<(), AllocError> {
+        push_items(rt, &mut ring, supply, 2);
+        let capacity = ring.capacity();
+        let drought = Drought::total(rt.alloc())?;
+        let filled = if self.by_clones {
+            ring.fill(supply.item(rt))
+        } else {
+            ring.fill_with(|| supply.item(rt))
+        };
+        drop(drought);
+        assert!(rt; ring.len() <= capacity);
+        assert_eq!(rt; filled.is_ok(), ring.len() == capacity);
+        assert_numbered(rt, &ring, self.first);
+        drop(ring);
+        supply.assert_each_dropped(rt);
+        Ok(())
+    }
 }
 
 #[test]
 fn a_fill_by_a_closure_meets_a_drought(rt: HostRuntime) -> Result<(), AllocError> {
-    fn on<'a, R: RingBuffer<Clonable<'a>> + Drop>(
-        rt: &(impl Abort + AllocGlobal),
-        mut ring: R,
-        supply: &'a Supply,
-        fixed: bool,
-    ) -> Result<(), AllocError> {
-        push_next(rt, &mut ring, supply, 2);
-        let capacity = ring.capacity();
-        let drought = Drought::total(rt.alloc())?;
-        let filled = ring.fill_with(|| supply.item(rt));
-        drop(drought);
-        assert!(rt; filled.is_ok() || !fixed);
-        assert_filled(rt, filled, ring, capacity, 2, supply);
-        Ok(())
-    }
-    let supply = Supply::new(rt.alloc(), 5)?;
-    on(
-        &rt,
-        ConstGenericRingBuffer::<Clonable, 3>::new(),
-        &supply,
-        true,
-    )?;
-    let supply = Supply::new(rt.alloc(), 5)?;
-    on(&rt, AllocRingBuffer::new(rt.alloc(), 3)?, &supply, true)?;
-    let growable = GrowableAllocRingBuffer::with_capacity(rt.alloc(), 3)?;
-    let supply = Supply::new(rt.alloc(), growable.capacity().saturating_add(2))?;
-    on(&rt, growable, &supply, false)
+    let supply = Supply::new(rt.alloc(), 40)?;
+    let case = FillsInADrought {
+        by_clones: false,
+        first: 2,
+    };
+    on_each::<3>(&rt, &supply, &case)
 }
 
 #[test]
 fn a_fill_of_clones_meets_a_drought(rt: HostRuntime) -> Result<(), AllocError> {
-    fn on<'a, R: RingBuffer<Clonable<'a>> + Drop>(
+    let supply = Supply::new(rt.alloc(), 40)?;
+    let case = FillsInADrought {
+        by_clones: true,
+        first: 3,
+    };
+    on_each::<3>(&rt, &supply, &case)
+}
+
+struct FillsTakeNone;
+
+impl<Rt: Abort + AllocGlobal> Case<Rt> for FillsTakeNone {
+    fn on<R: RingBuffer<i64> + Drop>(&self, rt: &Rt, mut ring: R) -> Result<(), AllocError> {
+        push_all(rt, &mut ring, &[1, 2]);
+        let capacity = ring.capacity();
+        let drought = Drought::total(rt.alloc())?;
+        assert!(rt; ring.fill_default().is_ok());
+        assert_holds_all(rt, &ring, capacity, 0);
+        assert!(rt; ring.fill(7).is_ok());
+        assert_holds_all(rt, &ring, capacity, 7);
+        assert!(rt; ring.fill_with(|| 8).is_ok());
+        assert_holds_all(rt, &ring, capacity, 8);
+        drop(drought);
+        Ok(())
+    }
+}
+
+/// The ring holds one item so many times.
+fn assert_holds_all<R: RingBuffer<i64>>(rt: &impl Abort, ring: &R, times: usize, item: i64) {
+    assert_eq!(rt; ring.len(), times);
+    for i in 0..times {
+        assert_eq!(rt; ring.get(i).copied(), Some(item));
+    }
+}
+
+// A fill puts into a ring what it had room for before, so memory is refused to nothing but a clone.
+#[test]
+fn a_fill_asks_for_no_memory_of_its_own(rt: HostRuntime) -> Result<(), AllocError> {
+    Rings::<3>::each(&rt, &FillsTakeNone)
+}
+
+/// An item whose clone takes memory.
+#[derive(Drop)]
+struct Costly<'a> {
+    item: Counted<'a>,
+    alloc: Global,
+    _room: Vec<u8>,
+}
+
+// How many bytes such a clone takes.
+const COST: usize = 1 << 11;
+
+impl<'a> Costly<'a> {
+    /// The next item of a supply, which itself takes none.
+    fn next(rt: &(impl Abort + AllocGlobal), supply: &'a Supply) -> Costly<'a> {
+        Costly {
+            item: supply.item(rt),
+            alloc: rt.alloc(),
+            _room: Vec::new(rt.alloc()),
+        }
+    }
+}
+
+impl<'a> Clone for Costly<'a> {
+    fn clone(&self) -> Result<Costly<'a>, AllocError> {
+        let room = Vec::with_capacity(self.alloc, COST)?;
+        Ok(Costly {
+            item: self.item.clone()?,
+            alloc: self.alloc,
+            _room: room,
+        })
+    }
+}
+
+#[test]
+fn a_fill_of_a_growable_ring_is_refused_at_each_clone(rt: HostRuntime) -> Result<(), AllocError> {
+    /// Fills the ring in a drought that spares so many bytes. Answers how many items it then held.
+    fn fills<'a, R: RingBuffer<Costly<'a>> + Drop>(
         rt: &(impl Abort + AllocGlobal),
         mut ring: R,
         supply: &'a Supply,
-        fixed: bool,
-    ) -> Result<(), AllocError> {
-        push_next(rt, &mut ring, supply, 2);
+        spare: usize,
+    ) -> Result<usize, AllocError> {
+        for _ in 0..2 {
+            assert!(rt; ring.push(Costly::next(rt, supply)).is_ok());
+        }
         let capacity = ring.capacity();
-        let value = supply.item(rt);
-        let drought = Drought::total(rt.alloc())?;
+        let value = Costly::next(rt, supply);
+        let drought = Drought::but_for(rt.alloc(), spare)?;
         let filled = ring.fill(value);
         drop(drought);
-        assert!(rt; filled.is_ok() || !fixed);
-        assert_filled(rt, filled, ring, capacity, 3, supply);
-        Ok(())
+        let held = ring.len();
+        assert_eq!(rt; filled.is_ok(), held == capacity);
+        for i in 0..held {
+            let number = ring.get(i).expect(rt, "an item").item.number;
+            assert_eq!(rt; number, i.saturating_add(3));
+        }
+        drop(ring);
+        supply.assert_each_dropped(rt);
+        Ok(held)
     }
-    let supply = Supply::new(rt.alloc(), 6)?;
-    on(
-        &rt,
-        ConstGenericRingBuffer::<Clonable, 3>::new(),
-        &supply,
-        true,
-    )?;
-    let supply = Supply::new(rt.alloc(), 6)?;
-    on(&rt, AllocRingBuffer::new(rt.alloc(), 3)?, &supply, true)?;
-    let growable = GrowableAllocRingBuffer::with_capacity(rt.alloc(), 3)?;
-    let supply = Supply::new(rt.alloc(), growable.capacity().saturating_add(3))?;
-    on(&rt, growable, &supply, false)
-}
-
-#[test]
-fn a_default_fill_of_a_growable_ring_meets_a_drought(rt: HostRuntime) -> Result<(), AllocError> {
-    let mut ring = GrowableAllocRingBuffer::with_capacity(rt.alloc(), 3)?;
-    push_all(&rt, &mut ring, &[1, 2]);
-    let capacity = ring.capacity();
-    let drought = Drought::total(rt.alloc())?;
-    let filled = ring.fill_default();
-    drop(drought);
-    assert!(rt; ring.len() <= capacity);
-    assert_eq!(rt; filled.is_ok(), ring.len() == capacity);
-    for item in &ring {
-        assert_eq!(rt; *item, 0);
+    let supply = Supply::new(rt.alloc(), 40)?;
+    let mut held = 0;
+    for step in 0..MOST_STEPS {
+        supply.begin_again();
+        let ring = GrowableAllocRingBuffer::with_capacity(rt.alloc(), 4)?;
+        let capacity = ring.capacity();
+        let now = fills(&rt, ring, &supply, step * (COST / 2))?;
+        // No point is passed over.
+        assert!(rt; now == held || now == held.saturating_add(1));
+        held = now;
+        if held == capacity {
+            return Ok(());
+        }
     }
-    Ok(())
-}
-
-// Makes a ring of three items, while there is no memory.
-macro_rules! assert_made_of_nothing {
-    ($rt:ident, $drops:ident, $source:ident = $three:expr, $make:expr) => {
-        let $drops = Drops::new($rt.alloc(), 3)?;
-        let $source = $three;
-        let drought = Drought::total($rt.alloc())?;
-        let made = $make;
-        drop(drought);
-        assert!($rt; is_made(&$rt, Ok(made), &$drops));
-    };
-}
-
-#[test]
-fn an_array_ring_is_made_without_memory(rt: HostRuntime) -> Result<(), AllocError> {
-    assert_made_of_nothing!(
-        rt,
-        drops,
-        items = three_places(&rt, &drops),
-        ConstGenericRingBuffer::<Counted, 3>::from_array(items)
-    );
-    assert_made_of_nothing!(
-        rt,
-        drops,
-        items = drops.items(&rt, 0..3)?,
-        ConstGenericRingBuffer::<Counted, 3>::from_vec(items)
-    );
-    assert_made_of_nothing!(
-        rt,
-        drops,
-        items = drops.items(&rt, 0..3)?,
-        ConstGenericRingBuffer::<Counted, 3>::from_iter(items)
-    );
-    assert_made_of_nothing!(
-        rt,
-        drops,
-        items = VecDeque::from(drops.items(&rt, 0..3)?),
-        ConstGenericRingBuffer::<Counted, 3>::from_deque(items)
-    );
-    assert_made_of_nothing!(
-        rt,
-        drops,
-        items = three_in_a_list(&rt, &drops)?,
-        ConstGenericRingBuffer::<Counted, 3>::from_linked_list(items)
-    );
-    Ok(())
-}
-
-#[test]
-fn a_ring_becomes_another_without_memory(rt: HostRuntime) -> Result<(), AllocError> {
-    assert_made_of_nothing!(
-        rt,
-        drops,
-        items = GrowableAllocRingBuffer::from_array(rt.alloc(), three_places(&rt, &drops))?,
-        ConstGenericRingBuffer::<Counted, 3>::from_growable(items)
-    );
-    assert_made_of_nothing!(
-        rt,
-        drops,
-        items = AllocRingBuffer::from_array(rt.alloc(), three_places(&rt, &drops))?,
-        ConstGenericRingBuffer::<Counted, 3>::from_alloc(items)
-    );
-    assert_made_of_nothing!(
-        rt,
-        drops,
-        items = VecDeque::from(drops.items(&rt, 0..3)?),
-        GrowableAllocRingBuffer::from(items)
-    );
-    Ok(())
+    panic!(rt; "each attempt was refused")
 }
 
 #[test]
@@ -442,139 +405,316 @@ fn comparisons_take_no_memory(rt: HostRuntime) -> Result<(), AllocError> {
     )
 }
 
+// Only a growable ring is refused a push. This one has room for so many items, and they are there.
+struct PushesOntoFull;
+
+impl<'a> CountedCase<Counted<'a>, &'a Supply> for PushesOntoFull {
+    fn on<R: RingBuffer<Counted<'a>> + Twin + Drop>(
+        &self,
+        rt: &(impl Abort + AllocGlobal),
+        mut ring: R,
+        supply: &'a Supply,
+    ) -> Result<(), AllocError> {
+        let room = ring.capacity();
+        push_items(rt, &mut ring, supply, room);
+        assert!(rt; ring.is_full());
+        let drought = Drought::total(rt.alloc())?;
+        let pushed = ring.push(supply.item(rt));
+        let enqueued = ring.enqueue(pushed.err().expect(rt, "the item that was pushed"));
+        let item = enqueued.err().expect(rt, "the item that was enqueued");
+        let applied = apply(&mut ring, Command::Push(item));
+        drop(drought);
+        let Err(Refused::Push(item)) = applied else {
+            panic!(rt; "the push was not refused");
+        };
+        assert_eq!(rt; item.number, room);
+        assert_eq!(rt; ring.len(), room);
+        assert_numbered(rt, &ring, 0);
+        drop((ring, item));
+        supply.assert_each_dropped(rt);
+        Ok(())
+    }
+}
+
+#[test]
+fn a_refused_push_hands_its_item_back(rt: HostRuntime) -> Result<(), AllocError> {
+    let supply = Supply::new(rt.alloc(), 40)?;
+    on_growable::<4>(&rt, &supply, &PushesOntoFull)
+}
+
 // How many items the extensions below have.
 const MANY: usize = 100;
 
-#[test]
-fn a_refused_command_to_extend_leaves_a_beginning(rt: HostRuntime) -> Result<(), AllocError> {
+/// Extends a growable ring in one drought after the other, by a call or by a command, until none is refused. The first
+/// is.
+fn assert_extended_at_last(
+    rt: &(impl Abort + AllocGlobal),
+    by_command: bool,
+) -> Result<(), AllocError> {
     fn extends<'a, R: RingBuffer<Counted<'a>> + Drop>(
         rt: &(impl Abort + AllocGlobal),
         mut ring: R,
-        drops: &'a Drops,
+        supply: &'a Supply,
+        by_command: bool,
         spare: usize,
     ) -> Result<bool, AllocError> {
-        ring.extend(drops.items(rt, 0..2)?)?;
-        let extension = drops.items(rt, 2..MANY + 2)?;
+        push_items(rt, &mut ring, supply, 2);
+        let extension = supply.items(rt, MANY)?;
         let drought = Drought::but_for(rt.alloc(), spare)?;
-        let applied = apply(&mut ring, Command::Extend(extension));
-        drop(drought);
-        let is_done = match applied {
-            Ok(Reply::Extended) => true,
-            Err(Refused::Extend) => false,
-            _ => panic!(rt; "an answer to another command"),
+        let is_done = if by_command {
+            match apply(&mut ring, Command::Extend(extension)) {
+                Ok(Reply::Extended) => true,
+                Err(Refused::Extend) => false,
+                _ => panic!(rt; "an answer to another command"),
+            }
+        } else {
+            ring.extend(extension).is_ok()
         };
+        drop(drought);
         assert!(rt; (2..MANY + 3).contains(&ring.len()));
         assert_eq!(rt; is_done, ring.len() == MANY + 2);
         assert_numbered(rt, &ring, 0);
         drop(ring);
-        drops.assert_each_once(rt);
+        supply.assert_each_dropped(rt);
         Ok(is_done)
     }
-    assert_granted_at_last!(rt, step => {
-        let drops = Drops::new(rt.alloc(), MANY + 2)?;
-        extends(&rt, GrowableAllocRingBuffer::new(rt.alloc()), &drops, spared(step))?
-    });
-    Ok(())
+    let supply = Supply::new(rt.alloc(), MANY + 2)?;
+    for step in 0..MOST_STEPS {
+        supply.begin_again();
+        let ring = GrowableAllocRingBuffer::new(rt.alloc());
+        if extends(rt, ring, &supply, by_command, spared(step))? {
+            assert!(rt; step > 1);
+            return Ok(());
+        }
+    }
+    panic!(rt; "each attempt was refused")
 }
 
-/// A run that pushes item 0, extends by so many more, takes one, and pushes a last item.
-fn commands<'a>(
+#[test]
+fn a_refused_extension_leaves_a_beginning(rt: HostRuntime) -> Result<(), AllocError> {
+    assert_extended_at_last(&rt, false)
+}
+
+#[test]
+fn a_refused_command_to_extend_leaves_a_beginning(rt: HostRuntime) -> Result<(), AllocError> {
+    assert_extended_at_last(&rt, true)
+}
+
+/// A run on a growable ring that is new: it pushes item 0, extends by so many more, takes one or else extends by none,
+/// and pushes a last item.
+#[derive(Drop)]
+struct Script {
+    extension: usize,
+    takes: bool,
+}
+
+impl Script {
+    /// How many items the commands have.
+    fn items(&self) -> usize {
+        self.extension.saturating_add(2)
+    }
+
+    /// Its commands, with the first items of a supply.
+    fn commands<'a>(
+        &self,
+        rt: &(impl Abort + AllocGlobal),
+        supply: &'a Supply,
+    ) -> Result<Vec<Command<Counted<'a>>>, AllocError> {
+        let first = supply.item(rt);
+        let extension = supply.items(rt, self.extension)?;
+        let third = if self.takes {
+            Command::Dequeue
+        } else {
+            Command::Extend(Vec::new(rt.alloc()))
+        };
+        Ok(vec![in rt.alloc();
+            Command::Push(first),
+            Command::Extend(extension),
+            third,
+            Command::Push(supply.item(rt)),
+        ]?)
+    }
+
+    /// Whether this is command `at`, with its items.
+    fn is_command(&self, command: &Command<Counted<'_>>, at: usize) -> bool {
+        match command {
+            Command::Push(item) if at == 0 => item.number == 0,
+            Command::Push(item) => at == 3 && item.number == self.extension.saturating_add(1),
+            Command::Extend(items) if at == 1 => {
+                items.len() == self.extension
+                    && items
+                        .iter()
+                        .enumerate()
+                        .all(|(i, item)| item.number == i.saturating_add(1))
+            }
+            Command::Extend(items) => at == 2 && !self.takes && items.is_empty(),
+            Command::Dequeue => at == 2 && self.takes,
+            _ => false,
+        }
+    }
+
+    /// Whether command `at` is replied to like this.
+    fn is_reply(&self, reply: &Reply<Counted<'_>>, at: usize) -> bool {
+        match reply {
+            Reply::Pushed(None) => at == 0 || at == 3,
+            Reply::Extended => at == 1 || at == 2 && !self.takes,
+            Reply::Dequeued(Some(item)) => at == 2 && self.takes && item.number == 0,
+            _ => false,
+        }
+    }
+
+    /// The ring holds what it does once so many commands are done, and a beginning of the next. Then it ends.
+    fn assert_done<'a, R: RingBuffer<Counted<'a>> + Drop>(
+        &self,
+        rt: &impl Abort,
+        ring: R,
+        done: usize,
+    ) {
+        let first = if self.takes && done > 2 { 1 } else { 0 };
+        let end = match done {
+            0 => 0,
+            1 => {
+                assert!(rt; (1..self.extension.saturating_add(1)).contains(&ring.len()));
+                ring.len()
+            }
+            3 => self.extension.saturating_add(1),
+            4 => self.items(),
+            _ => panic!(rt; "command {done} takes no memory"),
+        };
+        assert_eq!(rt; ring.len().saturating_add(first), end);
+        assert_numbered(rt, &ring, first);
+    }
+}
+
+/// How a run in a drought ended.
+#[derive(Debug, PartialEq, Drop)]
+enum Ended {
+    NoRoom,
+    Stopped(usize),
+    Done,
+}
+
+/// Runs a script on a ring that is new, in a drought that spares so many bytes.
+fn run_in_a_drought<'a, R: RingBuffer<Counted<'a>> + Drop>(
     rt: &(impl Abort + AllocGlobal),
-    drops: &'a Drops,
-) -> Result<Vec<Command<Counted<'a>>>, AllocError> {
-    let extension = drops.items(rt, 1..MANY + 1)?;
-    Ok(vec![in rt.alloc();
-        Command::Push(drops.item(rt, 0)),
-        Command::Extend(extension),
-        Command::Dequeue,
-        Command::Push(drops.item(rt, MANY + 1)),
-    ]?)
+    mut ring: R,
+    supply: &'a Supply,
+    script: &Script,
+    spare: usize,
+) -> Result<Ended, AllocError> {
+    let commands = script.commands(rt, supply)?;
+    let drought = Drought::but_for(rt.alloc(), spare)?;
+    let answered = run(rt.alloc(), &mut ring, commands);
+    drop(drought);
+    let (ended, done, replies) = match answered {
+        Ok(replies) => (Ended::Done, 4, replies),
+        Err(RunFault::Stopped { at, replies }) => (Ended::Stopped(at), at, replies),
+        Err(RunFault::NoRoom(commands)) => {
+            assert_eq!(rt; commands.len(), 4);
+            for (i, command) in commands.iter().enumerate() {
+                assert!(rt; script.is_command(command, i), "at {i}");
+            }
+            (Ended::NoRoom, 0, Vec::new(rt.alloc()))
+        }
+    };
+    assert_eq!(rt; replies.len(), done);
+    for (i, reply) in replies.iter().enumerate() {
+        assert!(rt; script.is_reply(reply, i), "at {i}");
+    }
+    script.assert_done(rt, ring, done);
+    drop(replies);
+    supply.assert_each_dropped(rt);
+    Ok(ended)
 }
 
-/// What a ring that was empty holds after that run was stopped at a command. Then the ring ends.
-fn assert_stopped<'a, R: RingBuffer<Counted<'a>> + Drop>(rt: &impl Abort, ring: R, at: usize) {
-    match at {
-        0 => assert!(rt; ring.is_empty()),
-        1 => {
-            assert!(rt; (1..MANY + 1).contains(&ring.len()));
-            assert_numbered(rt, &ring, 0);
-        }
-        3 => {
-            assert_eq!(rt; ring.len(), MANY);
-            assert_numbered(rt, &ring, 1);
-        }
-        _ => panic!(rt; "command {at} takes no memory"),
+/// How many bytes the drought of a run spares: none, then the room for its replies, and then ever more.
+fn spared_for_run(step: usize) -> usize {
+    match step {
+        0 => 0,
+        1 => size_of::<Reply<Counted>>().saturating_mul(4),
+        _ => step.saturating_mul(256).saturating_add(1024),
     }
 }
 
-/// What it holds after the whole run. Then the ring ends.
-fn assert_run<'a, R: RingBuffer<Counted<'a>> + Drop>(rt: &impl Abort, ring: R) {
-    assert_eq!(rt; ring.len(), MANY + 1);
-    assert_numbered(rt, &ring, 1);
-}
-
-/// Whether command `at` of that run is replied to like this.
-fn is_reply(reply: &Reply<Counted<'_>>, at: usize) -> bool {
-    match reply {
-        Reply::Pushed(None) => at == 0 || at == 3,
-        Reply::Extended => at == 1,
-        Reply::Dequeued(Some(item)) => at == 2 && item.number == 0,
-        _ => false,
+/// Runs a script in one drought after the other, until it is done. Each of these ends is met before.
+fn assert_run_at_last(
+    rt: &(impl Abort + AllocGlobal),
+    script: &Script,
+    ends: &[Ended],
+) -> Result<(), AllocError> {
+    let supply = Supply::new(rt.alloc(), script.items())?;
+    let mut met = Vec::new(rt.alloc());
+    for step in 0..MOST_STEPS {
+        supply.begin_again();
+        let ring = GrowableAllocRingBuffer::new(rt.alloc());
+        let ended = run_in_a_drought(rt, ring, &supply, script, spared_for_run(step))?;
+        if ended == Ended::Done {
+            for end in ends {
+                assert!(rt; met.contains(end), "{end:?}");
+            }
+            return Ok(());
+        }
+        met.push(ended)?;
     }
+    panic!(rt; "each attempt was refused")
 }
 
 #[test]
 fn a_run_of_a_growable_ring_stops_where_it_is_refused(rt: HostRuntime) -> Result<(), AllocError> {
-    fn runs<'a, R: RingBuffer<Counted<'a>> + Drop>(
-        rt: &(impl Abort + AllocGlobal),
-        mut ring: R,
-        drops: &'a Drops,
-        spare: usize,
-    ) -> Result<bool, AllocError> {
-        let commands = commands(rt, drops)?;
-        let drought = Drought::but_for(rt.alloc(), spare)?;
-        let answered = run(rt.alloc(), &mut ring, commands);
-        drop(drought);
-        let is_done = answered.is_ok();
-        match answered {
-            Ok(replies) => {
-                assert_eq!(rt; replies.len(), 4);
-                for (i, reply) in replies.iter().enumerate() {
-                    assert!(rt; is_reply(reply, i));
-                }
-                assert_run(rt, ring);
-            }
-            Err(RunFault::Stopped { at, replies }) => {
-                assert_eq!(rt; replies.len(), at);
-                for (i, reply) in replies.iter().enumerate() {
-                    assert!(rt; is_reply(reply, i));
-                }
-                assert_stopped(rt, ring, at);
-            }
-            Err(RunFault::NoRoom(commands)) => {
-                assert_eq!(rt; commands.len(), 4);
-                assert!(rt; ring.is_empty());
-            }
+    let script = Script {
+        extension: MANY,
+        takes: true,
+    };
+    let ends = [Ended::NoRoom, Ended::Stopped(0), Ended::Stopped(1)];
+    assert_run_at_last(&rt, &script, &ends)
+}
+
+/// How many items an extension has that fills a growable ring of one item to its capacity, where they are many.
+fn extension_to_capacity(rt: &(impl Abort + AllocGlobal)) -> Result<usize, AllocError> {
+    let mut extension = MANY;
+    for _ in 0..10 {
+        let mut ring = GrowableAllocRingBuffer::new(rt.alloc());
+        push_all(rt, &mut ring, &[0]);
+        for _ in 0..extension {
+            push_all(rt, &mut ring, &[1]);
         }
-        drops.assert_each_once(rt);
-        Ok(is_done)
+        if ring.is_full() {
+            return Ok(extension);
+        }
+        extension = ring.capacity().saturating_sub(1);
     }
-    assert_granted_at_last!(rt, step => {
-        let drops = Drops::new(rt.alloc(), MANY + 2)?;
-        runs(&rt, GrowableAllocRingBuffer::new(rt.alloc()), &drops, spared(step))?
-    });
-    Ok(())
+    panic!(rt; "no extension fills a ring")
+}
+
+// After a command that takes an item there is room for the next. So the last push is refused where none was taken.
+#[test]
+fn a_run_of_a_growable_ring_stops_at_a_push_onto_a_full_one(
+    rt: HostRuntime,
+) -> Result<(), AllocError> {
+    let script = Script {
+        extension: extension_to_capacity(&rt)?,
+        takes: false,
+    };
+    let ends = [
+        Ended::NoRoom,
+        Ended::Stopped(0),
+        Ended::Stopped(1),
+        Ended::Stopped(3),
+    ];
+    assert_run_at_last(&rt, &script, &ends)
 }
 
 #[test]
 fn places_hold_the_replies_before_a_refusal(rt: HostRuntime) -> Result<(), AllocError> {
+    /// Runs a script into places in a drought that spares so many bytes. Answers how many commands were done.
     fn runs<'a, R: RingBuffer<Counted<'a>> + Drop>(
         rt: &(impl Abort + AllocGlobal),
         mut ring: R,
-        drops: &'a Drops,
+        supply: &'a Supply,
+        script: &Script,
         spare: usize,
-    ) -> Result<bool, AllocError> {
-        let commands = commands(rt, drops)?;
+    ) -> Result<usize, AllocError> {
+        let commands = script.commands(rt, supply)?;
         let mut places = [
             Some(Reply::Cleared),
             Some(Reply::Cleared),
@@ -591,22 +731,27 @@ fn places_hold_the_replies_before_a_refusal(rt: HostRuntime) -> Result<(), Alloc
         };
         for (i, place) in places.iter().enumerate() {
             match place {
-                Some(reply) => assert!(rt; i < done && is_reply(reply, i)),
+                Some(reply) => assert!(rt; i < done && script.is_reply(reply, i)),
                 None => assert!(rt; i >= done),
             }
         }
-        if done == 4 {
-            assert_run(rt, ring);
-        } else {
-            assert_stopped(rt, ring, done);
-        }
+        script.assert_done(rt, ring, done);
         drop(places);
-        drops.assert_each_once(rt);
-        Ok(done == 4)
+        supply.assert_each_dropped(rt);
+        Ok(done)
     }
-    assert_granted_at_last!(rt, step => {
-        let drops = Drops::new(rt.alloc(), MANY + 2)?;
-        runs(&rt, GrowableAllocRingBuffer::new(rt.alloc()), &drops, spared(step))?
-    });
-    Ok(())
+    let script = Script {
+        extension: MANY,
+        takes: true,
+    };
+    let supply = Supply::new(rt.alloc(), script.items())?;
+    for step in 0..MOST_STEPS {
+        supply.begin_again();
+        let ring = GrowableAllocRingBuffer::new(rt.alloc());
+        if runs(&rt, ring, &supply, &script, spared(step))? == 4 {
+            assert!(rt; step > 1);
+            return Ok(());
+        }
+    }
+    panic!(rt; "each attempt was refused")
 }

@@ -1,7 +1,7 @@
 //! Commands, one by one and in runs.
 
-use super::drought::Drought;
-use super::{Case, assert_holds, on_each, on_fixed, on_growable, push_all};
+use super::{assert_holds, push_all};
+use ring_test_support::rings::{Case, Rings};
 use ringbuffer::{
     Command, Refused, Reply, RingBuffer, RunFault, Stopped, apply, run, run_into, runs_join,
 };
@@ -9,7 +9,7 @@ use std::alloc::{AllocError, Global};
 use std::process::Abort;
 
 /// A run that has each kind of command.
-fn every_command(alloc: Global) -> Result<Vec<Command<i64>>, AllocError> {
+pub fn every_command(alloc: Global) -> Result<Vec<Command<i64>>, AllocError> {
     Ok(vec![in alloc;
         Command::Push(1),
         Command::Extend(vec![in alloc; 2, 3, 4]?),
@@ -21,7 +21,7 @@ fn every_command(alloc: Global) -> Result<Vec<Command<i64>>, AllocError> {
 }
 
 /// What a fixed ring of capacity 2 replies to it.
-const REPLIES_OF_TWO: [Reply<i64>; 6] = [
+pub const REPLIES_OF_TWO: [Reply<i64>; 6] = [
     Reply::Pushed(None),
     Reply::Extended,
     Reply::Dequeued(Some(3)),
@@ -76,12 +76,8 @@ struct RunsIntoPlaces {
     replies: &'static [Reply<i64>],
 }
 
-impl Case for RunsIntoPlaces {
-    fn on<R: RingBuffer<i64> + Drop>(
-        &self,
-        rt: &(impl Abort + AllocGlobal),
-        mut ring: R,
-    ) -> Result<(), AllocError> {
+impl<Rt: Abort + AllocGlobal> Case<Rt> for RunsIntoPlaces {
+    fn on<R: RingBuffer<i64> + Drop>(&self, rt: &Rt, mut ring: R) -> Result<(), AllocError> {
         let commands = every_command(rt.alloc())?;
         assert_run_into(rt, &mut ring, commands, self.replies)?;
         assert_holds(rt, &ring, &[]);
@@ -92,13 +88,13 @@ impl Case for RunsIntoPlaces {
 #[test]
 fn each_place_holds_its_reply(rt: HostRuntime) -> Result<(), AllocError> {
     let replies = &REPLIES_OF_TWO;
-    on_fixed::<2>(&rt, &RunsIntoPlaces { replies })
+    Rings::<2>::fixed(&rt, &RunsIntoPlaces { replies })
 }
 
 #[test]
 fn each_place_holds_the_reply_of_a_growable_ring(rt: HostRuntime) -> Result<(), AllocError> {
     let replies = &REPLIES_WITHOUT_LIMIT;
-    on_growable::<2>(&rt, &RunsIntoPlaces { replies })
+    Rings::<2>::growable(&rt, &RunsIntoPlaces { replies })
 }
 
 /// A run makes these replies, and leaves nothing.
@@ -107,12 +103,8 @@ struct Runs {
     replies: &'static [Reply<i64>],
 }
 
-impl Case for Runs {
-    fn on<R: RingBuffer<i64> + Drop>(
-        &self,
-        rt: &(impl Abort + AllocGlobal),
-        mut ring: R,
-    ) -> Result<(), AllocError> {
+impl<Rt: Abort + AllocGlobal> Case<Rt> for Runs {
+    fn on<R: RingBuffer<i64> + Drop>(&self, rt: &Rt, mut ring: R) -> Result<(), AllocError> {
         let commands = every_command(rt.alloc())?;
         assert_run(rt, &mut ring, commands, self.replies);
         assert_holds(rt, &ring, &[]);
@@ -123,23 +115,19 @@ impl Case for Runs {
 #[test]
 fn a_run_makes_its_replies(rt: HostRuntime) -> Result<(), AllocError> {
     let replies = &REPLIES_OF_TWO;
-    on_fixed::<2>(&rt, &Runs { replies })
+    Rings::<2>::fixed(&rt, &Runs { replies })
 }
 
 #[test]
 fn a_run_on_a_growable_ring_makes_its_replies(rt: HostRuntime) -> Result<(), AllocError> {
     let replies = &REPLIES_WITHOUT_LIMIT;
-    on_growable::<2>(&rt, &Runs { replies })
+    Rings::<2>::growable(&rt, &Runs { replies })
 }
 
 struct LeavesItems;
 
-impl Case for LeavesItems {
-    fn on<R: RingBuffer<i64> + Drop>(
-        &self,
-        rt: &(impl Abort + AllocGlobal),
-        mut ring: R,
-    ) -> Result<(), AllocError> {
+impl<Rt: Abort + AllocGlobal> Case<Rt> for LeavesItems {
+    fn on<R: RingBuffer<i64> + Drop>(&self, rt: &Rt, mut ring: R) -> Result<(), AllocError> {
         let extension = vec![in rt.alloc(); 1, 2, 3]?;
         let commands = vec![in rt.alloc(); Command::Extend(extension), Command::Push(4)]?;
         assert_run(
@@ -155,17 +143,13 @@ impl Case for LeavesItems {
 
 #[test]
 fn a_run_leaves_what_its_commands_leave(rt: HostRuntime) -> Result<(), AllocError> {
-    on_fixed::<2>(&rt, &LeavesItems)
+    Rings::<2>::fixed(&rt, &LeavesItems)
 }
 
 struct EmptyRun;
 
-impl Case for EmptyRun {
-    fn on<R: RingBuffer<i64> + Drop>(
-        &self,
-        rt: &(impl Abort + AllocGlobal),
-        mut ring: R,
-    ) -> Result<(), AllocError> {
+impl<Rt: Abort + AllocGlobal> Case<Rt> for EmptyRun {
+    fn on<R: RingBuffer<i64> + Drop>(&self, rt: &Rt, mut ring: R) -> Result<(), AllocError> {
         push_all(rt, &mut ring, &[1, 2, 3]);
         assert_run_into(rt, &mut ring, Vec::new(rt.alloc()), &[])?;
         assert_run(rt, &mut ring, Vec::new(rt.alloc()), &[]);
@@ -176,17 +160,13 @@ impl Case for EmptyRun {
 
 #[test]
 fn an_empty_run_changes_nothing(rt: HostRuntime) -> Result<(), AllocError> {
-    on_each::<3>(&rt, &EmptyRun)
+    Rings::<3>::each(&rt, &EmptyRun)
 }
 
 struct TakesMore;
 
-impl Case for TakesMore {
-    fn on<R: RingBuffer<i64> + Drop>(
-        &self,
-        rt: &(impl Abort + AllocGlobal),
-        mut ring: R,
-    ) -> Result<(), AllocError> {
+impl<Rt: Abort + AllocGlobal> Case<Rt> for TakesMore {
+    fn on<R: RingBuffer<i64> + Drop>(&self, rt: &Rt, mut ring: R) -> Result<(), AllocError> {
         push_all(rt, &mut ring, &[1, 2, 3]);
         let commands = vec![in rt.alloc();
             Command::Dequeue,
@@ -208,17 +188,13 @@ impl Case for TakesMore {
 
 #[test]
 fn a_run_may_take_more_than_there_is(rt: HostRuntime) -> Result<(), AllocError> {
-    on_each::<3>(&rt, &TakesMore)
+    Rings::<3>::each(&rt, &TakesMore)
 }
 
 struct EachCommand;
 
-impl Case for EachCommand {
-    fn on<R: RingBuffer<i64> + Drop>(
-        &self,
-        rt: &(impl Abort + AllocGlobal),
-        mut ring: R,
-    ) -> Result<(), AllocError> {
+impl<Rt: Abort + AllocGlobal> Case<Rt> for EachCommand {
+    fn on<R: RingBuffer<i64> + Drop>(&self, rt: &Rt, mut ring: R) -> Result<(), AllocError> {
         assert_eq!(rt; apply(&mut ring, Command::Push(1)), Ok(Reply::Pushed(None)));
         let extension = vec![in rt.alloc(); 2, 3, 4]?;
         assert_eq!(rt;
@@ -243,17 +219,13 @@ impl Case for EachCommand {
 
 #[test]
 fn a_command_does_what_it_names(rt: HostRuntime) -> Result<(), AllocError> {
-    on_each::<8>(&rt, &EachCommand)
+    Rings::<8>::each(&rt, &EachCommand)
 }
 
 struct JoinedRuns;
 
-impl Case for JoinedRuns {
-    fn on<R: RingBuffer<i64> + Drop>(
-        &self,
-        rt: &(impl Abort + AllocGlobal),
-        mut ring: R,
-    ) -> Result<(), AllocError> {
+impl<Rt: Abort + AllocGlobal> Case<Rt> for JoinedRuns {
+    fn on<R: RingBuffer<i64> + Drop>(&self, rt: &Rt, mut ring: R) -> Result<(), AllocError> {
         runs_join::<i64>();
         for (command, reply) in every_command(rt.alloc())?.into_iter().zip(REPLIES_OF_TWO) {
             assert_run_into(rt, &mut ring, vec![in rt.alloc(); command]?, &[reply])?;
@@ -265,5 +237,5 @@ impl Case for JoinedRuns {
 
 #[test]
 fn runs_join_to_one(rt: HostRuntime) -> Result<(), AllocError> {
-    on_fixed::<2>(&rt, &JoinedRuns)
+    Rings::<2>::fixed(&rt, &JoinedRuns)
 }

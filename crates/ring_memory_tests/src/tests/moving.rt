@@ -1,0 +1,49 @@
+//! Moves of one ring's items onto another.
+
+use super::{assert_holds, push_all};
+use ring_test_support::drought::Drought;
+use ring_test_support::rings::{Case, Rings};
+use ringbuffer::{
+    AllocRingBuffer, ConstGenericRingBuffer, GrowableAllocRingBuffer, RingBuffer, move_all,
+};
+use std::alloc::AllocError;
+use std::process::Abort;
+
+/// A ring that held 1 and 2 holds these items after a move of 3, 4 and 5 onto it.
+struct Moved(&'static [i64]);
+
+impl<Rt: Abort> Case<Rt> for Moved {
+    fn on<R: RingBuffer<i64> + Drop>(&self, rt: &Rt, mut ring: R) -> Result<(), AllocError> {
+        let mut from = ConstGenericRingBuffer::<i64, 3>::new();
+        push_all(rt, &mut ring, &[1, 2]);
+        push_all(rt, &mut from, &[3, 4, 5]);
+        assert!(rt; move_all(&mut ring, &mut from).is_ok());
+        assert_holds(rt, &ring, self.0);
+        assert_holds(rt, &from, &[]);
+        Ok(())
+    }
+}
+
+#[test]
+fn a_fixed_ring_keeps_the_last_of_both(rt: HostRuntime) -> Result<(), AllocError> {
+    Rings::<4>::fixed(&rt, &Moved(&[2, 3, 4, 5]))
+}
+
+#[test]
+fn a_growable_ring_keeps_both(rt: HostRuntime) -> Result<(), AllocError> {
+    Rings::<2>::growable(&rt, &Moved(&[1, 2, 3, 4, 5]))
+}
+
+#[test]
+fn a_refused_move_drops_one_and_leaves_the_rest(rt: HostRuntime) -> Result<(), AllocError> {
+    let mut to = GrowableAllocRingBuffer::<i64>::new(rt.alloc());
+    let mut from = AllocRingBuffer::new(rt.alloc(), 3)?;
+    push_all(&rt, &mut from, &[1, 2, 3]);
+    let drought = Drought::total(rt.alloc())?;
+    let moved = move_all(&mut to, &mut from);
+    drop(drought);
+    assert!(rt; moved.is_err());
+    assert_holds(&rt, &to, &[]);
+    assert_holds(&rt, &from, &[2, 3]);
+    Ok(())
+}

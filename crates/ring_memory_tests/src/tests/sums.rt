@@ -1,0 +1,18 @@
+//! A window whose ring is refused memory.
+
+use ring_test_support::drought::Drought;
+use ringbuffer::GrowableAllocRingBuffer;
+use std::alloc::AllocError;
+use window::WindowSum;
+
+#[test]
+fn a_refused_push_leaves_the_sum(rt: HostRuntime) -> Result<(), AllocError> {
+    let mut window = WindowSum::new(GrowableAllocRingBuffer::<i64>::new(rt.alloc()));
+    let drought = Drought::total(rt.alloc())?;
+    let answer = window.push(7);
+    drop(drought);
+    assert_eq!(rt; answer, Err(7));
+    assert_eq!(rt; window.sum(), 0);
+    assert_eq!(rt; window.len(), 0);
+    Ok(())
+}
