@@ -32,3 +32,7 @@ IsOffered Grow capacity = Unit {0}
 -- the words ask for a ring that the program has
 abbrev pub NamesRing : List (List ℕ) → Type 0
 NamesRing words = (a : Arguments) × AsksFor words a × IsOffered a.kind a.capacity
+
+-- the words ask for a ring on the heap of more items than any can have room for
+abbrev pub AsksTooMuch : List (List ℕ) → Type 0
+AsksTooMuch words = (a : Arguments) × AsksFor words a × (a.kind ≡ Heap) × (2 ^ 63 < a.capacity)

@@ -1,5 +1,5 @@
 -- How the program ends.
-use Rattle.std.specs.Prelude.{ℕ, ◌<◌}
+use Rattle.std.specs.Prelude.{◌≡◌, ℕ, ◌<◌, Result, MatchResult}
 use Rattle.ringrun.specs.declared.fault.Fault.{Fault}
 use Rattle.ringrun.specs.declared.fault.Fault.TheVariants.{NotACommand, BadArguments, NoMemory, InputOrOutput}
 
@@ -16,3 +16,7 @@ IsInScript (NotACommand line) = 0 < line
 IsInScript BadArguments = ⊥
 IsInScript NoMemory = Unit {0}
 IsInScript InputOrOutput = ⊥
+
+-- P where the program did its work or names a line: so where it got past its reading
+abbrev pub IfLinesRead : {T : Type 0} → Result T Fault → Type 0 → Type 0
+IfLinesRead result P = MatchResult result (λ _. P) (λ fault. status_of fault ≡ 1 → P)

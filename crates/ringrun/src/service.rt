@@ -1,18 +1,22 @@
 //! The program's work, over any reader and writers.
 
-ghost use Rattle.std.specs.Prelude.{◌≡◌, ◌≢◌, ◌<◌, ◌≤◌, ◌↔◌, IfErr, IsErrOf, OnOk, map, string_bytes};
-ghost use Rattle.std.specs.Io.KnownBytes.{Appends};
-ghost use Rattle.ringrun.specs.Arguments.{IsOffered, NamesRing};
-ghost use Rattle.ringrun.specs.Fault.{status_of};
+ghost use Rattle.std.specs.Prelude.{◌≡◌, ◌≢◌, ◌^◌, ◌<◌, ◌≤◌, ◌↔◌, IfErr, IsErrOf, OnOk, map, string_bytes};
+ghost use Rattle.std.specs.Io.KnownBytes.{Appends, IsAtEnd};
+ghost use Rattle.ringrun.specs.Arguments.{AsksTooMuch, IsOffered, NamesRing};
+ghost use Rattle.ringrun.specs.Fault.{IfLinesRead, status_of};
 
 use crate::arguments::{Arguments, Kind};
 use crate::fault::Fault;
+use crate::script::Script;
 use crate::{report, script};
 use ringbuffer::{
-    AllocRingBuffer, Command, ConstGenericRingBuffer, GrowableAllocRingBuffer, RingBuffer, run,
+    AllocRingBuffer, ConstGenericRingBuffer, GrowableAllocRingBuffer, RingBuffer, run,
 };
 use std::alloc::Global;
 use std::io::{Read, Write};
+
+// How many commands run at a time.
+const BATCH: usize = 1024;
 
 /// Does what `words`, the program's arguments after its name, ask for, and answers the status to end with.
 ///
@@ -29,7 +33,11 @@ pub fn serve<I: Read, O: Write, E: Write>(
     ensures statuses { result ≤ 4 }
     ensures arguments { (result ≡ 2) ↔ (¬ NamesRing (map string_bytes words.now)) }
     ensures unread { result ≡ 2 → input.new ≡ input.old }
+    ensures ring_first { AsksTooMuch (map string_bytes words.now)
+        → (result ≡ 3) × (input.new ≡ input.old) }
+    ensures whole_input { result < 2 → IsAtEnd (I.remaining input.new) }
     ensures unwritten { 0 < result → result < 4 → output.new ≡ output.old }
+    ensures written_last { (¬ IsAtEnd (I.remaining input.new)) → output.new ≡ output.old }
     ensures no_error { result ≡ 0 → errors.new ≡ errors.old }
 {
     match attempt(alloc, words, input, output) {
@@ -56,7 +64,11 @@ fn attempt<I: Read, O: Write>(
     ensures arguments { IsErrOf result Fault.BadArguments
         ↔ (¬ NamesRing (map string_bytes words.now)) }
     ensures unread { IsErrOf result Fault.BadArguments → input.new ≡ input.old }
+    ensures ring_first { AsksTooMuch (map string_bytes words.now)
+        → IsErrOf result Fault.NoMemory × (input.new ≡ input.old) }
+    ensures whole_input { IfLinesRead result (IsAtEnd (I.remaining input.new)) }
     ensures unwritten { IfErr result (λ fault. status_of fault < 4 → output.new ≡ output.old) }
+    ensures written_last { (¬ IsAtEnd (I.remaining input.new)) → output.new ≡ output.old }
 {
     let text = answer(alloc, words, input)?;
     print(text.as_str(), output)
@@ -67,6 +79,9 @@ fn answer<I: Read>(alloc: Global, words: &[String], input: &mut I) -> Result<Str
     ensures arguments { IsErrOf result Fault.BadArguments
         ↔ (¬ NamesRing (map string_bytes words.now)) }
     ensures unread { IsErrOf result Fault.BadArguments → input.new ≡ input.old }
+    ensures ring_first { AsksTooMuch (map string_bytes words.now)
+        → IsErrOf result Fault.NoMemory × (input.new ≡ input.old) }
+    ensures whole_input { IfLinesRead result (IsAtEnd (I.remaining input.new)) }
 {
     let Arguments { kind, capacity } = Arguments::parse(words)?;
     match kind {
@@ -79,6 +94,7 @@ fn answer<I: Read>(alloc: Global, words: &[String], input: &mut I) -> Result<Str
 fn answer_by_array<I: Read>(alloc: Global, capacity: usize, input: &mut I) -> Result<String, Fault>
     ensures arguments { IsErrOf result Fault.BadArguments ↔ (¬ IsOffered Kind.Array capacity) }
     ensures unread { IsErrOf result Fault.BadArguments → input.new ≡ input.old }
+    ensures whole_input { IfLinesRead result (IsAtEnd (I.remaining input.new)) }
 {
     match capacity {
         1 => answer_by(&mut ConstGenericRingBuffer::<i64, 1>::new(), alloc, input),
@@ -94,6 +110,9 @@ fn answer_by_array<I: Read>(alloc: Global, capacity: usize, input: &mut I) -> Re
 fn answer_by_heap<I: Read>(alloc: Global, capacity: usize, input: &mut I) -> Result<String, Fault>
     ensures arguments { IsErrOf result Fault.BadArguments ↔ (¬ IsOffered Kind.Heap capacity) }
     ensures unread { IsErrOf result Fault.BadArguments → input.new ≡ input.old }
+    ensures ring_first { 2 ^ 63 < capacity
+        → IsErrOf result Fault.NoMemory × (input.new ≡ input.old) }
+    ensures whole_input { IfLinesRead result (IsAtEnd (I.remaining input.new)) }
 {
     if capacity == 0 {
         return Err(Fault::BadArguments);
@@ -103,7 +122,8 @@ fn answer_by_heap<I: Read>(alloc: Global, capacity: usize, input: &mut I) -> Res
 }
 
 fn answer_by_grow<I: Read>(alloc: Global, capacity: usize, input: &mut I) -> Result<String, Fault>
-    ensures { IfErr result (λ fault. fault ≢ Fault.BadArguments) }
+    ensures faults { IfErr result (λ fault. fault ≢ Fault.BadArguments) }
+    ensures whole_input { IfLinesRead result (IsAtEnd (I.remaining input.new)) }
 {
     let mut ring = GrowableAllocRingBuffer::with_capacity(alloc, capacity)?;
     answer_by(&mut ring, alloc, input)
@@ -115,21 +135,43 @@ fn answer_by<R: RingBuffer<i64>, I: Read>(
     alloc: Global,
     input: &mut I,
 ) -> Result<String, Fault>
-    ensures { IfErr result (λ fault. fault ≢ Fault.BadArguments) }
+    ensures faults { IfErr result (λ fault. fault ≢ Fault.BadArguments) }
+    ensures whole_input { IfLinesRead result (IsAtEnd (I.remaining input.new)) }
 {
-    let commands = read_commands(alloc, input)?;
-    let replies = run(alloc, ring, commands)?;
-    Ok(report::text(alloc, replies.as_slice(), ring)?)
+    let script = read_script(alloc, input)?;
+    run_script(ring, alloc, &script)
 }
 
-fn read_commands<I: Read>(alloc: Global, input: &mut I) -> Result<Vec<Command<i64>>, Fault>
-    ensures { IfErr result (λ fault. fault ≢ Fault.BadArguments) }
+/// The text that this ring's answers to a script make. The script is run in batches, so that commands and replies take
+/// little memory.
+fn run_script<R: RingBuffer<i64>>(
+    ring: &mut R,
+    alloc: Global,
+    script: &Script,
+) -> Result<String, Fault>
+    ensures { IfErr result (λ fault. fault ≡ Fault.NoMemory) }
+{
+    let mut text = report::text_for(alloc, script.lines.len())?;
+    let mut items = script.items.as_slice();
+    for lines in script.lines.chunks(BATCH) {
+        let (commands, left) = script::commands(alloc, lines, items)?;
+        items = left;
+        let replies = run(alloc, ring, commands)?;
+        report::push_replies(&mut text, replies.as_slice())?;
+    }
+    report::push_items(&mut text, ring)?;
+    Ok(text)
+}
+
+fn read_script<I: Read>(alloc: Global, input: &mut I) -> Result<Script, Fault>
+    ensures faults { IfErr result (λ fault. fault ≢ Fault.BadArguments) }
+    ensures whole_input { IfLinesRead result (IsAtEnd (I.remaining input.new)) }
 {
     let mut bytes = Vec::new(alloc);
     if let Err(error) = input.read_to_end(&mut bytes) {
         return Err(Fault::from_error(&error, Fault::InputOrOutput));
     }
-    script::parse(alloc, bytes.as_slice())
+    Script::parse(alloc, bytes.as_slice())
 }
 
 fn print<O: Write>(text: &str, output: &mut O) -> Result<(), Fault>

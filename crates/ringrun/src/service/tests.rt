@@ -1,18 +1,22 @@
 //! Tests of `serve` over readers and writers in memory.
 
-mod drought;
 mod streams;
 
 use super::serve;
-use drought::Drought;
+use ring_test_support::drought::Drought;
 use std::alloc::{AllocError, Global};
 use std::io::ErrorKind;
+use std::process::Abort;
 use std::test::Fail;
 use streams::{Refusal, Sink, Source};
 
 const SCRIPT: &[u8] = b"push 5\npush 42\npush 1\ndequeue\n";
 
+/// What a ring of two answers to the script.
 const ANSWER: &str = "pushed\npushed\npushed over 5\ndequeued 42\nitems 1\n";
+
+/// What a ring of three answers to it, or one without a limit.
+const ANSWER_WITH_ROOM: &str = "pushed\npushed\npushed\ndequeued 5\nitems 42 1\n";
 
 const USAGE: &str = "usage: ringrun array|heap|grow CAPACITY\n";
 
@@ -24,6 +28,7 @@ const FAILED: &str = "ringrun: input or output failed\n";
 #[derive(Drop)]
 struct Outcome {
     status: u8,
+    is_unread: bool,
     output: Sink,
     errors: Sink,
 }
@@ -36,26 +41,32 @@ fn strings(alloc: Global, words: &[&str]) -> Result<Vec<String>, AllocError> {
     Ok(strings)
 }
 
+/// Takes no memory but what the program asks for.
+fn serve_words(
+    alloc: Global,
+    words: &[String],
+    mut input: Source<'_>,
+    mut output: Sink,
+    mut errors: Sink,
+) -> Outcome {
+    let status = serve(alloc, words, &mut input, &mut output, &mut errors);
+    Outcome {
+        status,
+        is_unread: input.is_unread(),
+        output,
+        errors,
+    }
+}
+
 fn run(
     alloc: Global,
     arguments: &[&str],
-    mut input: Source<'_>,
-    mut output: Sink,
+    input: Source<'_>,
+    output: Sink,
 ) -> Result<Outcome, AllocError> {
     let words = strings(alloc, arguments)?;
-    let mut errors = Sink::new(alloc)?;
-    let status = serve(
-        alloc,
-        words.as_slice(),
-        &mut input,
-        &mut output,
-        &mut errors,
-    );
-    Ok(Outcome {
-        status,
-        output,
-        errors,
-    })
+    let errors = Sink::new(alloc)?;
+    Ok(serve_words(alloc, words.as_slice(), input, output, errors))
 }
 
 fn run_script(alloc: Global, capacity: &str, script: &[u8]) -> Result<Outcome, AllocError> {
@@ -78,7 +89,7 @@ fn repeated(alloc: Global, line: &[u8], count: usize) -> Result<Vec<u8>, AllocEr
 #[test]
 fn prints_what_the_commands_answer(rt: HostRuntime) -> Result<(), Fail> {
     let eleven = b"extend 1 2 3 4 5 6 7 8 9 10 11";
-    let cases: [(&str, &[u8], &str); 23] = [
+    let cases: [(&str, &[u8], &str); 24] = [
         ("2", SCRIPT, ANSWER),
         ("02", SCRIPT, ANSWER),
         ("2", b"", "items\n"),
@@ -131,6 +142,11 @@ fn prints_what_the_commands_answer(rt: HostRuntime) -> Result<(), Fail> {
             b"push +00000000000000000000000000000001\n",
             "pushed\nitems 1\n",
         ),
+        (
+            "2",
+            b"extend -0000000000000000000009223372036854775808 +0009223372036854775807",
+            "extended\nitems -9223372036854775808 9223372036854775807\n",
+        ),
         // what stands between words, and lines without words
         ("3", b"extend\x0c1\x0c\t 2\r3", "extended\nitems 1 2 3\n"),
         (
@@ -172,11 +188,7 @@ fn runs_on_each_kind_of_ring(rt: HostRuntime) -> Result<(), Fail> {
             b"extend 1 2 3\nskip\npush 4\n",
             "extended\nskipped\npushed\nitems 2 3 4\n",
         ),
-        (
-            ["grow", "2"],
-            SCRIPT,
-            "pushed\npushed\npushed\ndequeued 5\nitems 42 1\n",
-        ),
+        (["grow", "2"], SCRIPT, ANSWER_WITH_ROOM),
     ];
     for (words, script, want) in cases {
         let outcome = run(
@@ -193,28 +205,47 @@ fn runs_on_each_kind_of_ring(rt: HostRuntime) -> Result<(), Fail> {
 }
 
 #[test]
-fn has_no_memory_for_too_large_a_ring(rt: HostRuntime) -> Result<(), Fail> {
+fn makes_the_ring_before_it_reads(rt: HostRuntime) -> Result<(), Fail> {
     for words in [
         ["heap", "9223372036854775809"],
         ["heap", "18446744073709551615"],
         ["grow", "18446744073709551615"],
     ] {
-        let outcome = run(
-            rt.alloc(),
-            &words,
+        for input in [
             Source::of(SCRIPT),
-            Sink::new(rt.alloc())?,
-        )?;
-        assert_eq!(rt; outcome.status, 3);
+            Source::of(b"push x"),
+            Source::failing_between((b"", SCRIPT), ErrorKind::BrokenPipe),
+        ] {
+            let outcome = run(rt.alloc(), &words, input, Sink::new(rt.alloc())?)?;
+            assert_eq!(rt; outcome.status, 3);
+            assert!(rt; outcome.is_unread);
+            assert_eq!(rt; outcome.output.text()?, "");
+            assert_eq!(rt; outcome.errors.text()?, NO_MEMORY);
+        }
+    }
+    Ok(())
+}
+
+#[test]
+fn reads_to_the_end_before_it_names_a_line(rt: HostRuntime) -> Result<(), Fail> {
+    let scripts: [(&[u8], &[u8]); 3] = [
+        (b"push x\n", b""),
+        (b"push x\n", b"push 1"),
+        (b"\xff\n", b"skip\n"),
+    ];
+    for script in scripts {
+        let input = Source::failing_between(script, ErrorKind::BrokenPipe);
+        let outcome = run(rt.alloc(), &["array", "3"], input, Sink::new(rt.alloc())?)?;
+        assert_eq!(rt; outcome.status, 4);
         assert_eq!(rt; outcome.output.text()?, "");
-        assert_eq!(rt; outcome.errors.text()?, NO_MEMORY);
+        assert_eq!(rt; outcome.errors.text()?, FAILED);
     }
     Ok(())
 }
 
 #[test]
 fn names_the_first_line_that_is_no_command(rt: HostRuntime) -> Result<(), Fail> {
-    let first: [&[u8]; 36] = [
+    let first: [&[u8]; 44] = [
         b"push",
         b"push 1 2",
         b"push x",
@@ -243,6 +274,14 @@ fn names_the_first_line_that_is_no_command(rt: HostRuntime) -> Result<(), Fail> 
         b"extend 1 x",
         b"extend 1 2 9223372036854775808",
         b"extend 1,2",
+        b"extend 1+2",
+        b"extend 1-2",
+        b"extend 1 -",
+        b"push 5x",
+        b"push -x",
+        b"push 92233720368547758070",
+        b"push 18446744073709551617",
+        b"push -18446744073709551617",
         b"items",
         b"\xff",
         b"skip \xff",
@@ -314,6 +353,7 @@ fn refuses_arguments_before_it_reads(rt: HostRuntime) -> Result<(), Fail> {
         let input = Source::failing_between((b"", SCRIPT), ErrorKind::BrokenPipe);
         let outcome = run(rt.alloc(), arguments, input, Sink::new(rt.alloc())?)?;
         assert_eq!(rt; outcome.status, 2, "by {arguments:?}");
+        assert!(rt; outcome.is_unread);
         assert_eq!(rt; outcome.output.text()?, "");
         assert_eq!(rt; outcome.errors.text()?, USAGE);
     }
@@ -323,33 +363,47 @@ fn refuses_arguments_before_it_reads(rt: HostRuntime) -> Result<(), Fail> {
 #[test]
 fn reads_what_comes_in_pieces(rt: HostRuntime) -> Result<(), Fail> {
     let input = Source::in_pieces(SCRIPT, 1);
-    let outcome = run(rt.alloc(), &["array", "2"], input, Sink::new(rt.alloc())?)?;
+    let outcome = run(rt.alloc(), &["array", "3"], input, Sink::new(rt.alloc())?)?;
     assert_eq!(rt; outcome.status, 0);
-    assert_eq!(rt; outcome.output.text()?, ANSWER);
+    assert_eq!(rt; outcome.output.text()?, ANSWER_WITH_ROOM);
     for k in 0..=SCRIPT.len() {
         let input = Source::failing_between(SCRIPT.split_at(k), ErrorKind::Interrupted);
-        let outcome = run(rt.alloc(), &["array", "2"], input, Sink::new(rt.alloc())?)?;
+        let outcome = run(rt.alloc(), &["array", "3"], input, Sink::new(rt.alloc())?)?;
         assert_eq!(rt; outcome.status, 0, "interrupted after {k}");
-        assert_eq!(rt; outcome.output.text()?, ANSWER);
+        assert_eq!(rt; outcome.output.text()?, ANSWER_WITH_ROOM);
     }
     Ok(())
 }
 
+// More lines than fit in a half word, or in any batch.
 #[test]
 fn reads_a_long_script(rt: HostRuntime) -> Result<(), Fail> {
-    let mut script = repeated(rt.alloc(), b"push 7\n", 3000)?;
+    let mut script = repeated(rt.alloc(), b"push 7\n", 70_000)?;
     let mut answer = repeated(rt.alloc(), b"pushed\n", 1)?;
-    answer.extend_from_slice(repeated(rt.alloc(), b"pushed over 7\n", 2999)?.as_slice())?;
+    answer.extend_from_slice(repeated(rt.alloc(), b"pushed over 7\n", 69_999)?.as_slice())?;
     answer.extend_from_slice(b"items 7\n")?;
     let outcome = run_script(rt.alloc(), "1", script.as_slice())?;
     assert_eq!(rt; outcome.status, 0);
     assert!(rt; outcome.output.text()?.as_bytes() == answer.as_slice());
     script.extend_from_slice(b"push")?;
     let outcome = run_script(rt.alloc(), "1", script.as_slice())?;
+    assert_eq!(rt; outcome.status, 1);
     assert_eq!(rt;
         outcome.errors.text()?,
-        "ringrun: line 3001: not a command\n"
+        "ringrun: line 70001: not a command\n"
     );
+    Ok(())
+}
+
+#[test]
+fn keeps_apart_the_items_of_many_extensions(rt: HostRuntime) -> Result<(), Fail> {
+    let mut script = repeated(rt.alloc(), b"extend 1 2\nskip\n", 5000)?;
+    script.extend_from_slice(b"extend 3\nextend\nextend 4 5\n")?;
+    let mut answer = repeated(rt.alloc(), b"extended\nskipped\n", 5000)?;
+    answer.extend_from_slice(b"extended\nextended\nextended\nitems 3 4 5\n")?;
+    let outcome = run_script(rt.alloc(), "3", script.as_slice())?;
+    assert_eq!(rt; outcome.status, 0);
+    assert!(rt; outcome.output.text()?.as_bytes() == answer.as_slice());
     Ok(())
 }
 
@@ -357,7 +411,7 @@ fn reads_a_long_script(rt: HostRuntime) -> Result<(), Fail> {
 fn says_where_reading_failed(rt: HostRuntime) -> Result<(), Fail> {
     for k in 0..=SCRIPT.len() {
         let input = Source::failing_between(SCRIPT.split_at(k), ErrorKind::BrokenPipe);
-        let outcome = run(rt.alloc(), &["array", "2"], input, Sink::new(rt.alloc())?)?;
+        let outcome = run(rt.alloc(), &["array", "3"], input, Sink::new(rt.alloc())?)?;
         assert_eq!(rt; outcome.status, 4, "after {k}");
         assert_eq!(rt; outcome.output.text()?, "");
         assert_eq!(rt; outcome.errors.text()?, FAILED);
@@ -372,21 +426,22 @@ fn says_where_writing_failed(rt: HostRuntime) -> Result<(), Fail> {
     let cases = [
         (usize::MAX, broken, 2),
         (usize::MAX, Refusal::TakesNothing, 1),
-        (1, broken, ANSWER.len().saturating_add(1)),
-        (1, Refusal::TakesNothing, ANSWER.len()),
+        (1, broken, ANSWER_WITH_ROOM.len().saturating_add(1)),
+        (1, Refusal::TakesNothing, ANSWER_WITH_ROOM.len()),
     ];
     for (most, refusal, calls) in cases {
         for call in 1..=calls {
             let output = Sink::in_pieces(rt.alloc(), most)?.refusing(call, refusal);
-            let outcome = run(rt.alloc(), &["array", "2"], Source::of(SCRIPT), output)?;
+            let outcome = run(rt.alloc(), &["array", "3"], Source::of(SCRIPT), output)?;
             assert_eq!(rt; outcome.status, 4, "at call {call}");
-            assert!(rt; ANSWER.starts_with(outcome.output.text()?));
+            assert_eq!(rt; outcome.output.text()?, "");
+            assert!(rt; ANSWER_WITH_ROOM.starts_with(outcome.output.unflushed()?));
             assert_eq!(rt; outcome.errors.text()?, FAILED);
         }
         let output = Sink::in_pieces(rt.alloc(), most)?.refusing(calls.saturating_add(1), refusal);
-        let outcome = run(rt.alloc(), &["array", "2"], Source::of(SCRIPT), output)?;
+        let outcome = run(rt.alloc(), &["array", "3"], Source::of(SCRIPT), output)?;
         assert_eq!(rt; outcome.status, 0);
-        assert_eq!(rt; outcome.output.text()?, ANSWER);
+        assert_eq!(rt; outcome.output.text()?, ANSWER_WITH_ROOM);
         assert_eq!(rt; outcome.errors.text()?, "");
     }
     Ok(())
@@ -395,11 +450,11 @@ fn says_where_writing_failed(rt: HostRuntime) -> Result<(), Fail> {
 #[test]
 fn writes_on_after_an_interruption(rt: HostRuntime) -> Result<(), Fail> {
     let interruption = Refusal::Fails(ErrorKind::Interrupted);
-    for call in 1..=ANSWER.len() {
+    for call in 1..=ANSWER_WITH_ROOM.len() {
         let output = Sink::in_pieces(rt.alloc(), 1)?.refusing(call, interruption);
-        let outcome = run(rt.alloc(), &["array", "2"], Source::of(SCRIPT), output)?;
+        let outcome = run(rt.alloc(), &["array", "3"], Source::of(SCRIPT), output)?;
         assert_eq!(rt; outcome.status, 0, "interrupted at call {call}");
-        assert_eq!(rt; outcome.output.text()?, ANSWER);
+        assert_eq!(rt; outcome.output.text()?, ANSWER_WITH_ROOM);
     }
     Ok(())
 }
@@ -414,57 +469,126 @@ fn keeps_the_status_where_no_error_is_taken(rt: HostRuntime) -> Result<(), Fail>
     for (capacity, script, fault, want) in cases {
         for refusal in [Refusal::Fails(ErrorKind::BrokenPipe), Refusal::TakesNothing] {
             let words = strings(rt.alloc(), &["array", capacity])?;
-            let mut input = match fault {
+            let input = match fault {
                 Some(kind) => Source::failing_between((b"", script), kind),
                 None => Source::of(script),
             };
-            let mut output = Sink::new(rt.alloc())?;
-            let mut errors = Sink::new(rt.alloc())?.refusing(1, refusal);
-            let status = serve(
-                rt.alloc(),
-                words.as_slice(),
-                &mut input,
-                &mut output,
-                &mut errors,
-            );
-            assert_eq!(rt; status, want);
-            assert_eq!(rt; output.text()?, "");
+            let (output, errors) = (Sink::new(rt.alloc())?, Sink::new(rt.alloc())?);
+            let errors = errors.refusing(1, refusal);
+            let outcome = serve_words(rt.alloc(), words.as_slice(), input, output, errors);
+            assert_eq!(rt; outcome.status, want);
+            assert_eq!(rt; outcome.output.text()?, "");
         }
     }
     Ok(())
 }
 
-// The spared block grows from step to step until the run has all that it asks for, so its requests are refused one after
-// the other: for the script, the commands and the replies.
+/// How a run ends that is refused no memory.
+#[derive(Clone, Copy)]
+struct Ending<'a> {
+    status: u8,
+    output: &'a [u8],
+    errors: &'a str,
+}
+
+/// How often runs were refused memory before one ended so. All that a run can have is one block, of no bytes at first, which
+/// grows by a step. Where the step is below any request, they are refused one after the other; a drought takes a while.
+fn refusals(
+    rt: &(impl Abort + AllocGlobal),
+    arguments: &[&str],
+    script: &[u8],
+    step: usize,
+    ending: Ending<'_>,
+) -> Result<usize, Fail> {
+    let words = strings(rt.alloc(), arguments)?;
+    for refused in 0..400 {
+        let (output, errors) = (Sink::new(rt.alloc())?, Sink::new(rt.alloc())?);
+        let input = Source::of(script);
+        let drought = Drought::but_for(rt.alloc(), step.saturating_mul(refused))?;
+        let outcome = serve_words(rt.alloc(), words.as_slice(), input, output, errors);
+        drop(drought);
+        if outcome.status == ending.status {
+            assert!(rt; outcome.output.text()?.as_bytes() == ending.output);
+            assert_eq!(rt; outcome.errors.text()?, ending.errors);
+            return Ok(refused);
+        }
+        assert_eq!(rt; outcome.status, 3);
+        assert_eq!(rt; outcome.output.text()?, "");
+        assert_eq!(rt; outcome.errors.text()?, NO_MEMORY);
+    }
+    Err(Fail::new("refused at each step"))
+}
+
 #[test]
 fn says_where_memory_was_refused(rt: HostRuntime) -> Result<(), Fail> {
-    let words = strings(rt.alloc(), &["array", "2"])?;
     let script = repeated(rt.alloc(), b"dequeue\n", 40)?;
     let mut answer = repeated(rt.alloc(), b"dequeued none\n", 40)?;
     answer.extend_from_slice(b"items\n")?;
-    let mut refused = 0u8;
-    for step in 0..100 {
-        let mut input = Source::of(script.as_slice());
-        let (mut output, mut errors) = (Sink::new(rt.alloc())?, Sink::new(rt.alloc())?);
-        let drought = Drought::but_for(rt.alloc(), step * 128)?;
-        let status = serve(
-            rt.alloc(),
-            words.as_slice(),
-            &mut input,
-            &mut output,
-            &mut errors,
-        );
+    let ending = Ending {
+        status: 0,
+        output: answer.as_slice(),
+        errors: "",
+    };
+    assert!(rt; refusals(&rt, &["array", "2"], script.as_slice(), 128, ending)? > 0);
+    Ok(())
+}
+
+// The two scripts are answered alike, and differ in the memory that the items of an extension take.
+#[test]
+fn is_refused_an_extension(rt: HostRuntime) -> Result<(), Fail> {
+    let run = |script| {
+        let ending = Ending {
+            status: 0,
+            output: b"extended\nextended\ncleared\ndequeued none\nitems\n",
+            errors: "",
+        };
+        refusals(&rt, &["heap", "2"], script, 32, ending)
+    };
+    let with_items = run(b"extend 1 2 3\n\nextend\nclear\ndequeue\n")?;
+    let without_items = run(b"extend\n\nextend\nclear\ndequeue\n")?;
+    assert!(rt; with_items > without_items);
+    Ok(())
+}
+
+// There is room for reading, and none for the ring.
+#[test]
+fn is_refused_a_ring(rt: HostRuntime) -> Result<(), Fail> {
+    for arguments in [["heap", "100000"], ["grow", "100000"]] {
+        let words = strings(rt.alloc(), &arguments)?;
+        let (output, errors) = (Sink::new(rt.alloc())?, Sink::new(rt.alloc())?);
+        let input = Source::failing_between((b"", SCRIPT), ErrorKind::BrokenPipe);
+        let drought = Drought::but_for(rt.alloc(), 1 << 13)?;
+        let outcome = serve_words(rt.alloc(), words.as_slice(), input, output, errors);
         drop(drought);
-        if status == 0 {
-            assert!(rt; output.text()?.as_bytes() == answer.as_slice());
-            assert_eq!(rt; errors.text()?, "");
-            assert!(rt; refused > 0);
-            return Ok(());
-        }
-        assert_eq!(rt; status, 3);
-        assert_eq!(rt; output.text()?, "");
-        assert_eq!(rt; errors.text()?, NO_MEMORY);
-        refused = refused.saturating_add(1);
+        assert_eq!(rt; outcome.status, 3);
+        assert!(rt; outcome.is_unread);
+        assert_eq!(rt; outcome.output.text()?, "");
+        assert_eq!(rt; outcome.errors.text()?, NO_MEMORY);
     }
-    Err(Fail::new("refused at each step"))
+    Ok(())
+}
+
+// A line that is no command is named with less memory than a run of the lines before it takes.
+#[test]
+fn reads_all_lines_before_it_runs_one(rt: HostRuntime) -> Result<(), Fail> {
+    let mut script = repeated(rt.alloc(), b"push 7\n", 40)?;
+    let mut answer = repeated(rt.alloc(), b"pushed\n", 40)?;
+    answer.extend_from_slice(b"items")?;
+    answer.extend_from_slice(repeated(rt.alloc(), b" 7", 40)?.as_slice())?;
+    answer.extend_from_slice(b"\n")?;
+    let ending = Ending {
+        status: 0,
+        output: answer.as_slice(),
+        errors: "",
+    };
+    let run = refusals(&rt, &["grow", "0"], script.as_slice(), 256, ending)?;
+    script.extend_from_slice(b"x")?;
+    let ending = Ending {
+        status: 1,
+        output: b"",
+        errors: "ringrun: line 41: not a command\n",
+    };
+    let named = refusals(&rt, &["grow", "0"], script.as_slice(), 256, ending)?;
+    assert!(rt; named < run);
+    Ok(())
 }

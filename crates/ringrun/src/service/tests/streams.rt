@@ -12,6 +12,7 @@ pub struct Source<'a> {
     fault: Option<ErrorKind>,
     rest: &'a [u8],
     most: usize,
+    calls: usize,
 }
 
 impl<'a> Source<'a> {
@@ -27,6 +28,7 @@ impl<'a> Source<'a> {
             fault: None,
             rest: &[],
             most,
+            calls: 0,
         }
     }
 
@@ -37,12 +39,19 @@ impl<'a> Source<'a> {
             fault: Some(fault),
             rest,
             most: usize::MAX,
+            calls: 0,
         }
+    }
+
+    /// Whether no read was made.
+    pub fn is_unread(&self) -> bool {
+        self.calls == 0
     }
 }
 
 impl Read for Source<'_> {
     fn read(&mut self, buf: &mut [u8]) -> io::Result<usize> {
+        self.calls = self.calls.saturating_add(1);
         if self.first.is_empty() {
             if let Some(kind) = self.fault.take() {
                 return Err(io::Error::from(kind));
@@ -65,10 +74,12 @@ pub enum Refusal {
     TakesNothing,
 }
 
-/// Keeps what is written, in memory that it was made with. One of its calls may be refused.
+/// Keeps what is written, in memory that it was made with, and apart from it what a flush let out. One of its calls may
+/// be refused.
 #[derive(Drop)]
 pub struct Sink {
-    taken: Vec<u8>,
+    flushed: Vec<u8>,
+    unflushed: Vec<u8>,
     most: usize,
     calls: usize,
     refused_call: usize,
@@ -84,7 +95,8 @@ impl Sink {
     /// Takes at most so many bytes of each call.
     pub fn in_pieces(alloc: Global, most: usize) -> Result<Sink, AllocError> {
         Ok(Sink {
-            taken: Vec::with_capacity(alloc, 1024)?,
+            flushed: Vec::with_capacity(alloc, 1024)?,
+            unflushed: Vec::with_capacity(alloc, 1024)?,
             most,
             calls: 0,
             refused_call: 0,
@@ -95,13 +107,15 @@ impl Sink {
     /// Refuses this call, counted from 1. A flush counts as a call.
     pub fn refusing(self, refused_call: usize, refusal: Refusal) -> Sink {
         let Sink {
-            taken,
+            flushed,
+            unflushed,
             most,
             calls,
             ..
         } = self;
         Sink {
-            taken,
+            flushed,
+            unflushed,
             most,
             calls,
             refused_call,
@@ -109,9 +123,14 @@ impl Sink {
         }
     }
 
-    /// What was written.
+    /// What was written and let out by a flush.
     pub fn text(&self) -> Result<&str, Utf8Error> {
-        str::from_utf8(self.taken.as_slice())
+        str::from_utf8(self.flushed.as_slice())
+    }
+
+    /// What was written and not let out.
+    pub fn unflushed(&self) -> Result<&str, Utf8Error> {
+        str::from_utf8(self.unflushed.as_slice())
     }
 
     // Counts a call, and answers how it is refused, if it is.
@@ -133,14 +152,17 @@ impl Write for Sink {
             None => {}
         }
         let count = self.most.min(buf.len());
-        self.taken.extend_from_slice(&buf[..count])?;
+        self.unflushed.extend_from_slice(&buf[..count])?;
         Ok(count)
     }
 
     fn flush(&mut self) -> io::Result<()> {
         match self.next_refusal() {
-            Some(Refusal::Fails(kind)) => Err(io::Error::from(kind)),
-            _ => Ok(()),
+            Some(Refusal::Fails(kind)) => return Err(io::Error::from(kind)),
+            _ => {}
         }
+        self.flushed.extend_from_slice(self.unflushed.as_slice())?;
+        self.unflushed.clear();
+        Ok(())
     }
 }
