@@ -1,13 +1,15 @@
 // The same work on Boost's circular_buffer.
+#include <algorithm>
 #include <boost/circular_buffer.hpp>
 #include <cstddef>
 #include <cstdint>
+#include <vector>
 
 using Ring = boost::circular_buffer<std::uint64_t>;
 
 namespace {
 
-enum Work : std::uint32_t { Push, PushCall, PushDequeue, Extend, Walk, Get, Fill, Clone, Refill, Slide };
+enum Work : std::uint32_t { Push, PushCall, PushDequeue, Extend, Walk, Get, Fill, Clone, Refill, Slide, Reextend, Slices, ToVec, Equal, Contains, FromSlice };
 
 constexpr std::uint64_t extension = 4096;
 
@@ -53,6 +55,28 @@ constexpr std::uint64_t extension = 4096;
     for (std::size_t number = 0; number < capacity; ++number) ring.push_back(round + number);
 }
 
+[[gnu::noinline]] std::uint64_t sum_slices(const Ring &ring, std::uint64_t sum) {
+    for (const auto &part : {ring.array_one(), ring.array_two()})
+        for (std::size_t index = 0; index < part.second; ++index) sum += part.first[index];
+    return sum;
+}
+
+[[gnu::noinline]] std::uint64_t to_vector(const Ring &ring, std::uint64_t sum) {
+    const std::vector<std::uint64_t> items(ring.begin(), ring.end());
+    return sum + items[0];
+}
+
+[[gnu::noinline]] std::uint64_t equal(const Ring &ring, const Ring &other, std::uint64_t sum) { return sum + (ring == other); }
+
+[[gnu::noinline]] std::uint64_t contains(const Ring &ring, std::uint64_t item, std::uint64_t sum) {
+    return sum + (std::find(ring.begin(), ring.end(), item) != ring.end());
+}
+
+[[gnu::noinline]] std::uint64_t of_slice(const std::vector<std::uint64_t> &items, std::uint64_t sum) {
+    const Ring copy(items.begin(), items.end());
+    return sum + copy[sum % copy.size()];
+}
+
 using Samples = boost::circular_buffer<std::int64_t>;
 
 [[gnu::noinline]] __int128 slide(Samples &ring, __int128 &sum, std::size_t items) {
@@ -91,6 +115,23 @@ extern "C" std::uint64_t boost_side(std::uint32_t work, std::size_t capacity, st
         case Get: for (std::size_t i = 0; i < rounds; ++i) sum = get(ring, capacity, sum); break;
         case Fill: for (std::size_t i = 0; i < rounds; ++i) fill(ring, i); break;
         case Clone: for (std::size_t i = 0; i < rounds; ++i) sum = clone(ring, sum); break;
+        case Slices: for (std::size_t i = 0; i < rounds; ++i) sum = sum_slices(ring, sum); break;
+        case ToVec: for (std::size_t i = 0; i < rounds; ++i) sum = to_vector(ring, sum); break;
+        case Equal: {
+            const Ring other(ring);
+            for (std::size_t i = 0; i < rounds; ++i) sum = equal(ring, other, sum);
+            break;
+        }
+        case Contains: {
+            const std::uint64_t newest = ring.back();
+            for (std::size_t i = 0; i < rounds; ++i) sum = contains(ring, newest, sum);
+            break;
+        }
+        case FromSlice: {
+            const std::vector<std::uint64_t> source(ring.begin(), ring.end());
+            for (std::size_t i = 0; i < rounds; ++i) sum = of_slice(source, sum);
+            break;
+        }
         default: for (std::size_t i = 0; i < rounds; ++i) refill(ring, capacity, i); break;
     }
     return ring.empty() ? sum : sum + ring.back();

@@ -79,6 +79,40 @@ fn refill(ring: &mut VecDeque<u64>, capacity: usize, round: u64) {
     }
 }
 
+#[inline(never)]
+fn reextend(ring: &mut VecDeque<u64>, capacity: usize) {
+    ring.clear();
+    ring.extend(0..capacity as u64);
+}
+
+#[inline(never)]
+fn sum_slices(ring: &VecDeque<u64>, sum: u64) -> u64 {
+    let (first, second) = ring.as_slices();
+    first.iter().chain(second).fold(sum, |sum, item| sum.wrapping_add(*item))
+}
+
+#[inline(never)]
+fn to_vec(ring: &VecDeque<u64>, sum: u64) -> u64 {
+    let items: Vec<u64> = ring.iter().copied().collect();
+    items.first().map_or(0, |item| sum.wrapping_add(*item))
+}
+
+#[inline(never)]
+fn equal(ring: &VecDeque<u64>, other: &VecDeque<u64>, sum: u64) -> u64 {
+    sum.wrapping_add(u64::from(ring == other))
+}
+
+#[inline(never)]
+fn contains(ring: &VecDeque<u64>, item: u64, sum: u64) -> u64 {
+    sum.wrapping_add(u64::from(ring.contains(&item)))
+}
+
+#[inline(never)]
+fn of_slice(items: &[u64], sum: u64) -> u64 {
+    let copy: VecDeque<u64> = items.iter().copied().collect();
+    copy.get(sum as usize % copy.len()).map_or(0, |item| sum.wrapping_add(*item))
+}
+
 /// A sum that is kept by hand.
 struct Window {
     ring: VecDeque<i64>,
@@ -146,6 +180,21 @@ pub fn deque(work: Work, capacity: usize, items: usize) -> u64 {
         Work::Fill => (0..rounds).for_each(|round| fill(&mut ring, capacity, round as u64)),
         Work::Refill => (0..rounds).for_each(|round| refill(&mut ring, capacity, round as u64)),
         Work::Slide => return slide(capacity, items),
+        Work::Reextend => (0..rounds).for_each(|_| reextend(&mut ring, capacity)),
+        Work::Slices => (0..rounds).for_each(|_| sum = sum_slices(&ring, sum)),
+        Work::ToVec => (0..rounds).for_each(|_| sum = to_vec(&ring, sum)),
+        Work::Equal => {
+            let other = ring.clone();
+            (0..rounds).for_each(|_| sum = equal(&ring, &other, sum));
+        }
+        Work::Contains => {
+            let newest = ring[capacity - 1];
+            (0..rounds).for_each(|_| sum = contains(&ring, newest, sum));
+        }
+        Work::FromSlice => {
+            let source: Vec<u64> = ring.iter().copied().collect();
+            (0..rounds).for_each(|_| sum = of_slice(&source, sum));
+        }
     }
     sum.wrapping_add(ring.back().copied().unwrap_or(0))
 }

@@ -74,6 +74,16 @@ fn refill(slots: &mut [u64], round: u64) {
     }
 }
 
+#[inline(never)]
+fn equal(slots: &[u64], other: &[u64], sum: u64) -> u64 {
+    sum.wrapping_add(u64::from(slots == other))
+}
+
+#[inline(never)]
+fn contains(slots: &[u64], item: u64, sum: u64) -> u64 {
+    sum.wrapping_add(u64::from(slots.contains(&item)))
+}
+
 /// Takes the sample's place for the next, and the one for the other in the sum.
 #[inline(never)]
 fn slide(ring: &mut Masked, sum: &mut i128, items: usize) -> i128 {
@@ -98,12 +108,24 @@ pub fn slices(work: Work, capacity: usize, items: usize) -> u64 {
         Work::PushCall => (0..items).for_each(|number| push_call(&mut ring, number as u64)),
         Work::PushDequeue => sum = push_dequeue(&mut ring, items),
         Work::Extend => (0..items / EXTENSION as usize).for_each(|_| extend(&mut ring)),
-        Work::Walk | Work::Get => {
+        Work::Walk | Work::Get | Work::Slices => {
             (0..rounds).for_each(|_| sum = walk(&ring.slots[..capacity], sum));
         }
-        Work::Clone => (0..rounds).for_each(|_| sum = clone(&ring.slots[..capacity], sum)),
+        Work::Clone | Work::ToVec | Work::FromSlice => {
+            (0..rounds).for_each(|_| sum = clone(&ring.slots[..capacity], sum));
+        }
+        Work::Equal => {
+            let other = ring.slots[..capacity].to_vec();
+            (0..rounds).for_each(|_| sum = equal(&ring.slots[..capacity], &other, sum));
+        }
+        Work::Contains => {
+            let newest = capacity as u64 - 1;
+            (0..rounds).for_each(|_| sum = contains(&ring.slots[..capacity], newest, sum));
+        }
         Work::Fill => (0..rounds).for_each(|round| fill(&mut ring.slots[..capacity], round as u64)),
-        Work::Refill => (0..rounds).for_each(|round| refill(&mut ring.slots[..capacity], round as u64)),
+        Work::Refill | Work::Reextend => {
+            (0..rounds).for_each(|round| refill(&mut ring.slots[..capacity], round as u64));
+        }
         Work::Slide => sum = slide(&mut ring, &mut 0, items) as u64,
     }
     sum.wrapping_add(ring.read(0))

@@ -87,6 +87,33 @@ fn refill<R: RingBuffer<u64>>(ring: &mut R, capacity: usize, round: u64) {
     }
 }
 
+#[inline(never)]
+fn reextend<R: RingBuffer<u64>>(ring: &mut R, capacity: usize) {
+    ring.clear();
+    ring.extend(0..capacity as u64);
+}
+
+#[inline(never)]
+fn to_vec<R: RingBuffer<u64>>(ring: &R, sum: u64) -> u64 {
+    ring.to_vec().first().map_or(0, |item| sum.wrapping_add(*item))
+}
+
+#[inline(never)]
+fn equal<R: RingBuffer<u64> + PartialEq>(ring: &R, other: &R, sum: u64) -> u64 {
+    sum.wrapping_add(u64::from(ring == other))
+}
+
+#[inline(never)]
+fn contains<R: RingBuffer<u64>>(ring: &R, item: u64, sum: u64) -> u64 {
+    sum.wrapping_add(u64::from(ring.contains(&item)))
+}
+
+#[inline(never)]
+fn of_slice<R: RingBuffer<u64> + for<'a> From<&'a [u64]>>(items: &[u64], sum: u64) -> u64 {
+    let copy = R::from(items);
+    copy.get(sum as usize).map_or(0, |item| sum.wrapping_add(*item))
+}
+
 /// A sum that is kept by hand.
 struct Window<R> {
     ring: R,
@@ -125,7 +152,12 @@ fn slide_on_array(capacity: usize, items: usize) -> u64 {
     }
 }
 
-fn on_fixed<R: RingBuffer<u64> + Clone>(mut ring: R, work: Work, capacity: usize, items: usize) -> u64 {
+/// What the work asks of a ring besides the crate's trait.
+trait Own: RingBuffer<u64> + Clone + PartialEq + for<'a> From<&'a [u64]> {}
+
+impl<R: RingBuffer<u64> + Clone + PartialEq + for<'a> From<&'a [u64]>> Own for R {}
+
+fn on_fixed<R: Own>(mut ring: R, work: Work, capacity: usize, items: usize) -> u64 {
     push(&mut ring, capacity);
     match work {
         Work::Push => push(&mut ring, items),
@@ -136,7 +168,7 @@ fn on_fixed<R: RingBuffer<u64> + Clone>(mut ring: R, work: Work, capacity: usize
     outcome(&ring)
 }
 
-fn on_full<R: RingBuffer<u64> + Clone>(mut ring: R, work: Work, capacity: usize, items: usize) -> u64 {
+fn on_full<R: Own>(mut ring: R, work: Work, capacity: usize, items: usize) -> u64 {
     let rounds = items / capacity;
     let mut sum = 0u64;
     match work {
@@ -148,6 +180,22 @@ fn on_full<R: RingBuffer<u64> + Clone>(mut ring: R, work: Work, capacity: usize,
         Work::Get => (0..rounds).for_each(|_| sum = get(&ring, capacity, sum)),
         Work::Clone => (0..rounds).for_each(|_| sum = clone(&ring, sum)),
         Work::Fill => (0..rounds).for_each(|round| fill(&mut ring, round as u64)),
+        Work::Reextend => (0..rounds).for_each(|_| reextend(&mut ring, capacity)),
+        // It has no slices.
+        Work::Slices => (0..rounds).for_each(|_| sum = walk(&ring, sum)),
+        Work::ToVec => (0..rounds).for_each(|_| sum = to_vec(&ring, sum)),
+        Work::Equal => {
+            let other = ring.clone();
+            (0..rounds).for_each(|_| sum = equal(&ring, &other, sum));
+        }
+        Work::Contains => {
+            let newest = outcome(&ring);
+            (0..rounds).for_each(|_| sum = contains(&ring, newest, sum));
+        }
+        Work::FromSlice => {
+            let source = ring.to_vec();
+            (0..rounds).for_each(|_| sum = of_slice::<R>(&source, sum));
+        }
         _ => (0..rounds).for_each(|round| refill(&mut ring, capacity, round as u64)),
     }
     sum.wrapping_add(outcome(&ring))

@@ -18,10 +18,16 @@ pub enum Work {
     Clone,
     Refill,
     Slide,
+    Reextend,
+    Slices,
+    ToVec,
+    Equal,
+    Contains,
+    FromSlice,
 }
 
 impl Work {
-    pub const ALL: [Work; 10] = [
+    pub const ALL: [Work; 16] = [
         Work::Push,
         Work::PushCall,
         Work::PushDequeue,
@@ -32,6 +38,12 @@ impl Work {
         Work::Clone,
         Work::Refill,
         Work::Slide,
+        Work::Reextend,
+        Work::Slices,
+        Work::ToVec,
+        Work::Equal,
+        Work::Contains,
+        Work::FromSlice,
     ];
 
     pub fn name(self) -> &'static str {
@@ -46,6 +58,12 @@ impl Work {
             Work::Clone => "clone and drop",
             Work::Refill => "clear and refill",
             Work::Slide => "sliding sum",
+            Work::Reextend => "clear and extend",
+            Work::Slices => "sum by slices",
+            Work::ToVec => "to_vec",
+            Work::Equal => "==",
+            Work::Contains => "contains",
+            Work::FromSlice => "from a slice",
         }
     }
 }

@@ -1,6 +1,8 @@
-//! Five uses of ring buffers, each as a user would write it, and proved from the library's public contracts alone.
+//! Uses of ring buffers, each as a user would write it, and proved from the library's public contracts alone.
 #![tactic(auto)]
 
+pub mod events;
+pub mod last_two;
 pub mod pipe;
 pub mod samples;
 pub mod tail;

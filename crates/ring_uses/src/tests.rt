@@ -1,10 +1,14 @@
 //! Each use once, on input as it comes in practice.
 
+use crate::events::remember;
+use crate::last_two::newest_and_oldest;
 use crate::pipe::{Pipe, relay};
 use crate::samples::SampleBuffer;
 use crate::tail::{LogTail, tail};
 use crate::undo::History;
 use crate::window::Window;
+use ringbuffer::{AllocRingBuffer, RingBuffer};
+use std::alloc::AllocError;
 use std::test::Fail;
 
 /// Tenths of a degree, one a minute, with a reading of a sensor that came loose.
@@ -14,6 +18,23 @@ const LOG: &str =
     "06:00:01 INFO  listening on 8080\r\n06:00:07 WARN  slow query: 1.2 s\n\n06:01:13 ERROR größe < 0\n06:01:13 INFO  stopped";
 
 const REQUEST: &[u8] = b"GET /status HTTP/1.1\r\nHost: example.org\r\n\r\n";
+
+#[test]
+fn last_two_of_three_numbers(rt: HostRuntime) {
+    assert_eq!(rt; newest_and_oldest(), (Some(1), Some(42)));
+}
+
+#[test]
+fn last_two_of_three_events(rt: HostRuntime) -> Result<(), AllocError> {
+    let mut events = AllocRingBuffer::new(rt.alloc(), 2)?;
+    for event in [7, 8, 9] {
+        remember(&mut events, event);
+    }
+    assert_eq!(rt; events.len(), 2);
+    assert_eq!(rt; events.get(0).copied(), Some(8));
+    assert_eq!(rt; events.get(1).copied(), Some(9));
+    Ok(())
+}
 
 #[test]
 fn window_of_three_temperatures(rt: HostRuntime) {

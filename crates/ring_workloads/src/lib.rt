@@ -17,7 +17,12 @@ use work::Work;
 
 /// Work on an array ring. The capacity is 7, 1000, 1024 or 65536.
 #[unsafe(no_mangle)]
-pub extern "C" fn ring_workloads_array(work: u32, capacity: usize, items: usize) -> u64 {
+pub extern "C" fn ring_workloads_array(
+    alloc: Global,
+    work: u32,
+    capacity: usize,
+    items: usize,
+) -> u64 {
     let Some(work) = Work::numbered(work) else {
         return 0;
     };
@@ -25,20 +30,23 @@ pub extern "C" fn ring_workloads_array(work: u32, capacity: usize, items: usize)
         return on_array_window(capacity, items);
     }
     match capacity {
-        7 => on_fixed(&mut ConstGenericRingBuffer::<u64, 7>::new(), work, 7, items),
+        7 => on_fixed(alloc, &mut ConstGenericRingBuffer::<u64, 7>::new(), work, 7, items),
         1000 => on_fixed(
+            alloc,
             &mut ConstGenericRingBuffer::<u64, 1000>::new(),
             work,
             1000,
             items,
         ),
         1024 => on_fixed(
+            alloc,
             &mut ConstGenericRingBuffer::<u64, 1024>::new(),
             work,
             1024,
             items,
         ),
         65536 => on_fixed(
+            alloc,
             &mut ConstGenericRingBuffer::<u64, 65536>::new(),
             work,
             65536,

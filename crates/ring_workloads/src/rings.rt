@@ -2,42 +2,138 @@
 ghost use Rattle.std.specs.Prelude.{◌<◌};
 
 use crate::work::{
-    EXTENSION, Work, extend, fill, get, push, push_dequeue, push_one, push_one_within, push_within,
-    refill, walk,
+    EXTENSION, Work, contains, extend, fill, get, push, push_dequeue, push_one, push_one_within,
+    push_within, reextend, refill, to_vec, walk,
 };
 use ringbuffer::{AllocRingBuffer, ConstGenericRingBuffer, GrowableAllocRingBuffer, RingBuffer};
 use std::alloc::{AllocError, Global};
 
-// A ring that can be cloned: the trait of rings has no such call, since each type has its own.
-pub trait Cloned: RingBuffer<u64> {
+// The calls that each type has of its own, which the trait of rings lacks.
+pub trait Own: RingBuffer<u64> {
     fn cloned(&self) -> Result<Self, AllocError>;
+
+    // Whether both hold equal items.
+    fn equals(&self, other: &Self) -> bool;
+
+    // The sum of the items, added to `sum`.
+    fn sum(&self, sum: u64) -> u64;
+
+    // Another ring, of the items of a slice.
+    fn of_slice(&self, alloc: Global, items: &[u64]) -> Result<Self, AllocError>;
 }
 
-impl<const CAP: usize> Cloned for ConstGenericRingBuffer<u64, CAP> {
+impl<const CAP: usize> Own for ConstGenericRingBuffer<u64, CAP> {
     #[inline]
     fn cloned(&self) -> Result<Self, AllocError> {
         self.clone()
     }
+
+    #[inline]
+    fn equals(&self, other: &Self) -> bool {
+        self == other
+    }
+
+    #[inline]
+    fn sum(&self, sum: u64) -> u64 {
+        let mut sum = sum;
+        for item in self {
+            sum = sum.wrapping_add(*item);
+        }
+        sum
+    }
+
+    #[inline]
+    fn of_slice(&self, _alloc: Global, items: &[u64]) -> Result<Self, AllocError> {
+        let _held = self.len();
+        ConstGenericRingBuffer::from_slice(items)
+    }
 }
 
-impl Cloned for AllocRingBuffer<u64> {
+impl Own for AllocRingBuffer<u64> {
     #[inline]
     fn cloned(&self) -> Result<Self, AllocError> {
         self.clone()
     }
+
+    #[inline]
+    fn equals(&self, other: &Self) -> bool {
+        self == other
+    }
+
+    #[inline]
+    fn sum(&self, sum: u64) -> u64 {
+        let (first, second) = self.as_slices();
+        add(second, add(first, sum))
+    }
+
+    #[inline]
+    fn of_slice(&self, alloc: Global, items: &[u64]) -> Result<Self, AllocError> {
+        if items.is_empty() {
+            return Err(AllocError);
+        }
+        AllocRingBuffer::from_slice(alloc, items)
+    }
 }
 
-impl Cloned for GrowableAllocRingBuffer<u64> {
+impl Own for GrowableAllocRingBuffer<u64> {
     #[inline]
     fn cloned(&self) -> Result<Self, AllocError> {
         self.clone()
     }
+
+    #[inline]
+    fn equals(&self, other: &Self) -> bool {
+        self == other
+    }
+
+    #[inline]
+    fn sum(&self, sum: u64) -> u64 {
+        let (first, second) = self.as_slices();
+        add(second, add(first, sum))
+    }
+
+    #[inline]
+    fn of_slice(&self, alloc: Global, items: &[u64]) -> Result<Self, AllocError> {
+        GrowableAllocRingBuffer::from_slice(alloc, items)
+    }
+}
+
+// The sum of the items of a slice, added to `sum`.
+#[inline]
+fn add(items: &[u64], sum: u64) -> u64 {
+    let mut sum = sum;
+    for item in items {
+        sum = sum.wrapping_add(*item);
+    }
+    sum
 }
 
 // A clone, of which one item is read and added to `sum`.
 #[inline(never)]
-fn clone<R: Cloned + Drop>(ring: &R, sum: u64) -> u64 {
+fn clone<R: Own + Drop>(ring: &R, sum: u64) -> u64 {
     let Ok(copy) = ring.cloned() else {
+        return 0;
+    };
+    copy.get(sum as usize)
+        .map_or(0, |item| sum.wrapping_add(*item))
+}
+
+// The sum of the items, added to `sum`.
+#[inline(never)]
+fn sum_of<R: Own>(ring: &R, sum: u64) -> u64 {
+    ring.sum(sum)
+}
+
+// Whether two rings hold equal items, as a number added to `sum`.
+#[inline(never)]
+fn equal<R: Own>(ring: &R, other: &R, sum: u64) -> u64 {
+    if ring.equals(other) { sum.wrapping_add(1) } else { sum }
+}
+
+// A ring of the items of a slice, of which one item is read and added to `sum`.
+#[inline(never)]
+fn of_slice<R: Own + Drop>(alloc: Global, ring: &R, items: &[u64], sum: u64) -> u64 {
+    let Ok(copy) = ring.of_slice(alloc, items) else {
         return 0;
     };
     copy.get(sum as usize)
@@ -49,7 +145,7 @@ pub fn on_heap(alloc: Global, work: Work, capacity: usize, items: usize) -> Resu
     requires { 0 < capacity }
 {
     let mut ring = AllocRingBuffer::new(alloc, capacity)?;
-    Ok(on_fixed(&mut ring, work, capacity, items))
+    Ok(on_fixed(alloc, &mut ring, work, capacity, items))
 }
 
 /// Work on a growable ring.
@@ -76,13 +172,19 @@ pub fn on_growable(
                 extend(&mut ring);
             }
         }
-        _ => return Ok(on_full(&mut ring, work, capacity, items)),
+        _ => return Ok(on_full(alloc, &mut ring, work, capacity, items)),
     }
     Ok(outcome(&ring))
 }
 
 /// Work on a ring with a limit.
-pub fn on_fixed<R: Cloned + Drop>(ring: &mut R, work: Work, capacity: usize, items: usize) -> u64
+pub fn on_fixed<R: Own + Drop>(
+    alloc: Global,
+    ring: &mut R,
+    work: Work,
+    capacity: usize,
+    items: usize,
+) -> u64
     requires { 0 < capacity }
 {
     push(ring, capacity);
@@ -98,13 +200,19 @@ pub fn on_fixed<R: Cloned + Drop>(ring: &mut R, work: Work, capacity: usize, ite
                 extend(ring);
             }
         }
-        _ => return on_full(ring, work, capacity, items),
+        _ => return on_full(alloc, ring, work, capacity, items),
     }
     outcome(ring)
 }
 
 // The work that is the same on every type. The ring holds `capacity` items.
-fn on_full<R: Cloned + Drop>(ring: &mut R, work: Work, capacity: usize, items: usize) -> u64
+fn on_full<R: Own + Drop>(
+    alloc: Global,
+    ring: &mut R,
+    work: Work,
+    capacity: usize,
+    items: usize,
+) -> u64
     requires { 0 < capacity }
 {
     let rounds = items / capacity;
@@ -132,6 +240,43 @@ fn on_full<R: Cloned + Drop>(ring: &mut R, work: Work, capacity: usize, items: u
         Work::Fill => {
             for round in 0..rounds {
                 fill(ring, round as u64);
+            }
+        }
+        Work::Reextend => {
+            for _ in 0..rounds {
+                reextend(ring, capacity);
+            }
+        }
+        Work::Slices => {
+            for _ in 0..rounds {
+                sum = sum_of(ring, sum);
+            }
+        }
+        Work::ToVec => {
+            for _ in 0..rounds {
+                sum = to_vec(alloc, ring, sum);
+            }
+        }
+        Work::Equal => {
+            let Ok(other) = ring.cloned() else {
+                return 0;
+            };
+            for _ in 0..rounds {
+                sum = equal(ring, &other, sum);
+            }
+        }
+        Work::Contains => {
+            let newest = outcome(ring);
+            for _ in 0..rounds {
+                sum = contains(ring, newest, sum);
+            }
+        }
+        Work::FromSlice => {
+            let Ok(source) = ring.to_vec(alloc) else {
+                return 0;
+            };
+            for _ in 0..rounds {
+                sum = of_slice(alloc, ring, &source, sum);
             }
         }
         _ => {

@@ -4,6 +4,7 @@
 //! that only read go on from the sum of the round before, so that no round can be left out as a repetition.
 
 use ringbuffer::{RingBuffer, RingBufferIterator};
+use std::alloc::Global;
 use window::WindowSum;
 
 /// The number of items of one extension.
@@ -32,6 +33,18 @@ pub enum Work {
     Refill,
     /// Pushes onto a window over a full ring, and a read of its sum after each.
     Slide,
+    /// A clear and then an extension by as many items as the capacity.
+    Reextend,
+    /// Sums of a full ring by its slices, or by a walk where it has none.
+    Slices,
+    /// Vectors made of a full ring.
+    ToVec,
+    /// Comparisons of a full ring with its clone.
+    Equal,
+    /// Searches of a full ring for its newest item.
+    Contains,
+    /// Rings made of a slice.
+    FromSlice,
 }
 
 impl Work {
@@ -48,6 +61,12 @@ impl Work {
             7 => Some(Work::Clone),
             8 => Some(Work::Refill),
             9 => Some(Work::Slide),
+            10 => Some(Work::Reextend),
+            11 => Some(Work::Slices),
+            12 => Some(Work::ToVec),
+            13 => Some(Work::Equal),
+            14 => Some(Work::Contains),
+            15 => Some(Work::FromSlice),
             _ => None,
         }
     }
@@ -141,6 +160,28 @@ pub fn refill<R: RingBuffer<u64>>(ring: &mut R, capacity: usize, round: u64) {
     for number in 0..capacity {
         let _ = ring.push(round.wrapping_add(number as u64));
     }
+}
+
+/// A clear, and then an extension by the numbers below `capacity`.
+#[inline(never)]
+pub fn reextend<R: RingBuffer<u64>>(ring: &mut R, capacity: usize) {
+    ring.clear();
+    let _ = ring.extend(0..capacity as u64);
+}
+
+/// A vector of the items, of which the first is added to `sum`.
+#[inline(never)]
+pub fn to_vec<R: RingBuffer<u64>>(alloc: Global, ring: &R, sum: u64) -> u64 {
+    match ring.to_vec(alloc) {
+        Ok(items) => items.first().map_or(0, |item| sum.wrapping_add(*item)),
+        Err(_) => 0,
+    }
+}
+
+/// Whether an item equals this one, as a number added to `sum`.
+#[inline(never)]
+pub fn contains<R: RingBuffer<u64>>(ring: &R, item: u64, sum: u64) -> u64 {
+    if ring.contains(&item) { sum.wrapping_add(1) } else { sum }
 }
 
 /// Pushes the numbers below `items` onto a window, and adds up the sums that it has after each.
