@@ -30,7 +30,13 @@ pub extern "C" fn ring_workloads_array(
         return on_array_window(capacity, items);
     }
     match capacity {
-        7 => on_fixed(alloc, &mut ConstGenericRingBuffer::<u64, 7>::new(), work, 7, items),
+        7 => on_fixed(
+            alloc,
+            &mut ConstGenericRingBuffer::<u64, 7>::new(),
+            work,
+            7,
+            items,
+        ),
         1000 => on_fixed(
             alloc,
             &mut ConstGenericRingBuffer::<u64, 1000>::new(),

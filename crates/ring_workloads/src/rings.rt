@@ -127,7 +127,11 @@ fn sum_of<R: Own>(ring: &R, sum: u64) -> u64 {
 // Whether two rings hold equal items, as a number added to `sum`.
 #[inline(never)]
 fn equal<R: Own>(ring: &R, other: &R, sum: u64) -> u64 {
-    if ring.equals(other) { sum.wrapping_add(1) } else { sum }
+    if ring.equals(other) {
+        sum.wrapping_add(1)
+    } else {
+        sum
+    }
 }
 
 // A ring of the items of a slice, of which one item is read and added to `sum`.

@@ -181,7 +181,11 @@ pub fn to_vec<R: RingBuffer<u64>>(alloc: Global, ring: &R, sum: u64) -> u64 {
 /// Whether an item equals this one, as a number added to `sum`.
 #[inline(never)]
 pub fn contains<R: RingBuffer<u64>>(ring: &R, item: u64, sum: u64) -> u64 {
-    if ring.contains(&item) { sum.wrapping_add(1) } else { sum }
+    if ring.contains(&item) {
+        sum.wrapping_add(1)
+    } else {
+        sum
+    }
 }
 
 /// Pushes the numbers below `items` onto a window, and adds up the sums that it has after each.
