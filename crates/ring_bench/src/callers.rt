@@ -278,10 +278,10 @@ pub fn growable_onto_heap(to: &mut AllocRingBuffer<u32>, from: &mut GrowableAllo
 pub fn array_into_growable(
     to: &mut GrowableAllocRingBuffer<u32>,
     from: &mut ConstGenericRingBuffer<u32, 4>,
-) -> Result<(), AllocError>
+) -> Result<(), u32>
     ensures moved { OnOk result (to.new ≡ to.old ++ from.old.items) }
     ensures emptied { OnOk result (from.new.items ≡ []) }
-    ensures refused { OnErr result (MovesPart to.old from.old.items to.new from.new.items) }
+    ensures refused { IfErr result (MovesPart to.old from.old.items to.new from.new.items) }
 {
     move_all(to, from)
 }

@@ -11,6 +11,6 @@ module _ {I S A E : Type 0} (becomes : I → S → Type 0) (steps : S → Option
       × IfSome limit (λ _. ChangesSlots a old b new (length xs))
       × MatchResult r (λ _. Drains steps it xs) (λ _. (x : A) × (after : S) × YieldsThen steps it xs (Some x) after)
 
--- a beginning of the source's items moved behind the old ones, the next one was refused and is gone, the others stayed
-abbrev pub MovesPart : {A : Type 0} → List A → List A → List A → List A → Type 0
-MovesPart {A} old source new rest = (moved : List A) × (refused : A) × (source ≡ moved ++ refused ∷ rest) × (new ≡ old ++ moved)
+-- a beginning of the source's items moved behind the old ones, the next one was refused, and the others stayed
+abbrev pub MovesPart : {A : Type 0} → List A → List A → List A → List A → A → Type 0
+MovesPart {A} old source new rest refused = (moved : List A) × (source ≡ moved ++ refused ∷ rest) × (new ≡ old ++ moved)

@@ -1,27 +1,26 @@
 //! Moving the items of one ring into another.
 
-ghost use Rattle.std.specs.Prelude.{◌≡◌, [], ◌++◌, IsOk, IsSome, OnErr, OnOk, length};
+ghost use Rattle.std.specs.Prelude.{◌≡◌, [], ◌++◌, IfErr, IsOk, IsSome, OnOk, length};
 ghost use Rattle.ring_core.specs.Contents.{ChangesSlots, keep_last};
 ghost use Rattle.ring_core.specs.Extension.{MovesPart};
 
 use crate::ring::RingBuffer;
-use std::alloc::AllocError;
 
 /// Moves all items of `from` onto `to`, oldest first, and leaves `from` empty. What they overwrite is dropped. This call
 /// is the library's own: the Rust crate has none like it.
 ///
 /// # Errors
 ///
-/// Where `to` was refused memory, which no ring with a limit meets. The items moved until then stay in `to`, the one that
-/// was refused is dropped, and the later ones stay in `from`.
+/// The item that `to` was refused memory for, which no ring with a limit meets. The items moved until then stay in `to`,
+/// and the later ones stay in `from`.
 pub fn move_all<T: Drop, A: RingBuffer<T>, B: RingBuffer<T>>(
     to: &mut A,
     from: &mut B,
-) -> Result<(), AllocError>
+) -> Result<(), T>
     ensures moved { OnOk result (A.contents to.new
         ≡ keep_last (A.limit to.old) (A.contents to.old ++ B.contents from.old)) }
     ensures emptied { OnOk result (B.contents from.new ≡ []) }
-    ensures refused { OnErr result (MovesPart (A.contents to.old) (B.contents from.old)
+    ensures refused { IfErr result (MovesPart (A.contents to.old) (B.contents from.old)
         (A.contents to.new) (B.contents from.new)) }
     ensures succeeds { IsSome (A.limit to.old) → IsOk result }
     ensures limit_to { A.limit to.new ≡ A.limit to.old }
@@ -36,9 +35,7 @@ pub fn move_all<T: Drop, A: RingBuffer<T>, B: RingBuffer<T>>(
     // Brings in that the contents of `to` are within its limit.
     let _ = to.len();
     while let Some(item) = from.dequeue() {
-        let Ok(overwritten) = to.push(item) else {
-            return Err(AllocError);
-        };
+        let overwritten = to.push(item)?;
         drop(overwritten);
     }
     Ok(())

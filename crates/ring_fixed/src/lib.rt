@@ -5,4 +5,4 @@ mod bulk;
 pub mod fixed;
 pub mod position;
 pub mod shared;
-mod slices;
+pub mod slices;

@@ -1,5 +1,6 @@
 //! The items of a ring over heap slots as slices.
-ghost use Rattle.std.specs.Prelude.{◌≡◌, ◌↔◌, ◌++◌, ◌<◌, length};
+ghost use Rattle.std.specs.Prelude.{◌≡◌, ◌↔◌, ◌+◌, ◌++◌, ◌<◌, length};
+ghost use Rattle.std.specs.Cmp.Lexicographic.{pointwise};
 ghost use Rattle.std.specs.Int.{IsPowerOfTwo};
 
 use crate::fixed::Fixed;
@@ -21,4 +22,19 @@ impl<T: Drop> Fixed<T, HeapSlots<T>> {
             self.slots.run(0, self.len - first),
         )
     }
+}
+
+/// Whether the items of two slices and the items of two others are equal, place by place.
+pub fn same_in_slices<T: PartialEq>(a: (&[T], &[T]), b: (&[T], &[T])) -> bool
+    requires { length a.0.now + length a.1.now ≡ length b.0.now + length b.1.now }
+    ensures { result ≡ pointwise T.eq (a.entry.0.now ++ a.entry.1.now)
+        (b.entry.0.now ++ b.entry.1.now) }
+{
+    let in_both = a.0.len().min(b.0.len());
+    let (a_first, a_middle) = a.0.split_at(in_both);
+    let (b_first, b_middle) = b.0.split_at(in_both);
+    // One of the two middles is empty at least. The other lies beside the beginning of a second slice.
+    let (a_beside, a_last) = a.1.split_at(b_middle.len());
+    let (b_beside, b_last) = b.1.split_at(a_middle.len());
+    a_first == b_first && a_middle == b_beside && a_beside == b_middle && a_last == b_last
 }

@@ -18,7 +18,7 @@ use ring_core::{
     RingBufferMutIterator,
 };
 use ring_fixed::fixed::Fixed;
-use ring_fixed::shared::same_items;
+use ring_fixed::slices::same_in_slices;
 use ring_slots::{HeapSlots, RingSlots};
 use std::alloc::{AllocError, Global};
 use std::marker::Model;
@@ -400,7 +400,9 @@ impl<T: PartialEq + Drop> PartialEq for AllocRingBuffer<T> {
         (on_per (λ ring. ring.items) (lists_per T.laws)) };
 
     fn eq(&self, other: &Self) -> bool {
-        self.capacity == other.capacity && same_items(self, other)
+        self.capacity == other.capacity
+            && self.len() == other.len()
+            && same_in_slices(self.as_slices(), other.as_slices())
     }
 }
 

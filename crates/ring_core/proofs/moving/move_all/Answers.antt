@@ -5,8 +5,8 @@ use Rattle.ring_core.proofs.moving.move_all.Goals as goal
 pub loop-item-preserved : goal.loop-item-preserved
 loop-item-preserved g c =
     let so_far = c.loop-item.invariant in
-    let pushed = rw so_far.limit_to at c.in-Ok.ensures.ok refl in
-    let more = rw so_far.limit_to at c.in-Ok.ensures.changes in
+    let pushed = rw so_far.limit_to at c.in_ok-overwritten.ensures.ok refl in
+    let more = rw so_far.limit_to at c.in_ok-overwritten.ensures.changes in
     record {
       moves = rw c.in-Some.ensures.rest (HasMoved-turn so_far.moves c.in-Some.item _ _ c.in-Some.ensures.value pushed more);
       limit_to = search rules;
