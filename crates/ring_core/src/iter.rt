@@ -1,10 +1,10 @@
 //! Walks over any ring buffer: reading, writing, and taking the items out.
 
-ghost use Rattle.std.specs.Prelude.{◌≡◌, ◌-◌, ◌↔◌, [], length, IfSome, IsNone, Some, slice_get};
+ghost use Rattle.std.specs.Prelude.{◌≡◌, ◌+◌, ◌-◌, ◌↔◌, [], drop, length, IfSome, IsNone, Some, slice_get};
 ghost use Rattle.std.specs.Borrow.{sem};
 ghost use Rattle.std.specs.Iterator.{YieldsFirstRef, YieldsLastRef, UpTo, at_most, item_count};
 ghost use Rattle.std.specs.Iterator.SizeHint.{IsWithinCount};
-ghost use Rattle.std.specs.Option.{option_copied_mut};
+ghost use Rattle.std.specs.Option.{option_copied, option_copied_mut};
 ghost use Rattle.ring_core.specs.Walk.{DrainsFirst, ReadsInOrder, ReadsInReverse, StartsOver, UnpacksFirst, drain_to_come, into_iter_to_come, iterator_to_come, cursor_to_come};
 
 use crate::ring::RingBuffer;
@@ -33,6 +33,38 @@ impl<'rb, T: Drop, RB: RingBuffer<T>> RingBufferIterator<'rb, T, RB> {
             back: ring.len(),
             items: PhantomData,
         }
+    }
+
+    /// Passes over `n` items and returns the next, or `None` for good if fewer are left. It takes one step, where the
+    /// trait's `nth` takes `n + 1`.
+    pub fn nth(&mut self, n: usize) -> Option<&'rb T>
+        ensures value { option_copied result
+            ≡ slice_get (iterator_to_come RB.contents self.old) n }
+        ensures left { iterator_to_come RB.contents self.new
+            ≡ drop (n + 1) (iterator_to_come RB.contents self.old) }
+    {
+        if n >= self.len() {
+            self.front = self.back;
+            return None;
+        }
+        let at = self.front + n;
+        self.front = at + 1;
+        self.ring.get(at)
+    }
+
+    /// The last item that is left, by one step.
+    pub fn last(mut self) -> Option<&'rb T>
+        ensures { let left = iterator_to_come RB.contents self.entry in
+            option_copied result ≡ slice_get left (length left - 1) }
+    {
+        self.next_back()
+    }
+
+    /// How many items are left, by no step.
+    pub fn count(self) -> usize
+        ensures { result ≡ length (iterator_to_come RB.contents self.entry) }
+    {
+        self.len()
     }
 }
 
