@@ -1,6 +1,6 @@
 //! Generic code over `RingBuffer<T>`, proved from the trait's contract alone.
 
-ghost use Rattle.std.specs.Prelude.{◌≡◌, ◌+◌, ◌%◌, ◌<◌, ◌≤◌, ◌^◌, [], ◌∷◌, ◌++◌, All, IfOk, IfSome, IsNone, IsOk, IsSome, IsTrue, List, OnErr, OnOk, Some, drop, length, map, reverse, slice_set, sum};
+ghost use Rattle.std.specs.Prelude.{◌≡◌, ◌+◌, ◌%◌, ◌<◌, ◌≤◌, ◌^◌, [], ◌∷◌, ◌++◌, All, IfOk, IfSome, IsNone, IsOk, IsSome, IsTrue, List, OnErr, OnOk, Some, drop, length, map, reverse, slice_get, slice_set, sum};
 ghost use Rattle.std.specs.List.{Any};
 ghost use Rattle.ringbuffer.specs.Contents.{ChangesSlots, keep_last};
 ghost use Rattle.ringbuffer.specs.Extension.{MovesPart};
@@ -52,6 +52,13 @@ pub fn push_then_replace<T: Drop, R: RingBuffer<T>>(ring: &mut R, x: T, y: T)
     if let Some(newest) = ring.get_mut_signed(-1) {
         *newest = y;
     }
+}
+
+/// The item that stands so many places behind the oldest, by a walk.
+pub fn item_behind_oldest<R: RingBuffer<u32>>(ring: &R, places: usize) -> Option<u32>
+    ensures { result ≡ slice_get (R.contents ring.now) places }
+{
+    RingBufferIterator::new(ring).nth(places).copied()
 }
 
 /// The sum of the items.

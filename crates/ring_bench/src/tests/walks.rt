@@ -153,6 +153,42 @@ fn a_walk_reads_in_order(rt: HostRuntime) -> Result<(), AllocError> {
     Rings::<7>::each(&rt, &ReadsInOrder)
 }
 
+struct PassesOver;
+
+impl<Rt: Abort + AllocGlobal> Case<Rt> for PassesOver {
+    fn on<R: RingBuffer<i64> + Drop>(&self, rt: &Rt, mut ring: R) -> Result<(), AllocError> {
+        // On a ring of eight slots the last of the seven items lie at the first slots.
+        push_all(rt, &mut ring, &[0, 0, 0, 0, 0]);
+        ring.clear();
+        push_all(rt, &mut ring, &[-1, -2, -3, -4, 1]);
+        for _ in 0..4 {
+            ring.skip();
+        }
+        push_all(rt, &mut ring, &[2, 3, 4, 5, 6, 7]);
+        let mut walk = RingBufferIterator::new(&ring);
+        assert_eq!(rt; walk.nth(0).copied(), Some(1));
+        assert_eq!(rt; walk.nth(2).copied(), Some(4));
+        assert_eq!(rt; walk.next_back().copied(), Some(7));
+        assert!(rt; walk.nth(2).is_none(), "5 and 6 are left");
+        assert!(rt; walk.next().is_none());
+        assert!(rt; walk.next_back().is_none());
+        let mut walk = RingBufferIterator::new(&ring);
+        assert!(rt; walk.nth(usize::MAX).is_none());
+        assert!(rt; walk.next_back().is_none());
+        assert_eq!(rt; walk.count(), 0);
+        let mut walk = RingBufferIterator::new(&ring);
+        let _ = walk.next();
+        assert_eq!(rt; walk.count(), 6);
+        assert_eq!(rt; RingBufferIterator::new(&ring).last().copied(), Some(7));
+        Ok(())
+    }
+}
+
+#[test]
+fn a_walk_passes_over_items(rt: HostRuntime) -> Result<(), AllocError> {
+    Rings::<8>::each(&rt, &PassesOver)
+}
+
 struct TakesInOrder;
 
 impl<Rt: Abort + AllocGlobal> Case<Rt> for TakesInOrder {
