@@ -3,10 +3,7 @@
 ghost use Rattle.std.specs.Prelude.{◌<◌, ◌^◌};
 
 use ring_test_support::rings::Twin;
-use ringbuffer::{
-    AllocRingBuffer, ConstGenericRingBuffer, GrowableAllocRingBuffer, RingBuffer,
-    RingBufferIterator,
-};
+use ringbuffer::{AllocRingBuffer, ConstGenericRingBuffer, GrowableAllocRingBuffer, RingBuffer};
 use std::alloc::{AllocError, Global};
 use std::cell::Cell;
 use std::process::Abort;
@@ -163,8 +160,9 @@ pub fn push_items<'a, R: RingBuffer<Counted<'a>>>(
 
 /// The ring holds items that are numbered in order, from this number on.
 pub fn assert_numbered<'a, R: RingBuffer<Counted<'a>>>(rt: &impl Abort, ring: &R, first: usize) {
-    for (i, item) in RingBufferIterator::new(ring).enumerate() {
-        assert_eq!(rt; item.number, i.saturating_add(first));
+    for i in 0..ring.len() {
+        let number = ring.get(i).expect(rt, "an item").number;
+        assert_eq!(rt; number, i.saturating_add(first));
     }
 }
 
