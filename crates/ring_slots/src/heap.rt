@@ -1,5 +1,5 @@
 //! Slots on the heap.
-ghost use Rattle.std.specs.Prelude.{◌≡◌, ◌+◌, ◌%◌, ◌^◌, ◌<◌, ℕ, length, replicate, None, Some, refl, IfOk, IsTrue};
+ghost use Rattle.std.specs.Prelude.{◌≡◌, ◌+◌, ◌-◌, ◌%◌, ◌^◌, ◌↔◌, ℕ, min, length, replicate, None, Some, refl, IfOk, IsTrue};
 ghost use Rattle.std.specs.Int.{IsPowerOfTwo};
 ghost use Rattle.std.specs.Borrow.{sem};
 ghost use Rattle.std.specs.Mem.{type_size};
@@ -147,23 +147,19 @@ impl<T> HeapSlots<T> {
     }
 }
 
-// The bytes of an item. An item of more bytes than a block can have gets an answer above that limit.
+// The bytes of an item, or the greatest word where there are more.
 fn item_size<T>() -> usize
-    ensures { (result < 2 ^ 63 → result ≡ type_size T.row) × (0 < result → 0 < type_size T.row) }
+    ensures { result ≡ min (type_size T.row) (2 ^ 64 - 1) }
 {
     size_of::<T>()
 }
 
 // Whether a block for as many items as `size` says can be asked for.
 fn may_hold<T>(size: usize) -> bool
-    ensures { IsTrue result → FitsInBlock T.row size }
+    ensures { IsTrue result ↔ FitsInBlock T.row size }
 {
-    let bytes = item_size::<T>();
-    if bytes > isize::MAX as usize || size > isize::MAX as usize {
-        return false;
-    }
-    match size.checked_mul(bytes) {
-        Some(all) => all <= isize::MAX as usize,
+    match size.checked_mul(item_size::<T>()) {
+        Some(bytes) => size <= isize::MAX as usize && bytes <= isize::MAX as usize,
         None => false,
     }
 }
