@@ -86,12 +86,10 @@ impl Supply {
         self.given.get()
     }
 
-    /// How often the item of this number was dropped.
-    pub fn drops_of(&self, rt: &impl Abort, number: usize) -> u8 {
-        self.drops
-            .get(number)
-            .expect(rt, "a count for the item")
-            .get()
+    /// The item of this number was dropped so often.
+    pub fn assert_drops(&self, rt: &impl Abort, number: usize, wanted: u8) {
+        let drops = self.drops.get(number).expect(rt, "a count for the item");
+        assert_eq!(rt; drops.get(), wanted, "item {number}");
     }
 
     // Counts a drop of the item of this number.
@@ -114,7 +112,7 @@ impl Supply {
     pub fn assert_all_dropped_but(&self, rt: &impl Abort, first: usize) {
         for number in 0..self.given() {
             let wanted = if number < first { 0 } else { 1 };
-            assert_eq!(rt; self.drops_of(rt, number), wanted, "item {number}");
+            self.assert_drops(rt, number, wanted);
         }
     }
 
