@@ -1,6 +1,6 @@
 use Rattle.std.proofs.Common.{sym}
 use Rattle.ring_slots.proofs.SlotsInMemory.{full_run}
-use Rattle.ring_slots.proofs.heap.HeapSlots.get.Goals as goal
+use Rattle.ring_slots.proofs.heap.HeapSlotsRingSlots.get.Goals as goal
 
 -- A full slot is a run of one.
 pub run-requires : goal.run-requires
