@@ -1,4 +1,4 @@
-//! Tests of what takes memory or gives it back: conversions, runs, drops, and requests that are refused.
+//! Tests of what takes memory and what takes none: makers, conversions, runs, moves, and calls in a drought.
 #![tactic(auto)]
 
 #[cfg(test)]

@@ -3,13 +3,9 @@
 //! The body of a test is generic over the ring, and a driver gives it a ring of each type.
 
 mod conversions;
-mod counted;
-mod dropping;
 mod memory;
 mod moving;
-mod refused;
 mod runs;
-mod scarce;
 mod sums;
 
 use ringbuffer::RingBuffer;

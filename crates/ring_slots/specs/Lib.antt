@@ -1,4 +1,3 @@
 pub mod Slots
 pub mod array
 pub mod block
-pub mod heap

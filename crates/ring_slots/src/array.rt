@@ -1,7 +1,7 @@
 //! Slots that lie in the value itself.
 ghost use Rattle.std.specs.Prelude.{◌≡◌, ◌<◌, ℕ, length, replicate, None, Some, refl, slice_index_or};
 ghost use Rattle.std.specs.Borrow.{sem};
-ghost use Rattle.ring_slots.specs.Slots.{IsEmptyAt, IsFullAt, changed, slot_at};
+ghost use Rattle.ring_slots.specs.Slots.{changed, slot_at};
 
 use crate::change_count::ChangeCount;
 use crate::place::{wrapped, wrapped_after, wrapped_next};
@@ -48,7 +48,7 @@ impl<T, const N: usize> Cells<Option<T>, N> {
 /// `CAP` slots in an array, which take no memory of their own.
 ///
 /// A contract sees what each slot holds, and how many changes the slots have had. That count takes no bytes, begins at
-/// 0, and rises by the calls below alone.
+/// 0, and rises by the calls of `RingSlots` alone.
 #[derive(Drop)]
 pub struct ArraySlots<T, const CAP: usize> {
     cells: Cells<Option<T>, CAP>,
@@ -67,7 +67,7 @@ impl<T, const CAP: usize> Model for ArraySlots<T, CAP> {
 }
 
 impl<T: Drop, const CAP: usize> ArraySlots<T, CAP> {
-    ghost use Rattle.ring_slots.specs.array.Lends.{lends_item, lends_slot};
+    ghost use Rattle.ring_slots.specs.array.Lends.{lends_slot};
 
     /// Empty slots.
     pub fn new() -> Self
@@ -77,44 +77,6 @@ impl<T: Drop, const CAP: usize> ArraySlots<T, CAP> {
             cells: Cells::empty(),
             changes: ChangeCount::new(),
         }
-    }
-
-    /// Puts an item into an empty slot.
-    #[inline]
-    pub fn put(&mut self, place: usize, item: T)
-        requires { IsEmptyAt self.old place }
-        ensures { self.new ≡ changed self.old place (Some item) }
-    {
-        *self.slot_mut(place) = Some(item);
-    }
-
-    /// Takes the item out of a full slot.
-    #[inline]
-    pub fn take(&mut self, place: usize) -> T
-        requires { IsFullAt self.old place }
-        ensures value { slot_at self.old place ≡ Some result }
-        ensures after { self.new ≡ changed self.old place None }
-    {
-        self.slot_mut(place).take().unwrap()
-    }
-
-    /// The item of a full slot.
-    #[inline]
-    pub fn get(&self, place: usize) -> &T
-        requires { IsFullAt self.now place }
-        ensures { slot_at self.now place ≡ Some result.now }
-    {
-        self.cells.at(place).as_ref().unwrap()
-    }
-
-    /// The item of a full slot, for writing.
-    #[inline]
-    pub fn get_mut(&mut self, place: usize) -> &mut T
-        requires { IsFullAt self.old place }
-        ensures* writes_back { sem 𝓛 (lends_item T.row CAP.row self.entry place result) }
-        ensures value { slot_at self.old place ≡ Some result.now }
-    {
-        self.slot_mut(place).as_mut().unwrap()
     }
 
     // The slot at a place, for one change, which is counted here.
@@ -161,12 +123,12 @@ impl<T: Drop, const CAP: usize> RingSlots<T> for ArraySlots<T, CAP> {
 
     #[inline]
     fn put(&mut self, place: usize, item: T) {
-        ArraySlots::put(self, place, item);
+        *self.slot_mut(place) = Some(item);
     }
 
     #[inline]
     fn take(&mut self, place: usize) -> T {
-        ArraySlots::take(self, place)
+        self.slot_mut(place).take().unwrap()
     }
 
     #[inline]
@@ -176,11 +138,11 @@ impl<T: Drop, const CAP: usize> RingSlots<T> for ArraySlots<T, CAP> {
 
     #[inline]
     fn get(&self, place: usize) -> &T {
-        ArraySlots::get(self, place)
+        self.cells.at(place).as_ref().unwrap()
     }
 
     #[inline]
     fn get_mut(&mut self, place: usize) -> &mut T {
-        ArraySlots::get_mut(self, place)
+        self.slot_mut(place).as_mut().unwrap()
     }
 }

@@ -1,5 +1,5 @@
 //! A block of memory that slots lie in.
-ghost use Rattle.std.specs.Prelude.{◌≡◌, ◌<◌, ℕ, List, Option, length, replicate, slice_index_or, None, Some, IsSome, IfOk, ⊤};
+ghost use Rattle.std.specs.Prelude.{◌≡◌, ◌<◌, ℕ, List, Option, length, replicate, slice_index_or, None, Some, IsSome, IfOk};
 ghost use Rattle.std.specs.Borrow.{sem};
 ghost use Rattle.std.specs.Mem.{type_size};
 ghost use Rattle.std.specs.Vec.Ownership.{FitsInBlock};
@@ -107,17 +107,22 @@ impl<T> Owner<T> {
         }
     }
 
+    /// Puts an item into an empty slot.
     #[inline]
     pub(crate) fn put(&mut self, ptr: *mut T, place: usize, item: T)
-        requires { (ptr ≡ self.old.at) × (place < length self.old.slots) × (slice_index_or self.old.slots place None ≡ None) }
+        requires at { ptr ≡ self.old.at }
+        requires place { place < length self.old.slots }
+        requires empty { slice_index_or self.old.slots place None ≡ None }
         ensures { self.new ≡ with_slot self.old place (Some item) }
     {
         unsafe { ptr.add(place).write(item) }
     }
 
+    /// Takes the item out of a full slot.
     #[inline]
     pub(crate) fn take(&mut self, ptr: *mut T, place: usize) -> T
-        requires { (ptr ≡ self.old.at) × IsSome (slice_index_or self.old.slots place None) }
+        requires at { ptr ≡ self.old.at }
+        requires full { IsSome (slice_index_or self.old.slots place None) }
         ensures value { slice_index_or self.old.slots place None ≡ Some result }
         ensures after { self.new ≡ with_slot self.old place None }
     {
@@ -127,15 +132,18 @@ impl<T> Owner<T> {
     /// The items of slots side by side, which are all full.
     #[inline]
     pub(crate) fn run(&self, ptr: *mut T, from: usize, len: usize) -> &[T]
-        requires { (ptr ≡ self.now.at) × IsFullRun self.now.slots from len }
+        requires at { ptr ≡ self.now.at }
+        requires full { IsFullRun self.now.slots from len }
         ensures { HoldsRun self.now.slots from len result.now }
     {
         unsafe { slice::from_raw_parts(ptr.add(from), len) }
     }
 
+    /// The item of a full slot, for writing.
     #[inline]
     pub(crate) fn get_mut(&mut self, ptr: *mut T, place: usize) -> &mut T
-        requires { (ptr ≡ self.old.at) × IsSome (slice_index_or self.old.slots place None) }
+        requires at { ptr ≡ self.old.at }
+        requires full { IsSome (slice_index_or self.old.slots place None) }
         ensures* writes_back { sem 𝓛 (lends_slot T.row self.entry place result) }
         ensures value { slice_index_or self.old.slots place None ≡ Some result.now }
     {

@@ -1,10 +1,9 @@
 //! Slots on the heap.
-ghost use Rattle.std.specs.Prelude.{◌≡◌, ◌+◌, ◌%◌, ◌^◌, ◌<◌, ℕ, length, replicate, None, Some, refl, IfOk, IsTrue};
+ghost use Rattle.std.specs.Prelude.{◌≡◌, ◌+◌, ◌-◌, ◌%◌, ◌^◌, ◌↔◌, ℕ, min, length, replicate, None, Some, refl, IfOk, IsTrue};
 ghost use Rattle.std.specs.Int.{IsPowerOfTwo};
-ghost use Rattle.std.specs.Borrow.{sem};
 ghost use Rattle.std.specs.Mem.{type_size};
 ghost use Rattle.std.specs.Vec.Ownership.{FitsInBlock};
-ghost use Rattle.ring_slots.specs.Slots.{HoldsRun, IsEmptyAt, IsFullAt, IsFullRun, changed, slot_at};
+ghost use Rattle.ring_slots.specs.Slots.{HoldsRun, IsFullRun, changed};
 
 use crate::block::{Deed, Owner};
 use crate::place::masked;
@@ -21,7 +20,7 @@ use std::mem::size_of;
 /// They aren't dropped: slots end by `free`, which asks that all of them are empty, and in no other way.
 ///
 /// A contract sees what each slot holds, and how many changes the slots have had. That count takes no bytes, begins at
-/// 0, and rises by the calls below alone.
+/// 0, and rises by the calls of `RingSlots` alone.
 pub struct HeapSlots<T> {
     ptr: *mut T,
     // The number of slots less one, which is the mask of their places where that number is a power of two. It wraps
@@ -46,8 +45,6 @@ impl<T> Model for HeapSlots<T> {
 }
 
 impl<T: Drop> HeapSlots<T> {
-    ghost use Rattle.ring_slots.specs.heap.Lends.{lends_item};
-
     /// Empty slots, as many as `size` says. An error says that the memory for them was refused.
     pub fn new(alloc: Global, size: usize) -> Result<HeapSlots<T>, AllocError>
         ensures { IfOk result (λ s. s ≡ record { slots = replicate size None; changes = 0 }) }
@@ -69,34 +66,6 @@ impl<T: Drop> HeapSlots<T> {
         })
     }
 
-    /// Puts an item into an empty slot.
-    #[inline]
-    pub fn put(&mut self, place: usize, item: T)
-        requires { IsEmptyAt self.old place }
-        ensures { self.new ≡ changed self.old place (Some item) }
-    {
-        self.owner.put(self.ptr, place, item);
-    }
-
-    /// Takes the item out of a full slot.
-    #[inline]
-    pub fn take(&mut self, place: usize) -> T
-        requires { IsFullAt self.old place }
-        ensures value { slot_at self.old place ≡ Some result }
-        ensures after { self.new ≡ changed self.old place None }
-    {
-        self.owner.take(self.ptr, place)
-    }
-
-    /// The item of a full slot.
-    #[inline]
-    pub fn get(&self, place: usize) -> &T
-        requires { IsFullAt self.now place }
-        ensures { slot_at self.now place ≡ Some result.now }
-    {
-        &self.owner.run(self.ptr, place, 1)[0]
-    }
-
     /// The items of slots side by side, which are all full.
     #[inline]
     pub fn run(&self, from: usize, len: usize) -> &[T]
@@ -104,17 +73,6 @@ impl<T: Drop> HeapSlots<T> {
         ensures { HoldsRun self.now.slots from len result.now }
     {
         self.owner.run(self.ptr, from, len)
-    }
-
-    /// The item of a full slot, for writing.
-    #[inline]
-    pub fn get_mut(&mut self, place: usize) -> &mut T
-        requires { IsFullAt self.old place }
-        ensures* writes_back { sem 𝓛 (lends_item T.row self.entry place result) }
-        ensures value { slot_at self.old place ≡ Some result.now }
-    {
-        let ptr = self.ptr;
-        self.owner.get_mut(ptr, place)
     }
 }
 
@@ -147,23 +105,19 @@ impl<T> HeapSlots<T> {
     }
 }
 
-// The bytes of an item. An item of more bytes than a block can have gets an answer above that limit.
+// The bytes of an item, or the greatest word where there are more.
 fn item_size<T>() -> usize
-    ensures { (result < 2 ^ 63 → result ≡ type_size T.row) × (0 < result → 0 < type_size T.row) }
+    ensures { result ≡ min (type_size T.row) (2 ^ 64 - 1) }
 {
     size_of::<T>()
 }
 
 // Whether a block for as many items as `size` says can be asked for.
 fn may_hold<T>(size: usize) -> bool
-    ensures { IsTrue result → FitsInBlock T.row size }
+    ensures { IsTrue result ↔ FitsInBlock T.row size }
 {
-    let bytes = item_size::<T>();
-    if bytes > isize::MAX as usize || size > isize::MAX as usize {
-        return false;
-    }
-    match size.checked_mul(bytes) {
-        Some(all) => all <= isize::MAX as usize,
+    match size.checked_mul(item_size::<T>()) {
+        Some(bytes) => size <= isize::MAX as usize && bytes <= isize::MAX as usize,
         None => false,
     }
 }
@@ -194,21 +148,22 @@ impl<T: Drop> RingSlots<T> for HeapSlots<T> {
 
     #[inline]
     fn put(&mut self, place: usize, item: T) {
-        HeapSlots::put(self, place, item);
+        self.owner.put(self.ptr, place, item);
     }
 
     #[inline]
     fn take(&mut self, place: usize) -> T {
-        HeapSlots::take(self, place)
+        self.owner.take(self.ptr, place)
     }
 
     #[inline]
     fn get(&self, place: usize) -> &T {
-        HeapSlots::get(self, place)
+        &self.owner.run(self.ptr, place, 1)[0]
     }
 
     #[inline]
     fn get_mut(&mut self, place: usize) -> &mut T {
-        HeapSlots::get_mut(self, place)
+        let ptr = self.ptr;
+        self.owner.get_mut(ptr, place)
     }
 }

@@ -1,4 +1,4 @@
-use crate::{ArraySlots, HeapSlots};
+use crate::{ArraySlots, HeapSlots, RingSlots};
 use std::alloc::AllocError;
 use std::cell::Cell;
 

@@ -286,14 +286,16 @@ fn a_heap_ring_of_an_array_ring_has_room_for_its_items(rt: HostRuntime) -> Resul
 
 #[test]
 fn a_heap_ring_of_a_growable_ring_is_full(rt: HostRuntime) -> Result<(), AllocError> {
+    fn on<R: RingBuffer<i64> + Drop>(rt: &impl Abort, ring: R) {
+        assert_eq!(rt; ring.capacity(), 3);
+        assert_eq!(rt; ring.buffer_size(), 4);
+        assert!(rt; ring.is_full());
+        assert_holds(rt, &ring, &[1, 2, 3]);
+    }
     let mut growable = GrowableAllocRingBuffer::new(rt.alloc());
     push_all(&rt, &mut growable, &[1, 2, 3]);
     assert_eq!(rt; growable.len(), 3);
-    let ring = AllocRingBuffer::from_growable(rt.alloc(), growable)?;
-    assert_eq!(rt; ring.capacity(), 3);
-    assert_eq!(rt; ring.buffer_size(), 4);
-    assert!(rt; ring.is_full());
-    assert_holds(&rt, &ring, &[1, 2, 3]);
+    on(&rt, AllocRingBuffer::from_growable(rt.alloc(), growable)?);
     Ok(())
 }
 

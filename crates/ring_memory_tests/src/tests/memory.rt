@@ -6,8 +6,8 @@ use ring_test_support::drought::Drought;
 use ring_test_support::rings::{Case, Rings};
 use ringbuffer::{
     AllocRingBuffer, Command, ConstGenericRingBuffer, GrowableAllocRingBuffer, Reply, RingBuffer,
-    RingBufferDrainingIterator, RingBufferIterator, RingBufferMutIterator, RunFault, apply, run,
-    run_into,
+    RingBufferDrainingIterator, RingBufferIntoIterator, RingBufferIterator, RingBufferMutIterator,
+    RunFault, apply, run, run_into,
 };
 use std::alloc::AllocError;
 use std::mem::size_of;
@@ -41,15 +41,17 @@ fn rings_of_a_gibibyte_give_back_their_memory(rt: HostRuntime) -> Result<(), All
 
 #[test]
 fn large_capacities_are_had_where_there_is_memory(rt: HostRuntime) -> Result<(), AllocError> {
+    fn on<R: RingBuffer<i64> + Drop>(rt: &impl Abort, mut ring: R) {
+        push_all(rt, &mut ring, &[1, 2]);
+        assert_holds(rt, &ring, &[1, 2]);
+    }
     for capacity in [(1 << 16) + 1, (1 << 20) + 1, 1 << 24, (1 << 24) + 1] {
-        let mut heap = AllocRingBuffer::new(rt.alloc(), capacity)?;
+        let heap = AllocRingBuffer::new(rt.alloc(), capacity)?;
         assert_eq!(rt; heap.capacity(), capacity);
-        push_all(&rt, &mut heap, &[1, 2]);
-        assert_holds(&rt, &heap, &[1, 2]);
-        let mut growable = GrowableAllocRingBuffer::with_capacity(rt.alloc(), capacity)?;
+        on(&rt, heap);
+        let growable = GrowableAllocRingBuffer::with_capacity(rt.alloc(), capacity)?;
         assert!(rt; growable.capacity() >= capacity);
-        push_all(&rt, &mut growable, &[1, 2]);
-        assert_holds(&rt, &growable, &[1, 2]);
+        on(&rt, growable);
     }
     Ok(())
 }
@@ -127,10 +129,9 @@ fn a_refused_extension_keeps_what_there_was_room_for(rt: HostRuntime) -> Result<
     let extended = ring.extend([3, 4, 5]);
     drop(drought);
     assert!(rt; extended.is_err());
-    assert!(rt; (2..5).contains(&ring.len()));
-    for (item, kept) in ring.iter().zip([1, 2, 3, 4]) {
-        assert_eq!(rt; *item, kept);
-    }
+    let held = ring.len();
+    assert!(rt; (2..5).contains(&held));
+    assert_holds(&rt, &ring, &[1, 2, 3, 4][..held]);
     Ok(())
 }
 
@@ -235,6 +236,25 @@ fn walks_take_no_memory(rt: HostRuntime) -> Result<(), AllocError> {
     Rings::<3>::each(&rt, &WalksTakeNone)
 }
 
+fn assert_read<R: RingBuffer<i64>>(rt: &impl Abort, walk: RingBufferIterator<'_, i64, R>) {
+    assert!(rt; walk.copied().eq([1, 5, 3]));
+}
+
+fn write_first<R: RingBuffer<i64>>(rt: &impl Abort, mut walk: RingBufferMutIterator<'_, i64, R>) {
+    *walk.next().expect(rt, "an item") = 4;
+}
+
+fn assert_drains_first<R: RingBuffer<i64>>(
+    rt: &impl Abort,
+    mut walk: RingBufferDrainingIterator<'_, i64, R>,
+) {
+    assert_eq!(rt; walk.next(), Some(4));
+}
+
+fn assert_rest<R: RingBuffer<i64> + Drop>(rt: &impl Abort, walk: RingBufferIntoIterator<i64, R>) {
+    assert!(rt; walk.eq([5, 3]));
+}
+
 // No trait that the rings share has the indexes, `iter`, `iter_mut`, `drain` and `into_iter`, so the body is a macro.
 macro_rules! assert_own_calls_take_none {
     ($rt:ident, $ring:expr) => {
@@ -244,10 +264,10 @@ macro_rules! assert_own_calls_take_none {
         let drought = Drought::total($rt.alloc())?;
         assert_eq!($rt; ring[4], 2);
         ring[4] = 5;
-        assert!($rt; ring.iter().copied().eq([1, 5, 3]));
-        *ring.iter_mut().next().expect(&$rt, "an item") = 4;
-        assert_eq!($rt; ring.drain().next(), Some(4));
-        assert!($rt; ring.into_iter().eq([5, 3]));
+        assert_read(&$rt, ring.iter());
+        write_first(&$rt, ring.iter_mut());
+        assert_drains_first(&$rt, ring.drain());
+        assert_rest(&$rt, ring.into_iter());
         drop(drought);
     };
 }

@@ -1,5 +1,5 @@
 -- What array slots end as, where an item of theirs is lent for writing.
-use Rattle.std.specs.Prelude.{ℕ, Some, slice_set}
+use Rattle.std.specs.Prelude.{ℕ, slice_set}
 use Rattle.std.specs.Borrow.{Lends, Fml, RattleType, MutBor}
 use Rattle.std.specs.contracts.option.Option as option
 use Rattle.ring_slots.specs.Slots.{Slots, changed}
@@ -10,10 +10,6 @@ use Rattle.ring_slots.specs.contracts.array.ArraySlots as slots
 abbrev pub lends_cell : (X N : RattleType) → MutBor (the_row X N).Denot → ℕ → MutBor X.Denot → Fml
 lends_cell X N cells place r =
     Lends (the_row X N) X cells r (λ x. record { xs = slice_set cells.now.xs place x })
-
--- once the borrow r ends, the slots are after one change, and the slot at the place holds the last value written through r
-abbrev pub lends_item : (T CAP : RattleType) → MutBor (Slots T.Denot) → ℕ → MutBor T.Denot → Fml
-lends_item T CAP s place r = Lends (slots.the_row T CAP) T s r (λ x. changed s.now place (Some x))
 
 -- once the borrow r ends, the slots are after one change, and the slot at the place is the last value written through r
 abbrev pub lends_slot : (T CAP : RattleType) → MutBor (Slots T.Denot) → ℕ → MutBor (option.the_row T).Denot → Fml

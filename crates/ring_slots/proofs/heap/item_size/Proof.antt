@@ -1,13 +1,15 @@
 -- The size is a word of its own here. It is capped at what a word holds.
-use Rattle.ring_slots.proofs.Walk.{refl, List, [], ◌∷◌, ℕ, zero, suc, ◌<◌, ◌^◌, arith, a_type, w64, inst_fn, Val, vint, ftrue, size, capped, capped_fits, capped_is, capped_small, ‵, raw, ◌⊛◌, ◌$◌, ◌∵◌, !, qed, move, keep, join, fjoin, feq_i, flt_i, split, suffices, done, size_word, of_opd, returns, enter, alloc_all, pass_all, free_all, look_at, sets, ◌⊑◌, fact, layout, layouts, nothing, alive, says, ends_at, proved}
+use Rattle.ring_slots.proofs.Walk.{◌≡◌, refl, List, [], ◌∷◌, ℕ, ◌^◌, arith, a_type, w64, inst_fn, Val, vint, ftrue, size, capped, capped_fits, ‵, raw, ◌⊛◌, ◌$◌, ◌∵◌, !, qed, move, keep, join, fjoin, feq_i, flt_i, split, suffices, done, size_word, of_opd, returns, enter, alloc_all, pass_all, free_all, look_at, sets, ◌⊑◌, fact, layout, layouts, nothing, alive, says, ends_at, proved}
+use Rattle.std.specs.Prelude.{◌-◌, min, Bool, true, false, cond, ltb}
+use Rattle.std.proofs.lemmas.Bool.{ltb-true, ltb-false}
 use Rattle.ring_slots.specs.contracts.heap.item_size as contract
 use Rattle.ring_slots.proofs.heap.item_size.Statement.{statement}
 use Rattle.ring_slots.proofs.heap.item_size.Code as code
 
--- nothing is capped to no size
-some_bytes : (bytes : ℕ) → 0 < capped bytes → 0 < bytes
-some_bytes zero some = some
-some_bytes (suc bytes) some = omega arith
+-- the cap is the lesser of the size and the greatest word
+least : (bytes : ℕ) (fits : Bool) → ltb bytes (2 ^ 64) ≡ fits → cond fits bytes (2 ^ 64 - 1) ≡ min bytes (2 ^ 64 - 1)
+least bytes true e = omega (arith, ltb-true bytes (2 ^ 64) e)
+least bytes false e = omega (arith, ltb-false bytes (2 ^ 64) e)
 
 pub item_size_spec : {M : Type 1} → statement M
 item_size_spec 𝓤 𝓛 𝓜 𝓡 wired X L =
@@ -21,6 +23,6 @@ item_size_spec 𝓤 𝓛 𝓜 𝓡 wired X L =
     sets ! (of_opd ! (size_word !)) refl (tt, record { fits = fits }) $
     returns ! (look_at ! 0 refl) $ free_all ! refl $
     suffices ! _ (ends_at 𝓛 (contract.ended X) tt clauses ((κs, qs, bounds, a, tt), tt) (vint w64 (capped bytes)) (capped bytes) tt tt) $
-    says ! ((λ small. capped_is bytes (omega (arith, capped_small bytes small))), (λ some. some_bytes bytes some)) $
+    says ! (least bytes (ltb bytes (2 ^ 64)) refl) $
     flt_i ! (capped bytes) (2 ^ 64) fits $ feq_i ! (List Val) (vint w64 (capped bytes) ∷ []) (vint w64 (capped bytes) ∷ []) refl $ fjoin ! $
     nothing ! $ join ! $ move ! (1 ∷ 0 ∷ []) $ join ! $ done !))

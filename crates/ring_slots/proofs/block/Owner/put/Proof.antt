@@ -25,8 +25,8 @@ put_spec 𝓤 𝓛 𝓜 𝓡 wired X L =
     let Post : Val → SProp 𝓤 = (walk_of 𝓛 (contract.ended X) (stayed X) clauses).post y in
     qed 𝓛 (((‵ (flft κs.0 qs.0) ⊛ ‵ (flft κs.1.0 qs.1.0) ⊛ ‵ ftrue)
     ⊛ ‵ ((MutRef (named 0) κs.0 (Seen X)).own_val a.0 vss.0) ⊛ ‵ (RawPtr.own_val ptr vss.1.0) ⊛ ‵ (usize.own_val place vss.1.1.0) ⊛ ‵ ((R X).own_val item vss.1.1.1.0) ⊛ ‵ ftrue)
-    ∷ (raw (fact 𝓤 (κs.1.0 ⊑ X.lives)) ⊛ raw (fact 𝓤 ((ptr ≡ d.at) × (place < length d.slots) × (get_or d.slots place None ≡ None)))) ∷ []) ∵
-    move ! (1 ∷ []) $ split ! $ drop ! $ heard ! _ (λ empty.
+    ∷ (raw (fact 𝓤 (κs.1.0 ⊑ X.lives)) ⊛ raw (fact 𝓤 (ptr ≡ d.at)) ⊛ raw (fact 𝓤 (place < length d.slots)) ⊛ raw (fact 𝓤 (get_or d.slots place None ≡ None))) ∷ []) ∵
+    move ! (1 ∷ []) $ split ! $ drop ! $ split ! $ heard ! _ (λ same. split ! $ heard ! _ (λ within. heard ! _ (λ empty.
     split ! $ split ! $ move ! (2 ∷ []) $ split3 ! $ fsplit3 ! $ feq_l ! (λ refers.
     move ! (2 ∷ []) $ feq_l ! (λ pointed. move ! (2 ∷ []) $ split3 ! $ fsplit ! $ feq_l ! (λ placed. flt_l ! (λ fits.
     peeks ! (R X) (Is (R X)) (shows 𝓛 (R X)) item vss.1.1.1.0 (λ is.
@@ -36,17 +36,16 @@ put_spec 𝓤 𝓛 𝓜 𝓡 wired X L =
     keep ! (2 ∷ 3 ∷ 4 ∷ 5 ∷ 0 ∷ []) $
     enter ! _ _ _ _ _ $ alloc_all ! (λ l. pass_all ! refl ((tt, tt), (pointer_good ptr, ((tt, record { fits = fits }), (good, tt)))) $
     slots_opened X ! tt d rb ro (λ us b o lies fit.
-    let within : place < length d.slots = empty.1 in
     let near = place_fits place (length d.slots) bytes within fit in
     let at : ℕ = place * bytes + o in
     let new : (Seen X).Denot = with_slot d place (Some item) in
-    take_at ! 2 $ rewrite ! 0 (λ (p : Ptr). ‵ (fat full_share ty_ptr (l 2) 0 (ptr_val p))) (empty.0 ∙ lies) refl $ give_at ! 2 $
+    take_at ! 2 $ rewrite ! 0 (λ (p : Ptr). ‵ (fat full_share ty_ptr (l 2) 0 (ptr_val p))) (same ∙ lies) refl $ give_at ! 2 $
     first ! $ blocks ! $
     sets ! (bin ! (get ! refl) (size_lit ! (record { fits = near.0 })) (record { fits = near.1 })) refl (tt, record { fits = near.1 }) $
     sets ! (bin ! (get ! refl) (get ! refl) tt) refl (tt, tt) $
     sets ! (of_opd ! (get ! refl)) refl good $
     use1 𝓛 (‵ (slot (R X) b at (get_or d.slots place None)) ⊛ ‵ (others X b o d.slots place)) (slot_out X b 𝓛 d.slots place o within) $ split ! $
-    rewrite ! 0 (λ (c : Option X.Denot). ‵ (slot (R X) b at c)) empty.2 refl $ as_written ! (layout X) b at $
+    rewrite ! 0 (λ (c : Option X.Denot). ‵ (slot (R X) b at c)) empty refl $ as_written ! (layout X) b at $
     assigns_last ! (of_opd ! (get ! refl)) (through ! refl (stop !)) (init ! 0 refl good) $
     exec ! 𝓣.C 𝓣.Λ (env fn.locals l) (after 1 fn.body) (at_ret _ Post) $ sets ! (of_opd ! (unit_lit !)) refl (tt, tt) $
     -- [the slot; the others; the mark; its cell; the open borrow, in three entries; the other tokens; the item]
@@ -57,4 +56,4 @@ put_spec 𝓤 𝓛 𝓜 𝓡 wired X L =
     suffices ! _ (ends_at 𝓛 (contract.ended X) (stayed X) clauses y vunit tt (new, (tt, (tt, (tt, tt)))) (tt, (tt, (tt, (tt, tt))))) $ says ! refl $
     join ! $ frame ! $ feq_i ! (List Val) vss.0 (vptr rb ro ∷ []) refers $ fjoin3 ! $
     nothing ! $ nothing ! $ fjoin ! $ nothing ! $ fjoin ! $ nothing ! $ fjoin ! $ move ! (1 ∷ 0 ∷ []) $ fjoin ! $ frame ! $
-    feq_i ! (List Val) (vunit ∷ []) (vunit ∷ []) refl $ done !)))))))))
+    feq_i ! (List Val) (vunit ∷ []) (vunit ∷ []) refl $ done !)))))))))))

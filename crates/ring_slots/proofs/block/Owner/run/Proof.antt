@@ -35,8 +35,8 @@ run_spec 𝓤 𝓛 𝓜 𝓡 wired X L =
     let Post : Val → SProp 𝓤 = (walk_of 𝓛 (contract.ended X) (stayed X) clauses).post y in
     qed 𝓛 (((‵ (flft κ qs.0) ⊛ ‵ (flft κs.1.0 qs.1.0) ⊛ ‵ ftrue)
     ⊛ ‵ ((ShrRef (named 0) κ (Seen X)).own_val a.0 vss.0) ⊛ ‵ (RawPtr.own_val ptr vss.1.0) ⊛ ‵ (usize.own_val from vss.1.1.0) ⊛ ‵ (usize.own_val len vss.1.1.1.0) ⊛ ‵ ftrue)
-    ∷ (raw (fact 𝓤 (κs.1.0 ⊑ X.lives)) ⊛ raw (fact 𝓤 ((ptr ≡ d.at) × IsFullRun d.slots from len))) ∷ []) ∵
-    move ! (1 ∷ []) $ split ! $ drop ! $ heard ! _ (λ full.
+    ∷ (raw (fact 𝓤 (κs.1.0 ⊑ X.lives)) ⊛ raw (fact 𝓤 (ptr ≡ d.at)) ⊛ raw (fact 𝓤 (IsFullRun d.slots from len))) ∷ []) ∵
+    move ! (1 ∷ []) $ split ! $ drop ! $ split ! $ heard ! _ (λ same. heard ! _ (λ full.
     split ! $ split ! $ move ! (2 ∷ []) $ split3 ! $ fsplit ! $ feq_l ! (λ refers.
     move ! (1 ∷ []) $ feq_l ! (λ pointed. move ! (1 ∷ []) $ split3 ! $ fsplit ! $ feq_l ! (λ from_is. flt_l ! (λ fits_from. fsplit ! $ feq_l ! (λ len_is. flt_l ! (λ fits_len.
     regoal ! (λ (ws : List Val × List Val × List Val × List Val). prop (WpFn 𝓤 𝓛.H 𝓣.C 𝓣.Λ fn (ws.0 ++ (ws.1 ++ (ws.2 ++ (ws.3 ++ [])))) Post)) (λ i. (refers i, pointed i, from_is i, len_is i)) refl $
@@ -44,15 +44,15 @@ run_spec 𝓤 𝓛 𝓜 𝓡 wired X L =
     enter ! _ _ _ _ _ $ alloc_all ! (λ l. pass_all ! refl ((tt, tt), (pointer_good ptr, ((tt, record { fits = fits_from }), ((tt, record { fits = fits_len }), tt)))) $
     unhide ! $ fsplit ! $ drop ! $
     in_a_block ! d.at (λ p. lent (R X) p d.slots κ) (id⊢ 𝓤 (never 𝓤)) (λ b o lies. fsplit ! $ flt_l ! (λ fit.
-    let xs : List X.Denot = full.1.1.0 in let holds = full.1.1.1 in
-    let long = run_long d.slots from len xs full.1.0 holds in
-    let fits = run_fits from len (length d.slots) bytes full.1.0 fit in
+    let xs : List X.Denot = full.1.0 in let holds = full.1.1 in
+    let long = run_long d.slots from len xs full.0 holds in
+    let fits = run_fits from len (length d.slots) bytes full.0 fit in
     let at : ℕ = from * bytes + o in
-    take_at ! 2 $ rewrite ! 0 (λ (p : Ptr). ‵ (fat full_share ty_ptr (l 2) 0 (ptr_val p))) (full.0 ∙ lies) refl $ give_at ! 2 $
+    take_at ! 2 $ rewrite ! 0 (λ (p : Ptr). ‵ (fat full_share ty_ptr (l 2) 0 (ptr_val p))) (same ∙ lies) refl $ give_at ! 2 $
     first ! $ blocks ! $
     sets ! (is ! (bin ! (get ! refl) (size_word !) (record { fits = rw (product_is from bytes fits.0) fits.0 })) (ap (vint w64) (product_is from bytes fits.0))) refl (tt, record { fits = fits.0 }) $
     sets ! (bin ! (get ! refl) (get ! refl) tt) refl (tt, tt) $
-    use1 𝓛 (‵ (elements_shared (R X) xs b at κ)) (run_seen X b 𝓛 κ d.slots from len o xs full.1.0 holds) $ hide ! $
+    use1 𝓛 (‵ (elements_shared (R X) xs b at κ)) (run_seen X b 𝓛 κ d.slots from len o xs full.0 holds) $ hide ! $
     sets_last ! (agg ! (and_then ! (get ! refl) (and_then ! (get ! refl) (no_more !)))) refl (tt, (tt, (record { fits = fits_len }, tt))) $
     exec ! 𝓣.C 𝓣.Λ (env fn.locals l) (after 1 fn.body) (at_ret _ Post) $ sets ! (of_opd ! (get ! refl)) refl (tt, (tt, (record { fits = fits_len }, tt))) $
     -- [the items; the token; the other tokens]
@@ -60,4 +60,4 @@ run_spec 𝓤 𝓛 𝓜 𝓡 wired X L =
     suffices ! _ (ends_at 𝓛 (contract.ended X) (stayed X) clauses y (slice_val (b, at) len) (record { ref_ptr = (b, at); now = xs }) (tt, (tt, (tt, (tt, tt)))) (tt, (tt, (tt, (tt, tt))))) $ says ! holds $
     join ! $ frame ! $ nothing ! $ nothing ! $ fjoin ! $ nothing ! $ fjoin ! $ nothing ! $ fjoin ! $ nothing ! $ fjoin ! $ frame ! $
     flt_i ! (length xs * bytes) (2 ^ 63) (rw long fits.1) $ flt_i ! (length xs) (2 ^ 64) (rw long fits_len) $ fjoin ! $
-    feq_i ! (List Val) (slice_val (b, at) len ∷ []) (slice_val (b, at) (length xs) ∷ []) (ap (λ (k : ℕ). slice_val (b, at) k ∷ []) (sym long)) $ fjoin ! $ fjoin ! $ done !)))))))))))
+    feq_i ! (List Val) (slice_val (b, at) len ∷ []) (slice_val (b, at) (length xs) ∷ []) (ap (λ (k : ℕ). slice_val (b, at) k ∷ []) (sym long)) $ fjoin ! $ fjoin ! $ done !))))))))))))

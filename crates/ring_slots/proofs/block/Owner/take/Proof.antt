@@ -25,20 +25,20 @@ take_spec 𝓤 𝓛 𝓜 𝓡 wired X L =
     let Post : Val → SProp 𝓤 = (walk_of 𝓛 (contract.ended X) (stayed X) clauses).post y in
     qed 𝓛 (((‵ (flft κs.0 qs.0) ⊛ ‵ (flft κs.1.0 qs.1.0) ⊛ ‵ ftrue)
     ⊛ ‵ ((MutRef (named 0) κs.0 (Seen X)).own_val a.0 vss.0) ⊛ ‵ (RawPtr.own_val ptr vss.1.0) ⊛ ‵ (usize.own_val place vss.1.1.0) ⊛ ‵ ftrue)
-    ∷ (raw (fact 𝓤 (κs.1.0 ⊑ X.lives)) ⊛ raw (fact 𝓤 ((ptr ≡ d.at) × IsSome (get_or d.slots place None)))) ∷ []) ∵
-    move ! (1 ∷ []) $ split ! $ drop ! $ heard ! _ (λ full.
+    ∷ (raw (fact 𝓤 (κs.1.0 ⊑ X.lives)) ⊛ raw (fact 𝓤 (ptr ≡ d.at)) ⊛ raw (fact 𝓤 (IsSome (get_or d.slots place None)))) ∷ []) ∵
+    move ! (1 ∷ []) $ split ! $ drop ! $ split ! $ heard ! _ (λ same. heard ! _ (λ full.
     split ! $ split ! $ move ! (2 ∷ []) $ split3 ! $ fsplit3 ! $ feq_l ! (λ refers.
     move ! (2 ∷ []) $ feq_l ! (λ pointed. move ! (2 ∷ []) $ split ! $ fsplit ! $ feq_l ! (λ placed. flt_l ! (λ fits.
     regoal ! (λ (ws : List Val × List Val × List Val). prop (WpFn 𝓤 𝓛.H 𝓣.C 𝓣.Λ fn (ws.0 ++ (ws.1 ++ (ws.2 ++ []))) Post)) (λ i. (refers i, pointed i, placed i)) refl $
     keep ! (1 ∷ 2 ∷ 3 ∷ 4 ∷ []) $
     enter ! _ _ _ _ _ $ alloc_all ! (λ l. pass_all ! refl ((tt, tt), (pointer_good ptr, ((tt, record { fits = fits }), tt))) $
     slots_opened X ! tt d rb ro (λ us b o lies fit.
-    let held = item_of (get_or d.slots place None) full.1 in let x : X.Denot = held.0 in
+    let held = item_of (get_or d.slots place None) full in let x : X.Denot = held.0 in
     let within = full_within d.slots place x held.1 in
     let near = place_fits place (length d.slots) bytes within fit in
     let at : ℕ = place * bytes + o in
     let new : (Seen X).Denot = with_slot d place None in
-    take_at ! 2 $ rewrite ! 0 (λ (p : Ptr). ‵ (fat full_share ty_ptr (l 2) 0 (ptr_val p))) (full.0 ∙ lies) refl $ give_at ! 2 $
+    take_at ! 2 $ rewrite ! 0 (λ (p : Ptr). ‵ (fat full_share ty_ptr (l 2) 0 (ptr_val p))) (same ∙ lies) refl $ give_at ! 2 $
     first ! $ blocks ! $
     sets ! (bin ! (get ! refl) (size_lit ! (record { fits = near.0 })) (record { fits = near.1 })) refl (tt, record { fits = near.1 }) $
     sets ! (bin ! (get ! refl) (get ! refl) tt) refl (tt, tt) $
@@ -57,4 +57,4 @@ take_spec 𝓤 𝓛 𝓜 𝓡 wired X L =
     returns ! (look_at ! 0 refl) $ free_all ! refl $ keep ! (2 ∷ 4 ∷ 0 ∷ 1 ∷ 3 ∷ []) $
     suffices ! _ (ends_at 𝓛 (contract.ended X) (stayed X) clauses y v x (new, (tt, (tt, tt))) (tt, (tt, (tt, tt)))) $ says_both ! held.1 refl $
     join ! $ frame ! $ feq_i ! (List Val) vss.0 (vptr rb ro ∷ []) refers $ fjoin3 ! $
-    nothing ! $ nothing ! $ fjoin ! $ nothing ! $ fjoin ! $ move ! (1 ∷ 0 ∷ []) $ fjoin ! $ frame ! $ done !))))))))))
+    nothing ! $ nothing ! $ fjoin ! $ nothing ! $ fjoin ! $ move ! (1 ∷ 0 ∷ []) $ fjoin ! $ frame ! $ done !)))))))))))

@@ -3,10 +3,7 @@
 ghost use Rattle.std.specs.Prelude.{◌<◌, ◌^◌};
 
 use ring_test_support::rings::Twin;
-use ringbuffer::{
-    AllocRingBuffer, ConstGenericRingBuffer, GrowableAllocRingBuffer, RingBuffer,
-    RingBufferIterator,
-};
+use ringbuffer::{AllocRingBuffer, ConstGenericRingBuffer, GrowableAllocRingBuffer, RingBuffer};
 use std::alloc::{AllocError, Global};
 use std::cell::Cell;
 use std::process::Abort;
@@ -89,12 +86,10 @@ impl Supply {
         self.given.get()
     }
 
-    /// How often the item of this number was dropped.
-    pub fn drops_of(&self, rt: &impl Abort, number: usize) -> u8 {
-        self.drops
-            .get(number)
-            .expect(rt, "a count for the item")
-            .get()
+    /// The item of this number was dropped so often.
+    pub fn assert_drops(&self, rt: &impl Abort, number: usize, wanted: u8) {
+        let drops = self.drops.get(number).expect(rt, "a count for the item");
+        assert_eq!(rt; drops.get(), wanted, "item {number}");
     }
 
     // Counts a drop of the item of this number.
@@ -117,7 +112,7 @@ impl Supply {
     pub fn assert_all_dropped_but(&self, rt: &impl Abort, first: usize) {
         for number in 0..self.given() {
             let wanted = if number < first { 0 } else { 1 };
-            assert_eq!(rt; self.drops_of(rt, number), wanted, "item {number}");
+            self.assert_drops(rt, number, wanted);
         }
     }
 
@@ -163,8 +158,9 @@ pub fn push_items<'a, R: RingBuffer<Counted<'a>>>(
 
 /// The ring holds items that are numbered in order, from this number on.
 pub fn assert_numbered<'a, R: RingBuffer<Counted<'a>>>(rt: &impl Abort, ring: &R, first: usize) {
-    for (i, item) in RingBufferIterator::new(ring).enumerate() {
-        assert_eq!(rt; item.number, i.saturating_add(first));
+    for i in 0..ring.len() {
+        let number = ring.get(i).expect(rt, "an item").number;
+        assert_eq!(rt; number, i.saturating_add(first));
     }
 }
 

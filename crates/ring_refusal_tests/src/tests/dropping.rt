@@ -28,17 +28,17 @@ impl<'a> CountedCase<Counted<'a>, &'a Supply> for HandsBack {
             let Ok(overwritten) = ring.push(supply.item(rt)) else {
                 panic!(rt; "the push of {number} was refused");
             };
-            assert_eq!(rt; supply.drops_of(rt, old), 0);
+            supply.assert_drops(rt, old, 0);
             match overwritten {
                 Some(item) => {
                     assert!(rt; self.overwrites);
                     assert_eq!(rt; item.number, old);
                     drop(item);
-                    assert_eq!(rt; supply.drops_of(rt, old), 1);
+                    supply.assert_drops(rt, old, 1);
                 }
                 None => assert!(rt; !self.overwrites),
             }
-            assert_eq!(rt; supply.drops_of(rt, number), 0);
+            supply.assert_drops(rt, number, 0);
         }
         drop(ring);
         supply.assert_each_dropped(rt);
@@ -67,14 +67,14 @@ impl<'a> CountedCase<Counted<'a>, &'a Supply> for HandsBackToNobody {
     ) -> Result<(), AllocError> {
         push_items(rt, &mut ring, supply, 1);
         let _ = ring.push(supply.item(rt));
-        assert_eq!(rt; supply.drops_of(rt, 0), self.overwritten);
-        assert_eq!(rt; supply.drops_of(rt, 1), 0);
+        supply.assert_drops(rt, 0, self.overwritten);
+        supply.assert_drops(rt, 1, 0);
         let _ = ring.enqueue(supply.item(rt));
-        assert_eq!(rt; supply.drops_of(rt, 1), self.overwritten);
-        assert_eq!(rt; supply.drops_of(rt, 2), 0);
+        supply.assert_drops(rt, 1, self.overwritten);
+        supply.assert_drops(rt, 2, 0);
         let _ = apply(&mut ring, Command::Push(supply.item(rt)));
-        assert_eq!(rt; supply.drops_of(rt, 2), self.overwritten);
-        assert_eq!(rt; supply.drops_of(rt, 3), 0);
+        supply.assert_drops(rt, 2, self.overwritten);
+        supply.assert_drops(rt, 3, 0);
         drop(ring);
         supply.assert_each_dropped(rt);
         Ok(())
@@ -101,7 +101,7 @@ impl<'a> CountedCase<Counted<'a>, &'a Supply> for Ends {
     ) -> Result<(), AllocError> {
         push_items(rt, &mut ring, supply, 5);
         let taken = ring.dequeue().expect(rt, "an item");
-        assert_eq!(rt; supply.drops_of(rt, taken.number), 0);
+        supply.assert_drops(rt, taken.number, 0);
         drop(taken);
         drop(ring);
         supply.assert_each_dropped(rt);
@@ -154,8 +154,8 @@ impl<'a> CountedCase<Counted<'a>, &'a Supply> for SkipsAndClears {
     ) -> Result<(), AllocError> {
         push_items(rt, &mut ring, supply, 4);
         ring.skip();
-        assert_eq!(rt; supply.drops_of(rt, 0), 1);
-        assert_eq!(rt; supply.drops_of(rt, 1), 0);
+        supply.assert_drops(rt, 0, 1);
+        supply.assert_drops(rt, 1, 0);
         assert!(rt; ring.push(supply.item(rt)).is_ok());
         ring.clear();
         supply.assert_each_dropped(rt);
@@ -185,8 +185,8 @@ impl<'a> CountedCase<Counted<'a>, &'a Supply> for Extends {
     ) -> Result<(), AllocError> {
         push_items(rt, &mut ring, supply, 1);
         ring.extend(supply.items(rt, 4)?)?;
-        assert_eq!(rt; supply.drops_of(rt, 2), self.overwritten);
-        assert_eq!(rt; supply.drops_of(rt, 3), 0);
+        supply.assert_drops(rt, 2, self.overwritten);
+        supply.assert_drops(rt, 3, 0);
         drop(ring);
         supply.assert_each_dropped(rt);
         Ok(())
@@ -211,8 +211,8 @@ impl<'a> CountedCase<Counted<'a>, &'a Supply> for Writes {
     ) -> Result<(), AllocError> {
         push_items(rt, &mut ring, supply, 2);
         *ring.get_mut(1).expect(rt, "an item") = supply.item(rt);
-        assert_eq!(rt; supply.drops_of(rt, 1), 1);
-        assert_eq!(rt; supply.drops_of(rt, 2), 0);
+        supply.assert_drops(rt, 1, 1);
+        supply.assert_drops(rt, 2, 0);
         drop(ring);
         supply.assert_each_dropped(rt);
         Ok(())
@@ -238,11 +238,11 @@ impl<'a> CountedCase<Counted<'a>, &'a Supply> for Drains {
         let mut walk = RingBufferDrainingIterator::new(&mut ring);
         let taken = walk.next().expect(rt, "an item");
         assert_eq!(rt; taken.number, 0);
-        assert_eq!(rt; supply.drops_of(rt, 0), 0);
+        supply.assert_drops(rt, 0, 0);
         drop(walk);
-        assert_eq!(rt; supply.drops_of(rt, 1), 0);
+        supply.assert_drops(rt, 1, 0);
         drop(ring);
-        assert_eq!(rt; supply.drops_of(rt, 0), 0);
+        supply.assert_drops(rt, 0, 0);
         drop(taken);
         supply.assert_each_dropped(rt);
         Ok(())
@@ -267,8 +267,8 @@ impl<'a> CountedCase<Counted<'a>, &'a Supply> for WalksAndEnds {
         push_items(rt, &mut ring, supply, 4);
         let mut walk = RingBufferIntoIterator::new(ring);
         drop(walk.next());
-        assert_eq!(rt; supply.drops_of(rt, 0), 1);
-        assert_eq!(rt; supply.drops_of(rt, 1), 0);
+        supply.assert_drops(rt, 0, 1);
+        supply.assert_drops(rt, 1, 0);
         drop(walk);
         supply.assert_each_dropped(rt);
         Ok(())
@@ -293,10 +293,10 @@ impl<'a> CountedCase<Counted<'a>, &'a Supply> for Commands {
         assert!(rt; apply(&mut ring, Command::Push(supply.item(rt))).is_ok());
         let extension = supply.items(rt, 3)?;
         assert!(rt; apply(&mut ring, Command::Extend(extension)).is_ok());
-        assert_eq!(rt; supply.drops_of(rt, 3), 0);
+        supply.assert_drops(rt, 3, 0);
         let dequeued = apply(&mut ring, Command::Dequeue);
         assert!(rt; apply(&mut ring, Command::Clear).is_ok());
-        assert_eq!(rt; supply.drops_of(rt, 3), 1);
+        supply.assert_drops(rt, 3, 1);
         drop(dequeued);
         drop(ring);
         supply.assert_each_dropped(rt);

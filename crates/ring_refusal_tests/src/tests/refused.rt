@@ -88,7 +88,7 @@ fn a_clone_is_refused_in_turn(rt: HostRuntime) -> Result<(), AllocError> {
     on(&rt, GrowableAllocRingBuffer::new(rt.alloc()), &supply)
 }
 
-/// A list of clones of three items has them in order, and where it was refused they were dropped. Answers whether the
+/// A list of clones of three items has them in order, and where it was refused they were dropped. Returns whether the
 /// list was made.
 fn is_listed(rt: &impl Abort, made: Result<Vec<Counted<'_>>, AllocError>, supply: &Supply) -> bool {
     let is_made = made.is_ok();
@@ -178,7 +178,7 @@ impl<'a> CountedCase<Counted<'a>, &'a Supply> for FillsByClones {
             assert_eq!(rt; ring.len(), clones.min(capacity));
             assert_numbered(rt, &ring, 3);
             assert_eq!(rt; supply.given(), ring.len().saturating_add(3));
-            assert_eq!(rt; supply.drops_of(rt, 2), 1);
+            supply.assert_drops(rt, 2, 1);
         }
         drop(ring);
         supply.assert_each_dropped(rt);
@@ -311,7 +311,7 @@ impl<'a> Clone for Costly<'a> {
 
 #[test]
 fn a_fill_of_a_growable_ring_is_refused_at_each_clone(rt: HostRuntime) -> Result<(), AllocError> {
-    /// Fills the ring in a drought that spares so many bytes. Answers how many items it then held.
+    /// Fills the ring in a drought that spares so many bytes. Returns how many items it then held.
     fn fills<'a, R: RingBuffer<Costly<'a>> + Drop>(
         rt: &(impl Abort + AllocGlobal),
         mut ring: R,
@@ -706,7 +706,7 @@ fn a_run_of_a_growable_ring_stops_at_a_push_onto_a_full_one(
 
 #[test]
 fn places_hold_the_replies_before_a_refusal(rt: HostRuntime) -> Result<(), AllocError> {
-    /// Runs a script into places in a drought that spares so many bytes. Answers how many commands were done.
+    /// Runs a script into places in a drought that spares so many bytes. Returns how many commands were done.
     fn runs<'a, R: RingBuffer<Counted<'a>> + Drop>(
         rt: &(impl Abort + AllocGlobal),
         mut ring: R,

@@ -296,7 +296,7 @@ impl<'a> MadeOf<AllocRingBuffer<Counted<'a>>> for ConstGenericRingBuffer<Counted
     }
 }
 
-/// A ring that was made holds three items, and where it was refused they were dropped. Answers whether it was made.
+/// A ring that was made holds three items, and where it was refused they were dropped. Returns whether it was made.
 fn is_made<'a, R: RingBuffer<Counted<'a>> + Drop>(
     rt: &impl Abort,
     made: Result<R, AllocError>,
@@ -335,7 +335,7 @@ fn items_that_were_moved_in_are_dropped_once(rt: HostRuntime) -> Result<(), Allo
     assert_made::<Three, GrowableAllocRingBuffer<Counted>>(&rt, &supply)
 }
 
-/// Makes a ring of three items in a drought that spares so many bytes. Answers whether it was made.
+/// Makes a ring of three items in a drought that spares so many bytes. Returns whether it was made.
 fn is_made_in_a_drought<'a, S, R>(
     rt: &(impl Abort + AllocGlobal),
     supply: &'a Supply,
@@ -465,7 +465,7 @@ impl MadeOfText for GrowableAllocRingBuffer<char> {
     }
 }
 
-/// Makes a ring of a text in a drought that spares so many bytes. Answers whether it was made.
+/// Makes a ring of a text in a drought that spares so many bytes. Returns whether it was made.
 fn is_spelled_in_a_drought<R: RingBuffer<char> + MadeOfText + Drop>(
     rt: &(impl Abort + AllocGlobal),
     is_lent: bool,
@@ -530,7 +530,7 @@ fn capacity_of<R: RingBuffer<i64> + Drop>(rt: &impl Abort, ring: R) -> usize {
     ring.capacity()
 }
 
-/// Makes a ring, and answers its capacity.
+/// Makes a ring, and returns its capacity.
 fn made_by(rt: &(impl Abort + AllocGlobal), maker: &Maker) -> Result<usize, AllocError> {
     let alloc = rt.alloc();
     Ok(match maker {
@@ -631,7 +631,7 @@ impl<'a> MadeOfClones<Counted<'a>> for GrowableAllocRingBuffer<Counted<'a>> {
 }
 
 /// A ring of clones of three items holds them in order, and where it was refused they were dropped. The three items are
-/// as they were. Answers whether the ring was made.
+/// as they were. Returns whether the ring was made.
 pub fn is_cloned<'a, R: RingBuffer<Counted<'a>> + Drop>(
     rt: &impl Abort,
     made: Result<R, AllocError>,
@@ -646,7 +646,7 @@ pub fn is_cloned<'a, R: RingBuffer<Counted<'a>> + Drop>(
     is_made
 }
 
-/// Clones three items of a supply into a ring, in a drought if it is said what that spares. Answers whether it was made.
+/// Clones three items of a supply into a ring, in a drought if it is said what that spares. Returns whether it was made.
 fn is_made_of_clones<'a, R>(
     rt: &(impl Abort + AllocGlobal),
     supply: &'a Supply,
