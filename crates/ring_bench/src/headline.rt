@@ -25,7 +25,7 @@ pub fn run_on_fixed<T: Drop, R: RingBuffer<T>>(
     let _ = run_into(ring, commands, replies);
 }
 
-/// Runs commands on a ring with a limit, and then others: the two runs leave and answer what one run of all does, and
+/// Runs commands on a ring with a limit, and then others: the two runs leave and return what one run of all does, and
 /// change as few slots.
 pub fn run_twice_on_fixed<T: Drop, R: RingBuffer<T>>(
     ring: &mut R,

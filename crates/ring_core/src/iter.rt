@@ -145,7 +145,7 @@ impl<'rb, T: Drop, RB: RingBuffer<T>> RingBufferMutIterator<'rb, T, RB> {
         }
     }
 
-    /// Lends the first item that is still to come, or answers `None` for good once nothing is left.
+    /// Lends the first item that is still to come, or returns `None` for good once nothing is left.
     pub fn next(&mut self) -> Option<&mut T>
         ensures* writes_back { sem 𝓛 (lends_front T.row RB.row self.entry RB.with_item result) }
         ensures value { option_copied_mut result
@@ -160,7 +160,7 @@ impl<'rb, T: Drop, RB: RingBuffer<T>> RingBufferMutIterator<'rb, T, RB> {
         self.ring.get_mut(at)
     }
 
-    /// Lends the last item that is still to come, or answers `None` for good once nothing is left.
+    /// Lends the last item that is still to come, or returns `None` for good once nothing is left.
     pub fn next_back(&mut self) -> Option<&mut T>
         ensures* writes_back { sem 𝓛
             (lends_back T.row RB.row self.entry RB.contents RB.with_item result) }

@@ -145,12 +145,12 @@ pub trait RingBuffer<T: Drop>: Sized {
             → ChangesSlots (slot_changes self.old) (contents self.old) (slot_changes self.new)
             (contents self.new) 0 };
 
-    /// Drops all items, and then pushes as many answers of `make` as `capacity` said before. An item counts as held
+    /// Drops all items, and then pushes as many results of `make` as `capacity` said before. An item counts as held
     /// only after it is stored.
     ///
     /// # Errors
     ///
-    /// Where memory was refused, which no ring with a limit meets. The answers pushed until then stay.
+    /// Where memory was refused, which no ring with a limit meets. The results pushed until then stay.
     fn fill_with<F: FnMut() -> T + Drop>(&mut self, make: F) -> Result<(), AllocError>
         requires { F.IsAlwaysCallable make }
         ensures made { (last : F) × FoldsTo F.step make (contents self.new) last }
@@ -216,7 +216,7 @@ pub trait RingBuffer<T: Drop>: Sized {
         ensures { option_copied result
             ≡ slice_get (contents self.now) (signed_place (length (contents self.now)) index) };
 
-    /// The item that `get` answers, for writing. A write changes that place alone.
+    /// The item that `get` returns, for writing. A write changes that place alone.
     fn get_mut(&mut self, index: usize) -> Option<&mut T>
         ensures* writes_back { sem 𝓛
             (LendsIf Self.row T.row self.entry result
@@ -225,7 +225,7 @@ pub trait RingBuffer<T: Drop>: Sized {
             ≡ slice_get (contents self.old) (place (length (contents self.old)) index) }
         ensures none { IsNone result ↔ (contents self.old ≡ []) };
 
-    /// The item that `get_signed` answers, for writing. A write changes that place alone.
+    /// The item that `get_signed` returns, for writing. A write changes that place alone.
     fn get_mut_signed(&mut self, index: isize) -> Option<&mut T>
         ensures* writes_back { sem 𝓛
             (LendsIf Self.row T.row self.entry result

@@ -23,7 +23,7 @@ pub enum Command<T> {
     Clear,
 }
 
-/// What a command answers once it is done.
+/// What a command returns once it is done.
 #[derive(Debug, PartialEq, Drop)]
 pub enum Reply<T> {
     /// To `Push`: the item that gave way, or `None` if no item did.
@@ -147,7 +147,7 @@ pub fn run_into<T: Drop, R: RingBuffer<T>>(
     ensures replies_in_turn { OnOk result (replies.new
         ≡ map Some (replies_to (R.limit ring.old) (R.contents ring.old) commands.items)) }
 
-    // By item numbers: what is left and answered is what the numbers held after each step say.
+    // By item numbers: what is left and replied is what the numbers held after each step say.
     ensures contents { OnOk result (R.contents ring.new
         ≡ contents_after (R.limit ring.old) (R.contents ring.old) commands.items) }
     ensures replies { OnOk result (replies.new
@@ -196,7 +196,7 @@ fn store<T: Drop>(replies: &mut Vec<Reply<T>>, reply: Reply<T>)
     replies.push(reply).unwrap();
 }
 
-/// Does the commands in order, and answers the reply to each. It takes the memory for all replies first.
+/// Does the commands in order, and returns the reply to each. It takes the memory for all replies first.
 ///
 /// # Errors
 ///
@@ -216,7 +216,7 @@ pub fn run<T: Drop, R: RingBuffer<T>>(
     ensures replies_in_turn { IfOk result
         (λ r. r.items ≡ replies_to (R.limit ring.old) (R.contents ring.old) commands.items) }
 
-    // By item numbers: what is left and answered is what the numbers held after each step say.
+    // By item numbers: what is left and replied is what the numbers held after each step say.
     ensures contents { OnOk result (R.contents ring.new
         ≡ contents_after (R.limit ring.old) (R.contents ring.old) commands.items) }
     ensures replies { IfOk result

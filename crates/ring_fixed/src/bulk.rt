@@ -62,7 +62,7 @@ impl<T: Drop, S: RingSlots<T>> Fixed<T, S> {
         self.len = len;
     }
 
-    /// Drops all items, and pushes as many answers of `make` as the capacity says. An item counts once it is stored.
+    /// Drops all items, and pushes as many results of `make` as the capacity says. An item counts once it is stored.
     pub fn fill_with<F: FnMut() -> T + Drop>(&mut self, mut make: F, capacity: usize)
         requires callable { F.IsAlwaysCallable make }
         requires sound { IsSound S.seen S.is_size self.old }

@@ -151,7 +151,7 @@ impl<T: Drop, S: RingSlots<T>> Fixed<T, S> {
         self.slots.get(self.slots.place(self.start, index))
     }
 
-    /// The item that `get` answers, for writing.
+    /// The item that `get` returns, for writing.
     #[inline]
     pub fn get_mut(&mut self, index: usize) -> Option<&mut T>
         requires { IsSound S.seen S.is_size self.old }
@@ -171,7 +171,7 @@ impl<T: Drop, S: RingSlots<T>> Fixed<T, S> {
         Some(self.at_mut(index))
     }
 
-    /// The item that `get_signed` answers, for writing.
+    /// The item that `get_signed` returns, for writing.
     #[inline]
     pub fn get_mut_signed(&mut self, index: isize) -> Option<&mut T>
         requires { IsSound S.seen S.is_size self.old }
@@ -264,7 +264,7 @@ impl<T: Drop, S: RingSlots<T>> Fixed<T, S> {
         (next, old)
     }
 
-    // Takes the first item, and answers the next start before it.
+    // Takes the first item, and returns the next start before it.
     #[inline]
     pub(crate) fn take_from(slots: &mut S, start: usize) -> (usize, T)
         requires laid_out { IsLaidOut S.is_size (S.seen slots.old) start }

@@ -60,7 +60,7 @@ pub(crate) fn masked(start: usize, k: usize, mask: usize) -> usize
     (start + k) & mask
 }
 
-// Whether places are found by a mask. At a constant size the program has no such test. An answer of no costs time and
+// Whether places are found by a mask. At a constant size the program has no such test. A no costs time and
 // nothing else, so the contract speaks of a yes alone.
 #[inline]
 fn is_power_of_two(size: usize) -> bool

@@ -30,7 +30,7 @@ impl<const CAP: usize> Pipe<CAP> {
         }
     }
 
-    /// Takes in the first of these bytes, as many as there is room for, and answers how many. It overwrites none.
+    /// Takes in the first of these bytes, as many as there is room for, and returns how many. It overwrites none.
     pub fn receive(&mut self, input: &[u8]) -> usize
         ensures count { result ≡ min (length input.now) (CAP - length self.old) }
         ensures bytes { self.new ≡ self.old ++ take result input.now }
@@ -41,7 +41,7 @@ impl<const CAP: usize> Pipe<CAP> {
         count
     }
 
-    /// Hands out the oldest bytes, as many as there are places for, and answers how many. The other places stay.
+    /// Hands out the oldest bytes, as many as there are places for, and returns how many. The other places stay.
     pub fn send(&mut self, output: &mut [u8]) -> usize
         ensures count { result ≡ min (length output.old) (length self.old) }
         ensures sent { output.new ≡ take result self.old ++ drop result output.old }

@@ -1,7 +1,7 @@
 //! Work to be timed from outside, exported to C.
 //!
 //! Each export makes a ring of u64 items, or a window over one of i64 samples, fills it, does so much work on it, and
-//! answers a number that depends on that work. Its first argument names the work, by the numbers of `Work`. It answers 0 where the work or the array's
+//! returns a number that depends on that work. Its first argument names the work, by the numbers of `Work`. It returns 0 where the work or the array's
 //! capacity isn't one of those named here, where the capacity is 0, and where memory is refused.
 #![tactic(auto)]
 

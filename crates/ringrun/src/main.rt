@@ -1,4 +1,4 @@
-//! `ringrun KIND CAPACITY`: runs the commands of standard input on a ring buffer, and prints what they answer.
+//! `ringrun KIND CAPACITY`: runs the commands of standard input on a ring buffer, and prints what they reply.
 #![tactic(auto)]
 
 mod arguments;

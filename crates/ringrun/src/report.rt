@@ -3,10 +3,10 @@
 use ringbuffer::{Reply, RingBuffer, RingBufferIterator};
 use std::alloc::{AllocError, Global};
 
-// The room that the text has at first for each line that answers a command.
+// The room that the text has at first for each line that replies to a command.
 const USUAL_LINE: usize = b"extended\n".len();
 
-/// An empty text, with room for the answers to so many commands.
+/// An empty text, with room for the replies to so many commands.
 ///
 /// # Errors
 ///

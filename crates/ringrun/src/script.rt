@@ -60,7 +60,7 @@ impl Script {
         Ok(script)
     }
 
-    /// Reads the first line of a text, and answers what follows it if its words are a command or none.
+    /// Reads the first line of a text, and returns what follows it if its words are a command or none.
     fn read_line<'a>(&mut self, text: &'a [u8]) -> Result<Option<&'a [u8]>, AllocError> {
         let (name, rest) = split_word(text);
         if name.is_empty() {
@@ -98,7 +98,7 @@ fn read_command<'a>(
     })
 }
 
-/// Puts the numbers at the front of a text last among the items, and answers how many they are and what follows them.
+/// Puts the numbers at the front of a text last among the items, and returns how many they are and what follows them.
 fn take_numbers<'a>(items: &mut Vec<i64>, text: &'a [u8]) -> Result<(usize, &'a [u8]), AllocError> {
     let before = items.len();
     let mut rest = text;

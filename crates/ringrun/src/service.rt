@@ -18,10 +18,10 @@ use std::io::{Read, Write};
 // How many commands run at a time.
 const BATCH: usize = 1024;
 
-/// Does what `words`, the program's arguments after its name, ask for, and answers the status to end with.
+/// Does what `words`, the program's arguments after its name, ask for, and returns the status to end with.
 ///
 /// It checks the arguments, makes the ring, reads the whole input, reads its lines as commands and runs them. Then it
-/// prints what they answered, in one text that is complete before its first byte is written. Each status but 0 comes
+/// prints what they returned, in one text that is complete before its first byte is written. Each status but 0 comes
 /// with a line on `errors`, where that takes one.
 pub fn serve<I: Read, O: Write, E: Write>(
     alloc: Global,
@@ -46,7 +46,7 @@ pub fn serve<I: Read, O: Write, E: Write>(
     }
 }
 
-/// Writes the fault's line to `errors`, where that takes one, and answers the fault's status.
+/// Writes the fault's line to `errors`, where that takes one, and returns the fault's status.
 pub fn end<E: Write>(fault: Fault, errors: &mut E) -> u8
     ensures { result ≡ status_of fault }
 {
@@ -129,7 +129,7 @@ fn answer_by_grow<I: Read>(alloc: Global, capacity: usize, input: &mut I) -> Res
     answer_by(&mut ring, alloc, input)
 }
 
-/// The text that this ring's answers to the input's commands make.
+/// The text that this ring's replies to the input's commands make.
 fn answer_by<R: RingBuffer<i64>, I: Read>(
     ring: &mut R,
     alloc: Global,
@@ -142,7 +142,7 @@ fn answer_by<R: RingBuffer<i64>, I: Read>(
     run_script(ring, alloc, &script)
 }
 
-/// The text that this ring's answers to a script make. The script is run in batches, so that commands and replies take
+/// The text that this ring's replies to a script make. The script is run in batches, so that commands and replies take
 /// little memory.
 fn run_script<R: RingBuffer<i64>>(
     ring: &mut R,

@@ -12,10 +12,10 @@ use streams::{Refusal, Sink, Source};
 
 const SCRIPT: &[u8] = b"push 5\npush 42\npush 1\ndequeue\n";
 
-/// What a ring of two answers to the script.
+/// What a ring of two replies to the script.
 const ANSWER: &str = "pushed\npushed\npushed over 5\ndequeued 42\nitems 1\n";
 
-/// What a ring of three answers to it, or one without a limit.
+/// What a ring of three replies to it, or one without a limit.
 const ANSWER_WITH_ROOM: &str = "pushed\npushed\npushed\ndequeued 5\nitems 42 1\n";
 
 const USAGE: &str = "usage: ringrun array|heap|grow CAPACITY\n";

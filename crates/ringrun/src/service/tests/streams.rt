@@ -133,7 +133,7 @@ impl Sink {
         str::from_utf8(self.unflushed.as_slice())
     }
 
-    // Counts a call, and answers how it is refused, if it is.
+    // Counts a call, and returns how it is refused, if it is.
     fn next_refusal(&mut self) -> Option<Refusal> {
         self.calls = self.calls.saturating_add(1);
         if self.calls == self.refused_call {
