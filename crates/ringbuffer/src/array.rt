@@ -1,5 +1,5 @@
 //! The ring in an array.
-ghost use Rattle.std.specs.Prelude.{◌≡◌, ◌+◌, ◌<◌, ◌≤◌, [], ◌∷◌, ◌++◌, length, refl, IfErr, IfOk, IfSome, IsOk, IsSome, OnOk, Some, slice_get};
+ghost use Rattle.std.specs.Prelude.{◌≡◌, ◌+◌, ◌-◌, ◌<◌, ◌≤◌, [], ◌∷◌, ◌++◌, length, refl, IfErr, IfOk, IfSome, IsOk, IsSome, OnOk, Some, option_to_list, slice_get};
 ghost use Rattle.std.specs.Borrow.{Lends, sem};
 ghost use Rattle.std.specs.Cmp.{on_per};
 ghost use Rattle.std.specs.Cmp.Lexicographic.{lists_per, pointwise};
@@ -7,7 +7,7 @@ ghost use Rattle.std.specs.List.{AllZip};
 ghost use Rattle.std.proofs.lemmas.Cmp.{lists_equiv, on_equiv};
 ghost use Rattle.ring_core.specs.Contents.{ChangesSlots, keep_last, overwritten, place};
 ghost use Rattle.ring_core.specs.Walk.{ReadsInOrder, ReadsInReverse, StartsOver, into_iter_to_come, iterator_to_come};
-ghost use Rattle.ring_fixed.specs.View.{after_push, after_write};
+ghost use Rattle.ring_fixed.specs.View.{after_keep_newest, after_pop, after_push, after_truncate, after_write};
 
 mod convert;
 
@@ -170,6 +170,32 @@ impl<T: Drop, const CAP: usize> RingBuffer<T> for ConstGenericRingBuffer<T, CAP>
     fn get_mut_signed(&mut self, index: isize) -> Option<&mut T> {
         let item = self.ring.get_mut_signed(index)?;
         Some(item)
+    }
+}
+
+impl<T: Drop, const CAP: usize> ConstGenericRingBuffer<T, CAP> {
+    /// Takes out the newest item, if there is one.
+    #[inline]
+    pub fn pop_back(&mut self) -> Option<T>
+        ensures items { self.old.items ≡ self.new.items ++ option_to_list result }
+        ensures value { result ≡ slice_get self.old.items (length self.old.items - 1) }
+        ensures after { self.new ≡ after_pop self.old }
+    {
+        self.ring.pop_back()
+    }
+
+    /// Keeps the oldest items, as many as `len` says, and drops the others. Does nothing to a ring of no more items.
+    pub fn truncate(&mut self, len: usize)
+        ensures { self.new ≡ after_truncate len self.old }
+    {
+        self.ring.truncate(len);
+    }
+
+    /// Keeps the newest items, as many as `len` says, and drops the others. Does nothing to a ring of no more items.
+    pub fn keep_newest(&mut self, len: usize)
+        ensures { self.new ≡ after_keep_newest len self.old }
+    {
+        self.ring.keep_newest(len);
     }
 }
 
