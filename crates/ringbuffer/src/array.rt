@@ -19,6 +19,7 @@ use ring_fixed::fixed::Fixed;
 use ring_fixed::shared::{extend_cloned, same_items};
 use ring_slots::{ArraySlots, RingSlots};
 use std::alloc::AllocError;
+use std::fmt::{self, Debug, Formatter, Write};
 use std::marker::Model;
 use std::ops::{Index, IndexMut};
 
@@ -314,6 +315,12 @@ impl<T: Clone + Drop, const CAP: usize> ConstGenericRingBuffer<T, CAP> {
         let mut ring = Self::new();
         extend_cloned(&mut ring, self.iter())?;
         Ok(ring)
+    }
+}
+
+impl<T: Debug + Drop, const CAP: usize> Debug for ConstGenericRingBuffer<T, CAP> {
+    fn fmt<W: Write>(&self, f: &mut Formatter<W>) -> fmt::Result {
+        f.debug_list().entries(self).finish()
     }
 }
 

@@ -18,6 +18,7 @@ use ring_core::{
 use ring_fixed::position::{position, signed_position};
 use std::alloc::{AllocError, Global};
 use std::collections::VecDeque;
+use std::fmt::{self, Debug, Formatter, Write};
 use std::marker::Model;
 use std::mem;
 use std::ops::{Index, IndexMut};
@@ -398,6 +399,12 @@ impl<T: Clone + Drop> GrowableAllocRingBuffer<T> {
         Ok(GrowableAllocRingBuffer {
             deque: self.deque.clone()?,
         })
+    }
+}
+
+impl<T: Debug + Drop> Debug for GrowableAllocRingBuffer<T> {
+    fn fmt<W: Write>(&self, f: &mut Formatter<W>) -> fmt::Result {
+        f.debug_list().entries(self).finish()
     }
 }
 

@@ -21,6 +21,7 @@ use ring_fixed::fixed::Fixed;
 use ring_fixed::shared::same_items;
 use ring_slots::{HeapSlots, RingSlots};
 use std::alloc::{AllocError, Global};
+use std::fmt::{self, Debug, Formatter, Write};
 use std::marker::Model;
 use std::ops::{Index, IndexMut};
 use std::vec::VecCloneMethods;
@@ -415,6 +416,12 @@ impl<T: Clone + Drop> AllocRingBuffer<T> {
         let mut ring = Self::new(alloc, capacity)?;
         replace_with(&mut ring.ring, items, Fixed::cloned_from)?;
         Ok(ring)
+    }
+}
+
+impl<T: Debug + Drop> Debug for AllocRingBuffer<T> {
+    fn fmt<W: Write>(&self, f: &mut Formatter<W>) -> fmt::Result {
+        f.debug_list().entries(self).finish()
     }
 }
 

@@ -1,5 +1,4 @@
-use Rattle.std.proofs.Common.{◌++◌, ap, sym}
-use Rattle.std.specs.Prelude.{option_to_list}
+use Rattle.std.proofs.Common.{ap, sym}
 use Rattle.ring_fixed.specs.View.{View}
 use Rattle.ring_fixed.proofs.RepeatedSteps.{last_behind}
 use Rattle.ringbuffer.proofs.heap.AllocRingBuffer.pop_back.Goals as goal
