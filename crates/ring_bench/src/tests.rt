@@ -3,6 +3,8 @@
 //! The body of a test is generic over the ring, and a driver gives it a ring of each type.
 
 mod comparison;
+mod debug;
+mod ends;
 mod fills;
 mod positions;
 mod pushing;

@@ -1,18 +1,18 @@
 -- What the inner steps of a ring do to what it shows.
-use Rattle.std.proofs.Common.{◌≡◌, ℕ, suc, ◌+◌, ◌-◌, ◌%◌, ◌<◌, ◌≤◌, List, [], ◌∷◌, ◌++◌, drop, length, Option, None, Some, refl, sym, ap, ◌∙◌, arith, get_or, replicate, ext_get_or, length-set, length-append}
+use Rattle.std.proofs.Common.{◌≡◌, ℕ, suc, ◌+◌, ◌-◌, ◌%◌, ◌<◌, ◌≤◌, List, [], ◌∷◌, ◌++◌, drop, length, take, Option, None, Some, refl, sym, ap, ◌∙◌, arith, get_or, replicate, ext_get_or, length-set, length-append}
 use Rattle.std.specs.Prelude.{slice_get, min, IsSome}
 use Rattle.std.proofs.Math.ListN.{set}
 use Rattle.std.proofs.Math.Nat.{mod-eq_of_lt, mod-lt}
 use Rattle.std.proofs.lemmas.Grind.{common_steps}
-use Rattle.std.proofs.lemmas.List.{get_or-replicate, length-replicate}
+use Rattle.std.proofs.lemmas.List.{get_or-replicate, length-replicate, length-take}
 use Rattle.std.proofs.lemmas.Option.{slice_get_cases, slice_get_past}
 use Rattle.ring_slots.specs.Slots.{Slots, slot_at, IsEmptyAt, IsFullAt, changed}
-use Rattle.ring_fixed.specs.View.{View, after_put, after_take, after_write}
+use Rattle.ring_fixed.specs.View.{View, after_pop, after_put, after_take, after_write}
 use Rattle.ring_fixed.specs.Layout.{SlotsHold, items_from, view_from, IsLaidOut, LaysOut}
-use Rattle.ring_fixed.proofs.SlotsHold.{items_from-SlotsHold, SlotsHold-put, SlotsHold-take, SlotsHold-write, SlotsHold-none, from_next}
+use Rattle.ring_fixed.proofs.SlotsHold.{items_from-SlotsHold, SlotsHold-pop, SlotsHold-put, SlotsHold-take, SlotsHold-write, SlotsHold-none, from_next}
 
 -- there is an item at an index below the length
-slice_get_some : {A : Type 0} (xs : List A) (k : ℕ) → k < length xs → IsSome (slice_get xs k)
+pub slice_get_some : {A : Type 0} (xs : List A) (k : ℕ) → k < length xs → IsSome (slice_get xs k)
 slice_get_some xs k low = grind (arith, common_steps, slice_get_cases)
 
 -- one step, and then another that works on what the first one shows
@@ -22,7 +22,7 @@ LaysOut-then step first second =
 
 module _ {X : Type 0} {P : ℕ → Type 0} (s : Slots X) (start : ℕ) (laid_out : IsLaidOut P s start) where
   -- items that lie in as many slots are what the ring shows then
-  LaysOut-items : (new : Slots X) (next : ℕ) (xs : List X) → length new.slots ≡ length s.slots → next < length s.slots → length xs ≤ length s.slots
+  pub LaysOut-items : (new : Slots X) (next : ℕ) (xs : List X) → length new.slots ≡ length s.slots → next < length s.slots → length xs ≤ length s.slots
       → SlotsHold new.slots next xs → LaysOut P s new next (record { items = xs; changes = new.changes; capacity = length s.slots })
   LaysOut-items new next xs same within fit lie =
       let is : items_from new.slots next ≡ xs = items_from-SlotsHold new.slots next xs lie (omega arith) in
@@ -60,6 +60,15 @@ module _ {X : Type 0} {P : ℕ → Type 0} (s : Slots X) (start : ℕ) (laid_out
       let items = items_from s.slots start in
       LaysOut-items (changed s ((start + k) % length s.slots) (Some x)) start (set items k x) (length-set s.slots _ (Some x)) laid_out.start_within (rw (length-set items k x) laid_out.fit)
       (SlotsHold-write s.slots start laid_out.start_within items k x laid_out.layout there laid_out.fit)
+
+  -- the last item is taken
+  pub LaysOut-pop : (new : Slots X) (place last : ℕ) → last + 1 ≡ length (items_from s.slots start) → place ≡ (start + last) % length s.slots → new ≡ changed s place None
+      → LaysOut P s new start (after_pop (view_from s start))
+  LaysOut-pop new place last counted found is =
+      let items = items_from s.slots start in let fit = laid_out.fit in
+      let lie = SlotsHold-pop s.slots start laid_out.start_within items last laid_out.layout counted fit in
+      let before : length items - 1 ≡ last = omega arith in let one : s.changes + min (length items) 1 ≡ s.changes + 1 = omega arith in
+      rw (is, found, before, one) (LaysOut-items (changed s ((start + last) % length s.slots) None) start (take last items) (length-set s.slots _ None) laid_out.start_within (omega (arith, length-take last items)) lie)
 
   -- the first of some items is taken
   first_taken : (xs : List X) → SlotsHold s.slots start xs → length xs ≤ length s.slots → 0 < length xs

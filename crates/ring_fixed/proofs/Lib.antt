@@ -1,4 +1,5 @@
 pub mod DroppedRun
+pub mod EmptiedRuns
 pub mod Ends
 pub mod LaysOut
 pub mod LentItem

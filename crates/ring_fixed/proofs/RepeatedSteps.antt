@@ -1,13 +1,18 @@
 -- What steps repeated come to.
-use Rattle.std.proofs.Common.{◌≡◌, ℕ, ◌+◌, ◌-◌, ◌<◌, ◌≤◌, List, Some, ap, ◌∙◌, [], ◌∷◌, ◌++◌, length, drop, refl, arith, append_assoc, append-nil, length-append, length-drop}
-use Rattle.std.specs.Prelude.{min}
+use Rattle.std.proofs.Common.{◌≡◌, ℕ, suc, ◌+◌, ◌-◌, ◌<◌, ◌≤◌, List, Some, ap, sym, ◌∙◌, [], ◌∷◌, ◌++◌, length, take, drop, refl, arith, append_assoc, append-nil, length-append, length-drop}
+use Rattle.std.specs.Prelude.{min, option_to_list, slice_get}
 use Rattle.std.proofs.Math.Seq.{drop-length}
-use Rattle.std.proofs.lemmas.List.{drop-drop}
+use Rattle.std.proofs.lemmas.List.{drop-drop, take_all}
 use Rattle.ring_fixed.specs.View.{View, after_put, after_puts, after_take, after_takes, after_clear, after_push, after_extend}
 use Rattle.ring_core.specs.Contents.{keep_last}
+use Rattle.ring_core.proofs.Items.{take-suc_get}
 use Rattle.ring_core.proofs.Limits.{keep_last-keep_last}
 
 module _ {X : Type 0} where
+  -- the last item behind those before it makes all items
+  pub last_behind : (xs : List X) → take (length xs - 1) xs ++ option_to_list (slice_get xs (length xs - 1)) ≡ xs
+  last_behind xs = let last = length xs - 1 in sym (take-suc_get xs last) ∙ take_all (suc last) xs (omega arith)
+
   pub after_takes-more : (k : ℕ) (v : View X) → k < length v.items → after_take (after_takes k v) ≡ after_takes (k + 1) v
   after_takes-more k v more =
       let one : v.changes + k + min (length (drop k v.items)) 1 ≡ v.changes + (k + 1) = omega (arith, length-drop k v.items) in

@@ -1,5 +1,5 @@
 -- What a change of one slot does to the items that lie in the slots.
-use Rattle.std.proofs.Common.{◌≡◌, ◌≢◌, ℕ, zero, suc, ◌+◌, ◌-◌, ◌%◌, ◌<◌, ◌≤◌, ◌⊎◌, inl, inr, List, [], ◌∷◌, ◌++◌, length, get_or, Option, None, Some, refl, sym, ap, ◌∙◌, arith, length-set, get_or-set_same, get_or-set_other}
+use Rattle.std.proofs.Common.{◌≡◌, ◌≢◌, ℕ, zero, suc, ◌+◌, ◌-◌, ◌%◌, ◌<◌, ◌≤◌, ◌⊎◌, inl, inr, List, [], ◌∷◌, ◌++◌, length, take, get_or, Option, None, Some, refl, sym, ap, ◌∙◌, arith, length-set, get_or-set_same, get_or-set_other}
 use Rattle.std.proofs.Math.ListN.{set}
 use Rattle.std.proofs.Math.Nat.{mod-eq_of_lt, mod-eq-sub-mod, mod-lt}
 use Rattle.std.proofs.Math.Decide.{dec_lt, ℕ_discrete}
@@ -79,6 +79,11 @@ module _ {X : Type 0} (slots : List (Option X)) (start : ℕ) (within : start < 
   pub SlotsHold-write : (xs : List X) (i : ℕ) (x : X) → SlotsHold slots start xs → i < length xs → length xs ≤ length slots
       → SlotsHold (set slots ((start + i) % length slots) (Some x)) start (set xs i x)
   SlotsHold-write xs i x hold there fit = SlotsHold-set xs (set xs i x) i (Some x) hold (omega arith) (grind (arith, common_steps, slice_get_cases)) (λ j other. grind (arith, common_steps, slice_get_cases))
+
+  -- the last item taken
+  pub SlotsHold-pop : (xs : List X) (last : ℕ) → SlotsHold slots start xs → last + 1 ≡ length xs → length xs ≤ length slots
+      → SlotsHold (set slots ((start + last) % length slots) None) start (take last xs)
+  SlotsHold-pop xs last hold counted fit = SlotsHold-set xs (take last xs) last None hold (omega arith) (grind (arith, common_steps, slice_get_cases)) (λ j other. grind (arith, common_steps, slice_get_cases))
 
   -- the first item taken
   pub SlotsHold-take : (x : X) (xs : List X) → SlotsHold slots start (x ∷ xs) → length xs < length slots

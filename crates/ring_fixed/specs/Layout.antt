@@ -1,7 +1,7 @@
 -- How a ring of a fixed capacity lies in its slots.
 use Rattle.std.specs.Prelude.{◌≡◌, ℕ, ◌+◌, ◌-◌, ◌%◌, ◌<◌, ◌≤◌, List, length, slice_index_or, slice_get, Option, None}
 use Rattle.std.specs.List.{filter_map, range_with_len}
-use Rattle.ring_slots.specs.Slots.{Slots}
+use Rattle.ring_slots.specs.Slots.{Slots, IsFullAt, slot_at}
 use Rattle.ring_fixed.specs.View.{View}
 
 module _ {X : Type 0} where
@@ -28,6 +28,18 @@ module _ {X : Type 0} where
   -- what a ring shows of so many items that end before a place
   abbrev pub view_before : Slots X → ℕ → ℕ → View X
   view_before s end len = view_from s (start_before s end len)
+
+  -- each slot from a place up to another holds an item
+  abbrev pub AreFull : Slots X → ℕ → ℕ → Type 0
+  AreFull s from to = (place : ℕ) → from ≤ place → place < to → IsFullAt s place
+
+  -- the slots after a call that emptied those from a place up to another, each by one change, and left the others
+  pub record Empties (old new : Slots X) (from to : ℕ) : Type 0 where
+    pub same_size : length new.slots ≡ length old.slots
+    pub counted : new.changes ≡ old.changes + (to - from)
+    pub before : (place : ℕ) → place < from → slot_at new place ≡ slot_at old place
+    pub emptied : (place : ℕ) → from ≤ place → place < to → slot_at new place ≡ None
+    pub behind : (place : ℕ) → to ≤ place → slot_at new place ≡ slot_at old place
 
 module _ {X : Type 0} (is_size : ℕ → Type 0) where
   -- a ring is laid out in these slots from this start on, every other slot is empty, and places can be found

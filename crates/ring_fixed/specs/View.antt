@@ -1,5 +1,5 @@
 -- What a contract sees of a ring of a fixed capacity, and what each call makes of that.
-use Rattle.std.specs.Prelude.{ℕ, ◌+◌, ◌-◌, min, List, [], ◌∷◌, ◌++◌, drop, length, Some, slice_set}
+use Rattle.std.specs.Prelude.{ℕ, ◌+◌, ◌-◌, min, List, [], ◌∷◌, ◌++◌, drop, length, take, Some, slice_set}
 use Rattle.ring_core.specs.Contents.{keep_last}
 
 -- its items, oldest first, how many changes its slots have had, and how many items it holds at most
@@ -21,6 +21,10 @@ module _ {X : Type 0} where
   abbrev pub after_take : View X → View X
   after_take v = record v { items = drop 1 v.items; changes = v.changes + min (length v.items) 1 }
 
+  -- the last item taken, if there is one, which changes its slot
+  abbrev pub after_pop : View X → View X
+  after_pop v = record v { items = take (length v.items - 1) v.items; changes = v.changes + min (length v.items) 1 }
+
   -- an item pushed: one change for it, and one where the first item gives way
   abbrev pub after_push : ℕ → View X → X → View X
   after_push limit v x =
@@ -34,6 +38,14 @@ module _ {X : Type 0} where
   -- so many items taken, from the first on, each of which changes its slot
   abbrev pub after_takes : ℕ → View X → View X
   after_takes k v = record v { items = drop k v.items; changes = v.changes + k }
+
+  -- so many items kept, from the first on, where each of the others is taken, which changes its slot
+  abbrev pub after_truncate : ℕ → View X → View X
+  after_truncate k v = record v { items = take k v.items; changes = v.changes + (length v.items - k) }
+
+  -- the same, where the last items are kept
+  abbrev pub after_keep_newest : ℕ → View X → View X
+  after_keep_newest k v = record v { items = keep_last (Some k) v.items; changes = v.changes + (length v.items - k) }
 
   -- all items taken
   abbrev pub after_clear : View X → View X

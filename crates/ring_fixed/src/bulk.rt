@@ -2,8 +2,8 @@
 ghost use Rattle.std.specs.Prelude.{◌≡◌, ◌+◌, ◌-◌, ◌%◌, ◌<◌, ◌≤◌, [], ◌++◌, All, IsOk, List, MatchResult, length};
 ghost use Rattle.std.specs.Iterator.{Drains, IsFiniteIterable};
 ghost use Rattle.std.specs.List.{AllZip, FoldsTo};
-ghost use Rattle.ring_fixed.specs.View.{after_put, after_puts, after_takes, after_push, after_extend, after_clear, after_fill};
-ghost use Rattle.ring_fixed.specs.Layout.{EndsBefore, IsLaidOut, LaysOut, LaysOutBefore, start_before, view_before, view_from};
+ghost use Rattle.ring_fixed.specs.View.{after_put, after_puts, after_takes, after_push, after_extend, after_truncate, after_keep_newest, after_clear, after_fill};
+ghost use Rattle.ring_fixed.specs.Layout.{AreFull, Empties, EndsBefore, IsLaidOut, LaysOut, LaysOutBefore, start_before, view_before, view_from};
 
 use crate::fixed::Fixed;
 use ring_slots::RingSlots;
@@ -23,6 +23,27 @@ impl<T: Drop, S: RingSlots<T>> Fixed<T, S> {
         Self::drop_from(&mut self.slots, start, count);
         self.start = self.slots.place(start, count);
         self.len -= count;
+    }
+
+    /// Keeps the first `len` items, and drops the others.
+    pub fn truncate(&mut self, len: usize)
+        requires { IsSound S.seen S.is_size self.old }
+        ensures { ChangesTo S.seen S.is_size self.old self.new
+            (after_truncate len (view_of S.seen self.old)) }
+    {
+        if len < self.len {
+            Self::drop_after(&mut self.slots, self.start, len, self.len);
+            self.len = len;
+        }
+    }
+
+    /// Keeps the last `len` items, and drops the others.
+    pub fn keep_newest(&mut self, len: usize)
+        requires { IsSound S.seen S.is_size self.old }
+        ensures { ChangesTo S.seen S.is_size self.old self.new
+            (after_keep_newest len (view_of S.seen self.old)) }
+    {
+        self.drop_first(self.len.saturating_sub(len));
     }
 
     /// Drops all items. The ring begins at the first slot then.
@@ -153,6 +174,32 @@ impl<T: Drop, S: RingSlots<T>> Fixed<T, S> {
         ensures { LaysOut S.is_size (S.seen slots.old) (S.seen slots.new)
             (to % length (S.seen slots.old).slots)
             (after_takes (to - from) (view_from (S.seen slots.old) from)) }
+    {
+        for place in from..to {
+            slots.discard(place);
+        }
+    }
+
+    // Drops the items from an index on, in two runs of slots: up to the last slot, and on from the first.
+    #[inline]
+    fn drop_after(slots: &mut S, start: usize, kept: usize, len: usize)
+        requires laid_out { IsLaidOut S.is_size (S.seen slots.old) start }
+        requires len { len ≡ length (view_from (S.seen slots.old) start).items }
+        requires within { kept ≤ len }
+        ensures { LaysOut S.is_size (S.seen slots.old) (S.seen slots.new) start
+            (after_truncate kept (view_from (S.seen slots.old) start)) }
+    {
+        let room = slots.size() - start;
+        Self::empty_run(slots, start + kept.min(room), start + len.min(room));
+        Self::empty_run(slots, kept.saturating_sub(room), len.saturating_sub(room));
+    }
+
+    // Drops the items of slots side by side.
+    #[inline]
+    fn empty_run(slots: &mut S, from: usize, to: usize)
+        requires places { from ≤ to }
+        requires full { AreFull (S.seen slots.old) from to }
+        ensures { Empties (S.seen slots.old) (S.seen slots.new) from to }
     {
         for place in from..to {
             slots.discard(place);

@@ -1,9 +1,9 @@
 //! What the two rings of a fixed capacity share: items that lie in slots, counted round from a start.
-ghost use Rattle.std.specs.Prelude.{◌≡◌, ◌+◌, ◌%◌, ◌<◌, ◌≤◌, ◌↔◌, List, [], length, IfSome, IsNone, None, Some, replicate, slice_get};
+ghost use Rattle.std.specs.Prelude.{◌≡◌, ◌+◌, ◌-◌, ◌%◌, ◌<◌, ◌≤◌, ◌↔◌, List, [], length, IfSome, IsNone, None, Some, replicate, slice_get};
 ghost use Rattle.std.specs.Borrow.{Lends, LendsIf, sem};
 ghost use Rattle.std.specs.Option.{option_copied, option_copied_mut};
 ghost use Rattle.ring_core.specs.Contents.{overwritten, place, signed_place};
-ghost use Rattle.ring_fixed.specs.View.{after_put, after_take, after_push};
+ghost use Rattle.ring_fixed.specs.View.{after_put, after_take, after_pop, after_push};
 ghost use Rattle.ring_fixed.specs.Layout.{IsLaidOut, LaysOut, view_from};
 
 use crate::position::{position, signed_position};
@@ -113,6 +113,25 @@ impl<T: Drop, S: RingSlots<T>> Fixed<T, S> {
         }
         let (start, item) = Self::take_from(&mut self.slots, self.start);
         self.start = start;
+        self.len = len - 1;
+        Some(item)
+    }
+
+    /// Takes out the last item, if there is one.
+    #[inline]
+    pub fn pop_back(&mut self) -> Option<T>
+        requires { IsSound S.seen S.is_size self.old }
+        ensures value { result
+            ≡ slice_get (view_of S.seen self.old).items
+            (length (view_of S.seen self.old).items - 1) }
+        ensures after { ChangesTo S.seen S.is_size self.old self.new
+            (after_pop (view_of S.seen self.old)) }
+    {
+        let len = self.len;
+        if len == 0 {
+            return None;
+        }
+        let item = Self::take_last(&mut self.slots, self.start, len - 1);
         self.len = len - 1;
         Some(item)
     }
@@ -276,5 +295,18 @@ impl<T: Drop, S: RingSlots<T>> Fixed<T, S> {
     {
         let next = slots.next(start);
         (next, slots.take(start))
+    }
+
+    // Takes the last item, which is the one at this index.
+    #[inline]
+    fn take_last(slots: &mut S, start: usize, last: usize) -> T
+        requires laid_out { IsLaidOut S.is_size (S.seen slots.old) start }
+        requires last { last + 1 ≡ length (view_from (S.seen slots.old) start).items }
+        ensures value { slice_get (view_from (S.seen slots.old) start).items last ≡ Some result }
+        ensures after { LaysOut S.is_size (S.seen slots.old) (S.seen slots.new) start
+            (after_pop (view_from (S.seen slots.old) start)) }
+    {
+        let place = slots.place(start, last);
+        slots.take(place)
     }
 }

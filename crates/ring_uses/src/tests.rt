@@ -104,23 +104,36 @@ fn log_that_is_fed_a_line_at_a_time(rt: HostRuntime) -> Result<(), Fail> {
 }
 
 #[test]
-fn undo_of_typing(rt: HostRuntime) -> Result<(), Fail> {
-    let mut history = History::new(rt.alloc(), 3);
+fn undo_of_typing(rt: HostRuntime) -> Result<(), AllocError> {
+    let mut history = History::new(rt.alloc(), 3)?;
     assert_eq!(rt; history.depth(), 3);
     assert_eq!(rt; history.undo(), None);
     for text in ["", "r", "ri", "rin"] {
-        assert_eq!(rt; history.record(text), Ok(()));
+        history.record(text);
     }
     assert_eq!(rt; history.undo(), Some("rin"));
     assert_eq!(rt; history.undo(), Some("ri"));
-    assert_eq!(rt; history.record("ro"), Ok(()));
+    history.record("ro");
     assert_eq!(rt; history.undo(), Some("ro"));
     assert_eq!(rt; history.undo(), Some("r"));
     assert_eq!(rt; history.undo(), None);
+    Ok(())
+}
 
-    let mut none = History::new(rt.alloc(), 0);
-    assert_eq!(rt; none.record("r"), Ok(()));
-    assert_eq!(rt; none.undo(), None);
+#[test]
+fn undo_of_many_keystrokes(rt: HostRuntime) -> Result<(), AllocError> {
+    let mut history = History::new(rt.alloc(), 4)?;
+    for text in ["", "r", "ri", "rin", "ring"] {
+        history.record(text);
+    }
+    history.undo_many(2);
+    history.record("rib");
+    history.forget_all_but(2);
+    assert_eq!(rt; history.undo(), Some("rib"));
+    assert_eq!(rt; history.undo(), Some("ri"));
+    assert_eq!(rt; history.undo(), None);
+    history.undo_many(1);
+    assert_eq!(rt; history.undo(), None);
     Ok(())
 }
 

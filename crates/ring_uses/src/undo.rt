@@ -1,39 +1,39 @@
 //! An undo history of a bounded depth.
 
-ghost use Rattle.std.specs.Prelude.{◌≡◌, ◌<◌, ◌≤◌, ◌↔◌, [], ◌∷◌, ◌++◌, IfErr, IfNone, IfSome, IsNone, OnOk, Some, length};
+ghost use Rattle.std.specs.Prelude.{◌≡◌, ◌-◌, ◌<◌, ◌≤◌, ◌↔◌, [], ◌∷◌, ◌++◌, IfNone, IfOk, IfSome, IsNone, Some, length, take};
 ghost use Rattle.ringbuffer.specs.Contents.{keep_last};
 
-use ringbuffer::{GrowableAllocRingBuffer, RingBuffer};
-use std::alloc::Global;
+use ringbuffer::{AllocRingBuffer, RingBuffer};
+use std::alloc::{AllocError, Global};
 use std::marker::Model;
 
 /// The newest recorded states that were not undone, at most `depth` of them.
 #[derive(Drop)]
 pub struct History<T> {
-    states: GrowableAllocRingBuffer<T>,
-    depth: usize,
+    states: AllocRingBuffer<T>,
 }
 
 impl<T> Model for History<T> {
-    ghost use Rattle.std.specs.Prelude.{◌<◌, ◌≤◌, length};
     ghost use Rattle.ring_uses.specs.States.{States};
 
     ghost Value = { States T };
 
-    ghost view = { λ h. record { states = h.states; depth = h.depth } };
-
-    ghost invariant = { λ h. length h.states ≤ h.depth };
+    ghost view = { λ h. record { states = h.states.items; depth = h.states.capacity } };
 }
 
 impl<T: Drop> History<T> {
-    /// A history of no states, which is to keep at most `depth`.
-    pub fn new(alloc: Global, depth: usize) -> Self
-        ensures { result ≡ record { states = []; depth = depth } }
+    /// A history of no states, which is to keep at most `depth`. It asks for memory here and in no other call.
+    ///
+    /// # Errors
+    ///
+    /// Where memory was refused.
+    pub fn new(alloc: Global, depth: usize) -> Result<Self, AllocError>
+        requires { 0 < depth }
+        ensures { IfOk result (λ history. history ≡ record { states = []; depth = depth }) }
     {
-        History {
-            states: GrowableAllocRingBuffer::new(alloc),
-            depth,
-        }
+        Ok(History {
+            states: AllocRingBuffer::new(alloc, depth)?,
+        })
     }
 
     /// How many states the history keeps at most.
@@ -41,28 +41,18 @@ impl<T: Drop> History<T> {
         ensures value { result ≡ self.now.depth }
         ensures within { length self.now.states ≤ result }
     {
-        self.depth
+        self.states.capacity()
     }
 
-    /// Records a state as the newest. At the full depth the oldest one is then dropped, so that for a moment there is one
-    /// state more.
-    ///
-    /// # Errors
-    ///
-    /// Hands the state back where memory was refused.
-    pub fn record(&mut self, state: T) -> Result<(), T>
-        ensures ok { OnOk result (self.new
+    /// Records a state as the newest. At the full depth the oldest one is dropped.
+    pub fn record(&mut self, state: T)
+        ensures { self.new
             ≡ record self.old {
               states = keep_last (Some self.old.depth)
                   (self.old.states ++ state ∷ []);
-            }) }
-        ensures err { IfErr result (λ back. (back ≡ state) × (self.new ≡ self.old)) }
+            } }
     {
-        self.states.push(state)?;
-        if self.states.len() > self.depth {
-            self.states.skip();
-        }
-        Ok(())
+        let _ = self.states.push(state);
     }
 
     /// Takes back the newest state that was not undone.
@@ -72,6 +62,23 @@ impl<T: Drop> History<T> {
         ensures unchanged { IfNone result (self.new ≡ self.old) }
         ensures depth { self.new.depth ≡ self.old.depth }
     {
-        self.states.as_mut().pop_back()
+        self.states.pop_back()
+    }
+
+    /// Takes back the newest `count` states, or all where there are fewer, and drops them.
+    pub fn undo_many(&mut self, count: usize)
+        ensures { self.new
+            ≡ record self.old { states = take (length self.old.states - count) self.old.states } }
+    {
+        self.states
+            .truncate(self.states.len().saturating_sub(count));
+    }
+
+    /// Drops all states but the newest `count`.
+    pub fn forget_all_but(&mut self, count: usize)
+        ensures { self.new
+            ≡ record self.old { states = keep_last (Some count) self.old.states } }
+    {
+        self.states.keep_newest(count);
     }
 }

@@ -1,5 +1,5 @@
 //! The ring in an array.
-ghost use Rattle.std.specs.Prelude.{◌≡◌, ◌+◌, ◌<◌, ◌≤◌, [], ◌∷◌, ◌++◌, length, refl, IfErr, IfOk, IfSome, IsOk, IsSome, OnOk, Some, slice_get};
+ghost use Rattle.std.specs.Prelude.{◌≡◌, ◌+◌, ◌-◌, ◌<◌, ◌≤◌, [], ◌∷◌, ◌++◌, length, refl, IfErr, IfOk, IfSome, IsOk, IsSome, OnOk, Some, option_to_list, slice_get};
 ghost use Rattle.std.specs.Borrow.{Lends, sem};
 ghost use Rattle.std.specs.Cmp.{on_per};
 ghost use Rattle.std.specs.Cmp.Lexicographic.{lists_per, pointwise};
@@ -7,7 +7,7 @@ ghost use Rattle.std.specs.List.{AllZip};
 ghost use Rattle.std.proofs.lemmas.Cmp.{lists_equiv, on_equiv};
 ghost use Rattle.ring_core.specs.Contents.{ChangesSlots, keep_last, overwritten, place};
 ghost use Rattle.ring_core.specs.Walk.{ReadsInOrder, ReadsInReverse, StartsOver, into_iter_to_come, iterator_to_come};
-ghost use Rattle.ring_fixed.specs.View.{after_push, after_write};
+ghost use Rattle.ring_fixed.specs.View.{after_keep_newest, after_pop, after_push, after_truncate, after_write};
 
 mod convert;
 
@@ -19,6 +19,7 @@ use ring_fixed::fixed::Fixed;
 use ring_fixed::shared::{extend_cloned, same_items};
 use ring_slots::{ArraySlots, RingSlots};
 use std::alloc::AllocError;
+use std::fmt::{self, Debug, Formatter, Write};
 use std::marker::Model;
 use std::ops::{Index, IndexMut};
 
@@ -173,6 +174,32 @@ impl<T: Drop, const CAP: usize> RingBuffer<T> for ConstGenericRingBuffer<T, CAP>
     }
 }
 
+impl<T: Drop, const CAP: usize> ConstGenericRingBuffer<T, CAP> {
+    /// Takes out the newest item, if there is one.
+    #[inline]
+    pub fn pop_back(&mut self) -> Option<T>
+        ensures items { self.old.items ≡ self.new.items ++ option_to_list result }
+        ensures value { result ≡ slice_get self.old.items (length self.old.items - 1) }
+        ensures after { self.new ≡ after_pop self.old }
+    {
+        self.ring.pop_back()
+    }
+
+    /// Keeps the oldest items, as many as `len` says, and drops the others. Does nothing to a ring of no more items.
+    pub fn truncate(&mut self, len: usize)
+        ensures { self.new ≡ after_truncate len self.old }
+    {
+        self.ring.truncate(len);
+    }
+
+    /// Keeps the newest items, as many as `len` says, and drops the others. Does nothing to a ring of no more items.
+    pub fn keep_newest(&mut self, len: usize)
+        ensures { self.new ≡ after_keep_newest len self.old }
+    {
+        self.ring.keep_newest(len);
+    }
+}
+
 impl<T: Drop, const CAP: usize> Index<usize> for ConstGenericRingBuffer<T, CAP> {
     type Output = T;
 
@@ -288,6 +315,12 @@ impl<T: Clone + Drop, const CAP: usize> ConstGenericRingBuffer<T, CAP> {
         let mut ring = Self::new();
         extend_cloned(&mut ring, self.iter())?;
         Ok(ring)
+    }
+}
+
+impl<T: Debug + Drop, const CAP: usize> Debug for ConstGenericRingBuffer<T, CAP> {
+    fn fmt<W: Write>(&self, f: &mut Formatter<W>) -> fmt::Result {
+        f.debug_list().entries(self).finish()
     }
 }
 

@@ -1,11 +1,12 @@
 //! The ring without a limit, over a deque.
 
-ghost use Rattle.std.specs.Prelude.{◌≡◌, ◌↔◌, ◌%◌, ◌<◌, [], ◌∷◌, ◌++◌, All, IfOk, IsSome, List, MatchResult, None, Some, length, refl, slice_get, slice_set};
+ghost use Rattle.std.specs.Prelude.{◌≡◌, ◌↔◌, ◌-◌, ◌%◌, ◌<◌, [], ◌∷◌, ◌++◌, All, IfOk, IsSome, List, MatchResult, None, Some, length, option_to_list, refl, slice_get, slice_set, take};
 ghost use Rattle.std.specs.Borrow.{sem};
 ghost use Rattle.std.specs.Cmp.Lexicographic.{lists_per, pointwise};
 ghost use Rattle.std.specs.Iterator.{Drains, IsFinite, YieldsThen};
 ghost use Rattle.std.specs.List.{AllZip};
 ghost use Rattle.std.proofs.lemmas.Cmp.{lists_equiv};
+ghost use Rattle.ring_core.specs.Contents.{keep_last};
 ghost use Rattle.ring_core.specs.Walk.{ReadsInOrder, ReadsInReverse, StartsOver, into_iter_to_come, iterator_to_come};
 
 mod convert;
@@ -17,6 +18,7 @@ use ring_core::{
 use ring_fixed::position::{position, signed_position};
 use std::alloc::{AllocError, Global};
 use std::collections::VecDeque;
+use std::fmt::{self, Debug, Formatter, Write};
 use std::marker::Model;
 use std::mem;
 use std::ops::{Index, IndexMut};
@@ -252,6 +254,32 @@ impl<T: Drop> RingBuffer<T> for GrowableAllocRingBuffer<T> {
 }
 
 impl<T: Drop> GrowableAllocRingBuffer<T> {
+    /// Takes out the newest item, if there is one.
+    pub fn pop_back(&mut self) -> Option<T>
+        ensures items { self.old ≡ self.new ++ option_to_list result }
+        ensures value { result ≡ slice_get self.old (length self.old - 1) }
+        ensures rest { self.new ≡ take (length self.old - 1) self.old }
+    {
+        self.deque.pop_back()
+    }
+
+    /// Keeps the oldest items, as many as `len` says, and drops the others. Does nothing to a ring of no more items.
+    pub fn truncate(&mut self, len: usize)
+        ensures { self.new ≡ take len self.old }
+    {
+        self.deque.truncate(len);
+    }
+
+    /// Keeps the newest items, as many as `len` says, and drops the others. Does nothing to a ring of no more items.
+    pub fn keep_newest(&mut self, len: usize)
+        ensures { self.new ≡ keep_last (Some len) self.old }
+    {
+        let others = self.deque.len().saturating_sub(len);
+        self.deque.drain(..others);
+    }
+}
+
+impl<T: Drop> GrowableAllocRingBuffer<T> {
     /// The items in two slices, oldest first, as they lie in the deque.
     #[inline]
     pub fn as_slices(&self) -> (&[T], &[T])
@@ -371,6 +399,12 @@ impl<T: Clone + Drop> GrowableAllocRingBuffer<T> {
         Ok(GrowableAllocRingBuffer {
             deque: self.deque.clone()?,
         })
+    }
+}
+
+impl<T: Debug + Drop> Debug for GrowableAllocRingBuffer<T> {
+    fn fmt<W: Write>(&self, f: &mut Formatter<W>) -> fmt::Result {
+        f.debug_list().entries(self).finish()
     }
 }
 

@@ -1,5 +1,5 @@
 //! The ring on the heap.
-ghost use Rattle.std.specs.Prelude.{◌≡◌, ◌↔◌, ◌+◌, ◌^◌, ◌<◌, ◌≤◌, [], ◌∷◌, ◌++◌, length, refl, ◌&&◌, nat_eq, IfOk, IsErr, IsOk, Some, slice_get};
+ghost use Rattle.std.specs.Prelude.{◌≡◌, ◌↔◌, ◌+◌, ◌-◌, ◌^◌, ◌<◌, ◌≤◌, [], ◌∷◌, ◌++◌, length, refl, ◌&&◌, nat_eq, IfOk, IsErr, IsOk, Some, option_to_list, slice_get};
 ghost use Rattle.std.specs.Borrow.{Lends, sem};
 ghost use Rattle.std.specs.Int.{IsNextPowerOfTwo};
 ghost use Rattle.std.specs.Cmp.{and_per, on_per, partial_equiv_from_equiv};
@@ -8,7 +8,7 @@ ghost use Rattle.std.specs.List.{AllZip};
 ghost use Rattle.std.proofs.lemmas.Cmp.{and_equiv, lists_equiv, nat_eq_equiv, on_equiv};
 ghost use Rattle.ring_core.specs.Contents.{overwritten, place};
 ghost use Rattle.ring_core.specs.Walk.{ReadsInOrder, ReadsInReverse, StartsOver, into_iter_to_come, iterator_to_come};
-ghost use Rattle.ring_fixed.specs.View.{after_push, after_write};
+ghost use Rattle.ring_fixed.specs.View.{after_keep_newest, after_pop, after_push, after_truncate, after_write};
 
 mod convert;
 
@@ -21,6 +21,7 @@ use ring_fixed::fixed::Fixed;
 use ring_fixed::slices::same_in_slices;
 use ring_slots::{HeapSlots, RingSlots};
 use std::alloc::{AllocError, Global};
+use std::fmt::{self, Debug, Formatter, Write};
 use std::marker::Model;
 use std::ops::{Index, IndexMut};
 use std::vec::VecCloneMethods;
@@ -239,6 +240,32 @@ impl<T: Drop> RingBuffer<T> for AllocRingBuffer<T> {
     }
 }
 
+impl<T: Drop> AllocRingBuffer<T> {
+    /// Takes out the newest item, if there is one.
+    #[inline]
+    pub fn pop_back(&mut self) -> Option<T>
+        ensures items { self.old.items ≡ self.new.items ++ option_to_list result }
+        ensures value { result ≡ slice_get self.old.items (length self.old.items - 1) }
+        ensures after { self.new ≡ after_pop self.old }
+    {
+        self.ring.pop_back()
+    }
+
+    /// Keeps the oldest items, as many as `len` says, and drops the others. Does nothing to a ring of no more items.
+    pub fn truncate(&mut self, len: usize)
+        ensures { self.new ≡ after_truncate len self.old }
+    {
+        self.ring.truncate(len);
+    }
+
+    /// Keeps the newest items, as many as `len` says, and drops the others. Does nothing to a ring of no more items.
+    pub fn keep_newest(&mut self, len: usize)
+        ensures { self.new ≡ after_keep_newest len self.old }
+    {
+        self.ring.keep_newest(len);
+    }
+}
+
 // Compares a number with the one in memory, which is the same, so the branch is never taken. It is there for the
 // compiler, which can't tell an item's slot from the ring's own fields: a number that is compared again stays in a
 // register in a loop of pushes.
@@ -389,6 +416,12 @@ impl<T: Clone + Drop> AllocRingBuffer<T> {
         let mut ring = Self::new(alloc, capacity)?;
         replace_with(&mut ring.ring, items, Fixed::cloned_from)?;
         Ok(ring)
+    }
+}
+
+impl<T: Debug + Drop> Debug for AllocRingBuffer<T> {
+    fn fmt<W: Write>(&self, f: &mut Formatter<W>) -> fmt::Result {
+        f.debug_list().entries(self).finish()
     }
 }
 

@@ -1,0 +1,154 @@
+//! Taking the newest item, and keeping the items of one end.
+
+use super::{assert_gives, assert_holds, push_all};
+use ringbuffer::{AllocRingBuffer, ConstGenericRingBuffer, GrowableAllocRingBuffer, RingBuffer};
+use std::alloc::AllocError;
+use std::process::Abort;
+
+/// The calls that each ring has of its own and no trait of the library has.
+trait Ends: RingBuffer<i64> {
+    fn pop_back(&mut self) -> Option<i64>;
+
+    fn truncate(&mut self, len: usize);
+
+    fn keep_newest(&mut self, len: usize);
+}
+
+impl<const CAP: usize> Ends for ConstGenericRingBuffer<i64, CAP> {
+    fn pop_back(&mut self) -> Option<i64> {
+        ConstGenericRingBuffer::pop_back(self)
+    }
+
+    fn truncate(&mut self, len: usize) {
+        ConstGenericRingBuffer::truncate(self, len);
+    }
+
+    fn keep_newest(&mut self, len: usize) {
+        ConstGenericRingBuffer::keep_newest(self, len);
+    }
+}
+
+impl Ends for AllocRingBuffer<i64> {
+    fn pop_back(&mut self) -> Option<i64> {
+        AllocRingBuffer::pop_back(self)
+    }
+
+    fn truncate(&mut self, len: usize) {
+        AllocRingBuffer::truncate(self, len);
+    }
+
+    fn keep_newest(&mut self, len: usize) {
+        AllocRingBuffer::keep_newest(self, len);
+    }
+}
+
+impl Ends for GrowableAllocRingBuffer<i64> {
+    fn pop_back(&mut self) -> Option<i64> {
+        GrowableAllocRingBuffer::pop_back(self)
+    }
+
+    fn truncate(&mut self, len: usize) {
+        GrowableAllocRingBuffer::truncate(self, len);
+    }
+
+    fn keep_newest(&mut self, len: usize) {
+        GrowableAllocRingBuffer::keep_newest(self, len);
+    }
+}
+
+/// The items of a ring, what `pop_back` answers, and what is left.
+const POPS: [(&[i64], Option<i64>, &[i64]); 4] = [
+    (&[], None, &[]),
+    (&[7], Some(7), &[]),
+    (&[1, 2], Some(2), &[1]),
+    (&[1, 2, 3, 4, 5], Some(5), &[1, 2, 3, 4]),
+];
+
+/// The items of a ring, how many are to be kept, the oldest of them and the newest of them.
+const KEPT: [(&[i64], usize, &[i64], &[i64]); 11] = [
+    (&[], 0, &[], &[]),
+    (&[], 3, &[], &[]),
+    (&[7], 0, &[], &[]),
+    (&[7], 1, &[7], &[7]),
+    (&[7], 2, &[7], &[7]),
+    (&[1, 2, 3, 4, 5], 0, &[], &[]),
+    (&[1, 2, 3, 4, 5], 1, &[1], &[5]),
+    (&[1, 2, 3, 4, 5], 2, &[1, 2], &[4, 5]),
+    (&[1, 2, 3, 4, 5], 4, &[1, 2, 3, 4], &[2, 3, 4, 5]),
+    (&[1, 2, 3, 4, 5], 5, &[1, 2, 3, 4, 5], &[1, 2, 3, 4, 5]),
+    (
+        &[1, 2, 3, 4, 5],
+        usize::MAX,
+        &[1, 2, 3, 4, 5],
+        &[1, 2, 3, 4, 5],
+    ),
+];
+
+/// Where the items of a ring begin: so many places after the first slot.
+const STARTS: [usize; 8] = [0, 1, 2, 3, 4, 5, 6, 7];
+
+/// The ring holds these items and no other, which begin so many places after the first slot.
+fn lay<R: RingBuffer<i64>>(rt: &impl Abort, ring: &mut R, start: usize, items: &[i64]) {
+    ring.clear();
+    for _ in 0..start {
+        push_all(rt, ring, &[0]);
+        ring.skip();
+    }
+    push_all(rt, ring, items);
+}
+
+/// The ring holds these items and no other, and an item that is pushed then comes behind them.
+fn assert_left<R: RingBuffer<i64>>(rt: &impl Abort, ring: &mut R, items: &[i64]) {
+    assert_holds(rt, ring, items);
+    ring.skip();
+    push_all(rt, ring, &[8]);
+    for item in items.iter().skip(1) {
+        assert_eq!(rt; ring.dequeue(), Some(*item));
+    }
+    assert_gives(rt, ring, &[8]);
+}
+
+/// `pop_back` on the items of each row, which begin at each place.
+fn assert_pops<R: Ends + Drop>(rt: &impl Abort, mut ring: R) {
+    for (items, popped, left) in POPS {
+        for start in STARTS {
+            lay(rt, &mut ring, start, items);
+            assert_eq!(rt; ring.pop_back(), popped, "from {start}");
+            assert_left(rt, &mut ring, left);
+        }
+    }
+}
+
+#[test]
+fn pop_back_takes_the_newest(rt: HostRuntime) -> Result<(), AllocError> {
+    assert_pops(&rt, ConstGenericRingBuffer::<i64, 5>::new());
+    assert_pops(&rt, ConstGenericRingBuffer::<i64, 8>::new());
+    assert_pops(&rt, AllocRingBuffer::new(rt.alloc(), 5)?);
+    assert_pops(&rt, AllocRingBuffer::new(rt.alloc(), 8)?);
+    assert_pops(&rt, GrowableAllocRingBuffer::new(rt.alloc()));
+    Ok(())
+}
+
+/// `truncate` and `keep_newest` on the items of each row, which begin at each place.
+fn assert_keeps<R: Ends + Drop>(rt: &impl Abort, mut ring: R) {
+    for (items, len, oldest, newest) in KEPT {
+        for start in STARTS {
+            lay(rt, &mut ring, start, items);
+            ring.truncate(len);
+            assert_left(rt, &mut ring, oldest);
+            lay(rt, &mut ring, start, items);
+            ring.keep_newest(len);
+            assert_left(rt, &mut ring, newest);
+        }
+    }
+}
+
+#[test]
+fn items_of_one_end_are_kept(rt: HostRuntime) -> Result<(), AllocError> {
+    assert_keeps(&rt, ConstGenericRingBuffer::<i64, 5>::new());
+    assert_keeps(&rt, ConstGenericRingBuffer::<i64, 8>::new());
+    assert_keeps(&rt, AllocRingBuffer::new(rt.alloc(), 5)?);
+    assert_keeps(&rt, AllocRingBuffer::new(rt.alloc(), 8)?);
+    assert_keeps(&rt, GrowableAllocRingBuffer::new(rt.alloc()));
+    Ok(())
+}
