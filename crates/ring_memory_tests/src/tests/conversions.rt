@@ -30,14 +30,12 @@ fn an_array_ring_is_made_of_each_source(rt: HostRuntime) -> Result<(), AllocErro
     }
     let alloc = rt.alloc();
     let vector = vec![in alloc; '1', '2']?;
-    let list = LinkedList::from_array(alloc, ['1', '2'])?;
-    let deque = VecDeque::from_array(alloc, ['1', '2'])?;
-    let string = String::from_str(alloc, "12")?;
-    let growable = GrowableAllocRingBuffer::from_array(alloc, [Some('1'), Some('2')])?;
-    let heap = AllocRingBuffer::from_array(alloc, [Some('1'), Some('2')])?;
     on(&rt, ConstGenericRingBuffer::from_vec(vector))?;
+    let list = LinkedList::from_array(alloc, ['1', '2'])?;
     on(&rt, ConstGenericRingBuffer::from_linked_list(list))?;
+    let deque = VecDeque::from_array(alloc, ['1', '2'])?;
     on(&rt, ConstGenericRingBuffer::from_deque(deque))?;
+    let string = String::from_str(alloc, "12")?;
     on(&rt, ConstGenericRingBuffer::from_string(string))?;
     on(&rt, ConstGenericRingBuffer::from_text("12"))?;
     on(&rt, ConstGenericRingBuffer::from_slice(&['1', '2'])?)?;
@@ -46,7 +44,9 @@ fn an_array_ring_is_made_of_each_source(rt: HostRuntime) -> Result<(), AllocErro
         &rt,
         ConstGenericRingBuffer::from_array([Some('1'), Some('2')]),
     )?;
+    let growable = GrowableAllocRingBuffer::from_array(alloc, [Some('1'), Some('2')])?;
     on(&rt, ConstGenericRingBuffer::from_growable(growable))?;
+    let heap = AllocRingBuffer::from_array(alloc, [Some('1'), Some('2')])?;
     on(&rt, ConstGenericRingBuffer::from_alloc(heap))
 }
 
@@ -57,14 +57,12 @@ fn a_heap_ring_is_made_of_each_source(rt: HostRuntime) -> Result<(), AllocError>
     }
     let alloc = rt.alloc();
     let vector = vec![in alloc; '1', '2']?;
-    let list = LinkedList::from_array(alloc, ['1', '2'])?;
-    let deque = VecDeque::from_array(alloc, ['1', '2'])?;
-    let string = String::from_str(alloc, "12")?;
-    let array = ConstGenericRingBuffer::<char, 2>::from_array([Some('1'), Some('2')]);
-    let growable = GrowableAllocRingBuffer::from_array(alloc, [Some('1'), Some('2')])?;
     on(&rt, AllocRingBuffer::from_vec(alloc, vector)?)?;
+    let list = LinkedList::from_array(alloc, ['1', '2'])?;
     on(&rt, AllocRingBuffer::from_linked_list(alloc, list)?)?;
+    let deque = VecDeque::from_array(alloc, ['1', '2'])?;
     on(&rt, AllocRingBuffer::from_deque(alloc, deque)?)?;
+    let string = String::from_str(alloc, "12")?;
     on(&rt, AllocRingBuffer::from_string(alloc, string)?)?;
     on(&rt, AllocRingBuffer::from_text(alloc, "12")?)?;
     on(&rt, AllocRingBuffer::from_slice(alloc, &['1', '2'])?)?;
@@ -73,7 +71,9 @@ fn a_heap_ring_is_made_of_each_source(rt: HostRuntime) -> Result<(), AllocError>
         &rt,
         AllocRingBuffer::from_array(alloc, [Some('1'), Some('2')])?,
     )?;
+    let array = ConstGenericRingBuffer::<char, 2>::from_array([Some('1'), Some('2')]);
     on(&rt, AllocRingBuffer::from_const(alloc, array)?)?;
+    let growable = GrowableAllocRingBuffer::from_array(alloc, [Some('1'), Some('2')])?;
     on(&rt, AllocRingBuffer::from_growable(alloc, growable)?)
 }
 
@@ -87,14 +87,12 @@ fn a_growable_ring_is_made_of_each_source(rt: HostRuntime) -> Result<(), AllocEr
     }
     let alloc = rt.alloc();
     let vector = vec![in alloc; '1', '2']?;
-    let list = LinkedList::from_array(alloc, ['1', '2'])?;
-    let deque = VecDeque::from_array(alloc, ['1', '2'])?;
-    let string = String::from_str(alloc, "12")?;
-    let array = ConstGenericRingBuffer::<char, 2>::from_array([Some('1'), Some('2')]);
-    let heap = AllocRingBuffer::from_array(alloc, [Some('1'), Some('2')])?;
     on(&rt, GrowableAllocRingBuffer::from_vec(alloc, vector)?)?;
+    let list = LinkedList::from_array(alloc, ['1', '2'])?;
     on(&rt, GrowableAllocRingBuffer::from_linked_list(alloc, list)?)?;
+    let deque = VecDeque::from_array(alloc, ['1', '2'])?;
     on(&rt, GrowableAllocRingBuffer::from(deque))?;
+    let string = String::from_str(alloc, "12")?;
     on(&rt, GrowableAllocRingBuffer::from_string(alloc, string)?)?;
     on(&rt, GrowableAllocRingBuffer::from_text(alloc, "12")?)?;
     on(
@@ -109,7 +107,9 @@ fn a_growable_ring_is_made_of_each_source(rt: HostRuntime) -> Result<(), AllocEr
         &rt,
         GrowableAllocRingBuffer::from_array(alloc, [Some('1'), Some('2')])?,
     )?;
+    let array = ConstGenericRingBuffer::<char, 2>::from_array([Some('1'), Some('2')]);
     on(&rt, GrowableAllocRingBuffer::from_const(alloc, array)?)?;
+    let heap = AllocRingBuffer::from_array(alloc, [Some('1'), Some('2')])?;
     on(&rt, GrowableAllocRingBuffer::from_alloc(alloc, heap)?)
 }
 
@@ -121,11 +121,6 @@ fn an_array_ring_holds_numbers_of_each_source(rt: HostRuntime) -> Result<(), All
     }
     let alloc = rt.alloc();
     let mut items = [1, 2, 3];
-    let vector = vec![in alloc; 1, 2, 3]?;
-    let list = LinkedList::from_array(alloc, [1, 2, 3])?;
-    let deque = VecDeque::from_array(alloc, [1, 2, 3])?;
-    let growable = GrowableAllocRingBuffer::from_slice(alloc, &[1, 2, 3])?;
-    let heap = AllocRingBuffer::from_slice(alloc, &[1, 2, 3])?;
     on(
         &rt,
         ConstGenericRingBuffer::from_array([Some(1), Some(2), Some(3)]),
@@ -134,10 +129,15 @@ fn an_array_ring_holds_numbers_of_each_source(rt: HostRuntime) -> Result<(), All
     on(&rt, ConstGenericRingBuffer::from_slice(&items)?);
     on(&rt, ConstGenericRingBuffer::from_mut_array(&mut items)?);
     on(&rt, ConstGenericRingBuffer::from_mut_slice(&mut items)?);
+    let vector = vec![in alloc; 1, 2, 3]?;
     on(&rt, ConstGenericRingBuffer::from_vec(vector));
+    let deque = VecDeque::from_array(alloc, [1, 2, 3])?;
     on(&rt, ConstGenericRingBuffer::from_deque(deque));
+    let list = LinkedList::from_array(alloc, [1, 2, 3])?;
     on(&rt, ConstGenericRingBuffer::from_linked_list(list));
+    let growable = GrowableAllocRingBuffer::from_slice(alloc, &[1, 2, 3])?;
     on(&rt, ConstGenericRingBuffer::from_growable(growable));
+    let heap = AllocRingBuffer::from_slice(alloc, &[1, 2, 3])?;
     on(&rt, ConstGenericRingBuffer::from_alloc(heap));
     Ok(())
 }
