@@ -35,14 +35,14 @@ fn a_growable_ring_keeps_both(rt: HostRuntime) -> Result<(), AllocError> {
 }
 
 #[test]
-fn a_refused_move_drops_one_and_leaves_the_rest(rt: HostRuntime) -> Result<(), AllocError> {
+fn a_refused_move_hands_one_back_and_leaves_the_rest(rt: HostRuntime) -> Result<(), AllocError> {
     let mut to = GrowableAllocRingBuffer::<i64>::new(rt.alloc());
     let mut from = AllocRingBuffer::new(rt.alloc(), 3)?;
     push_all(&rt, &mut from, &[1, 2, 3]);
     let drought = Drought::total(rt.alloc())?;
     let moved = move_all(&mut to, &mut from);
     drop(drought);
-    assert!(rt; moved.is_err());
+    assert_eq!(rt; moved, Err(1));
     assert_holds(&rt, &to, &[]);
     assert_holds(&rt, &from, &[2, 3]);
     Ok(())
