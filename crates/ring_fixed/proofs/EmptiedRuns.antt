@@ -15,7 +15,7 @@ module _ {X : Type 0} {P : ℕ → Type 0} (s : Slots X) (start : ℕ) (laid_out
   abbrev items : List X
   items = items_from s.slots start
 
-  -- what a place holds that is reached after so many
+  -- what a place holds that so many lead to
   holds : (place j : ℕ) → j < length s.slots → (start + j) % length s.slots ≡ place → slot_at s place ≡ slice_get items j
   holds place j low found = ap (λ p. get_or s.slots p None) (sym found) ∙ laid_out.layout j low
 
@@ -33,9 +33,9 @@ module _ {X : Type 0} {P : ℕ → Type 0} (s : Slots X) (start : ℕ) (laid_out
         let starts = laid_out.start_within in let fit = laid_out.fit in
         rw (first.before place (omega arith)) (full place (room + place) (omega arith) (elim (wrap start (room + place) (length s.slots) starts (omega arith)) [ inl a ↦ omega arith | inr a ↦ omega arith ]))
 
-    -- a place holds what the first items have there
+    -- once both runs are empty, the slots hold the items before the index
     module _ (new : Slots X) (second : Empties mid new (kept - room) (len - room)) where
-      -- by its count
+      -- a place, by the count that reaches it
       by_count : (place j : ℕ) → slot_at s place ≡ slice_get items j → (j < kept → slot_at new place ≡ slot_at s place)
           → (kept ≤ j → j < len → slot_at new place ≡ None) → (len ≤ j → slot_at new place ≡ slot_at s place) → slot_at new place ≡ slice_get (take kept items) j
       by_count place j held keeps empties stays =
