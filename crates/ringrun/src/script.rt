@@ -10,8 +10,8 @@ use crate::fault::Fault;
 use ringbuffer::Command;
 use std::alloc::{AllocError, Global};
 
-// The most that the digits of a number may say before its last, since its size is at most 2^63.
-const MOST_BEFORE_A_DIGIT: u64 = (1 << 63) / 10;
+// Any number of so many digits is below 2^64.
+const SAFE_DIGITS: usize = 19;
 
 /// The commands that the lines of a script write, in order, in half the memory of a vector of `Command`s or less.
 #[derive(Drop)]
@@ -82,17 +82,17 @@ fn read_command<'a>(
 ) -> Result<Option<(Line, &'a [u8])>, AllocError>
     ensures { IfOk result (λ found. IfSome found (λ read. name.now ≡ name_of_line read.0)) }
 {
-    Ok(if name == b"push".as_slice() {
-        split_number(rest).map(|(number, rest)| (Line::Push(number), rest))
-    } else if name == b"extend".as_slice() {
-        let (count, rest) = take_numbers(items, rest)?;
-        Some((Line::Extend(count), rest))
-    } else if name == b"dequeue".as_slice() {
+    Ok(if name == b"dequeue".as_slice() {
         Some((Line::Dequeue, rest))
     } else if name == b"skip".as_slice() {
         Some((Line::Skip, rest))
     } else if name == b"clear".as_slice() {
         Some((Line::Clear, rest))
+    } else if name == b"push".as_slice() {
+        split_number(rest).map(|(number, rest)| (Line::Push(number), rest))
+    } else if name == b"extend".as_slice() {
+        let (count, rest) = take_numbers(items, rest)?;
+        Some((Line::Extend(count), rest))
     } else {
         None
     })
@@ -110,6 +110,7 @@ fn take_numbers<'a>(items: &mut Vec<i64>, text: &'a [u8]) -> Result<(usize, &'a 
 }
 
 /// The number that is the first word of a line, and what follows it.
+#[inline]
 fn split_number(text: &[u8]) -> Option<(i64, &[u8])>
     ensures { IfSome result (λ found. length found.1.now < length text.now) }
 {
@@ -130,12 +131,9 @@ fn split_number(text: &[u8]) -> Option<(i64, &[u8])>
             end = at;
             break;
         }
-        if size > MOST_BEFORE_A_DIGIT {
-            return None;
-        }
-        size = size * 10 + u64::from(digit);
+        size = size.wrapping_mul(10).wrapping_add(u64::from(digit));
     }
-    if end == 0 {
+    if end == 0 || end > SAFE_DIGITS && !is_zeros(&digits[..end - SAFE_DIGITS]) {
         return None;
     }
     let number = if is_negative {
@@ -144,6 +142,10 @@ fn split_number(text: &[u8]) -> Option<(i64, &[u8])>
         i64::try_from(size).ok()?
     };
     Some((number, &digits[end..]))
+}
+
+fn is_zeros(digits: &[u8]) -> bool {
+    digits.iter().all(|digit| *digit == b'0')
 }
 
 /// The first word of a line, which is empty if it has none, and what follows it.
@@ -158,6 +160,10 @@ fn split_word(text: &[u8]) -> (&[u8], &[u8]) {
 
 /// What follows a line's end, if nothing but white space comes before it.
 fn after_line(text: &[u8]) -> Option<&[u8]> {
+    // Most lines end where their last word does.
+    if let [b'\n', rest @ ..] = text {
+        return Some(rest);
+    }
     match skip_blanks(text) {
         [] => Some(&[]),
         [b'\n', rest @ ..] => Some(rest),
@@ -177,7 +183,8 @@ fn skip_blanks(text: &[u8]) -> &[u8]
 }
 
 fn is_blank(byte: u8) -> bool {
-    matches!(byte, b' ' | b'\t' | b'\x0c' | b'\r')
+    // Most bytes are above them all, and are told by one comparison.
+    byte <= b' ' && matches!(byte, b' ' | b'\t' | b'\x0c' | b'\r')
 }
 
 /// The commands of some lines, and the items that are left. Those that extend take theirs off the front.
