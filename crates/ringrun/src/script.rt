@@ -131,6 +131,7 @@ fn split_number(text: &[u8]) -> Option<(i64, &[u8])>
             end = at;
             break;
         }
+        // It wraps only in a number that is refused below.
         size = size.wrapping_mul(10).wrapping_add(u64::from(digit));
     }
     if end == 0 || end > SAFE_DIGITS && !is_zeros(&digits[..end - SAFE_DIGITS]) {

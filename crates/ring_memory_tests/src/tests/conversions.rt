@@ -251,6 +251,20 @@ fn an_array_ring_keeps_the_last_of_a_source(rt: HostRuntime) -> Result<(), Alloc
 }
 
 #[test]
+fn a_long_text_is_taken_whole(rt: HostRuntime) -> Result<(), AllocError> {
+    fn on<R: RingBuffer<char> + Drop>(rt: &impl Abort, ring: R) {
+        assert_eq!(rt; ring.len(), 26);
+        assert_eq!(rt; ring.front(), Some(&'a'));
+        assert_eq!(rt; ring.back(), Some(&'z'));
+    }
+    let text = "abcdefghijklmnopqrstuvwxyz";
+    on(&rt, ConstGenericRingBuffer::<char, 26>::from_text(text));
+    on(&rt, AllocRingBuffer::from_text(rt.alloc(), text)?);
+    on(&rt, GrowableAllocRingBuffer::from_text(rt.alloc(), text)?);
+    Ok(())
+}
+
+#[test]
 fn a_ring_of_a_text_beyond_ascii_has_spare_room(rt: HostRuntime) -> Result<(), AllocError> {
     let mut ring = AllocRingBuffer::from_text(rt.alloc(), "\u{e9}1")?;
     assert_eq!(rt; ring.capacity(), 3);

@@ -57,6 +57,20 @@ fn large_capacities_are_had_where_there_is_memory(rt: HostRuntime) -> Result<(),
 }
 
 #[test]
+fn items_may_be_large(rt: HostRuntime) -> Result<(), AllocError> {
+    fn on<R: RingBuffer<[u64; 512]> + Drop>(rt: &impl Abort, mut ring: R) {
+        assert!(rt; ring.push([1; 512]).is_ok());
+        assert!(rt; ring.push([2; 512]).is_ok());
+        assert_eq!(rt; ring.back().map(|item| item[511]), Some(2));
+        assert_eq!(rt; ring.dequeue().map(|item| item[0]), Some(1));
+    }
+    on(&rt, ConstGenericRingBuffer::<[u64; 512], 2>::new());
+    on(&rt, AllocRingBuffer::new(rt.alloc(), 2)?);
+    on(&rt, GrowableAllocRingBuffer::new(rt.alloc()));
+    Ok(())
+}
+
+#[test]
 fn a_ring_of_items_without_size_has_any_capacity(rt: HostRuntime) -> Result<(), AllocError> {
     let greatest = 1 << 63;
     let cases = [
