@@ -1,66 +1,109 @@
--- Items dropped from an index on: their slots are two runs that become empty.
-use Rattle.std.proofs.Common.{◌≡◌, ℕ, ◌+◌, ◌-◌, ◌%◌, ◌<◌, ◌≤◌, inl, inr, List, None, length, take, get_or, refl, sym, ap, ◌∙◌, arith, length-take}
+-- Items dropped from an index up to another: their slots are two runs that become empty.
+use Rattle.std.proofs.Common.{◌≡◌, ℕ, ◌+◌, ◌-◌, ◌%◌, ◌<◌, ◌≤◌, ◌⊎◌, inl, inr, List, None, length, take, drop, get_or, sym, ap, ◌∙◌, arith, length-take, length-drop}
 use Rattle.std.proofs.Math.Decide.{dec_lt}
+use Rattle.std.proofs.Math.Nat.{mod-eq-sub-mod, mod-lt}
 use Rattle.std.proofs.lemmas.Option.{slice_get_past}
 use Rattle.std.specs.Prelude.{min, slice_get}
-use Rattle.ring_core.proofs.Items.{slice_get-take}
+use Rattle.ring_core.proofs.Items.{slice_get-drop, slice_get-take}
 use Rattle.ring_slots.specs.Slots.{Slots, IsFullAt, slot_at}
-use Rattle.ring_fixed.specs.View.{after_truncate}
+use Rattle.ring_fixed.specs.View.{after_takes, after_truncate}
 use Rattle.ring_fixed.specs.Layout.{AreFull, Empties, SlotsHold, items_from, view_from, IsLaidOut, LaysOut}
 use Rattle.ring_fixed.proofs.LaysOut.{LaysOut-items, slice_get_some}
 use Rattle.ring_fixed.proofs.SlotsHold.{wrap}
 
-module _ {X : Type 0} {P : ℕ → Type 0} (s : Slots X) (start : ℕ) (laid_out : IsLaidOut P s start) (kept len room : ℕ)
-    (counted : len ≡ length (items_from s.slots start)) (within : kept ≤ len) (left : room ≡ length s.slots - start) where
+-- a count from a later place is so many more from this one
+from_count : (start k j size : ℕ) → start < size → k ≤ size → ((start + k) % size + j) % size ≡ (start + (k + j)) % size
+from_count start k j size within low =
+    elim (wrap start k size within low) [
+      | inl a ↦ ap (λ n. (n + j) % size) a.1 ∙ ap (λ n. n % size) {x = start + k + j} {y = start + (k + j)} (omega arith)
+      | inr a ↦ ap (λ n. (n + j) % size) a.1 ∙ ap (λ n. n % size) {x = start + k - size + j} {y = start + (k + j) - size} (omega arith) ∙ sym (mod-eq-sub-mod (omega arith))
+    ]
+
+module _ {X : Type 0} {P : ℕ → Type 0} (s : Slots X) (start : ℕ) (laid_out : IsLaidOut P s start) (from to room : ℕ)
+    (order : from ≤ to) (within : to ≤ length (items_from s.slots start)) (left : room ≡ length s.slots - start) where
+  abbrev size : ℕ
+  size = length s.slots
+
   abbrev items : List X
   items = items_from s.slots start
 
-  -- what a place holds that so many lead to
-  holds : (place j : ℕ) → j < length s.slots → (start + j) % length s.slots ≡ place → slot_at s place ≡ slice_get items j
-  holds place j low found = ap (λ p. get_or s.slots p None) (sym found) ∙ laid_out.layout j low
+  -- a place is full where an item lies that so many places lead to
+  full : (place j : ℕ) → j < to → (start + j) % size ≡ place → IsFullAt s place
+  full place j low found =
+      let fit = laid_out.fit in
+      rw (ap (λ p. get_or s.slots p None) (sym found) ∙ laid_out.layout j (omega arith)) (slice_get_some items j (omega arith))
 
-  -- and it is full where there is such an item
-  full : (place j : ℕ) → j < len → (start + j) % length s.slots ≡ place → IsFullAt s place
-  full place j low found = let fit = laid_out.fit in rw (holds place j (omega arith) found) (slice_get_some items j (omega arith))
+  -- the items lie in two runs
+  pub first_full : AreFull s (start + min from room) (start + min to room)
+  first_full place after low =
+      let starts = laid_out.start_within in
+      full place (place - start) (omega arith) (elim (wrap start (place - start) size starts (omega arith)) [ inl a ↦ omega arith | inr a ↦ omega arith ])
 
-  -- the items from the index on lie in two runs
-  pub first_full : AreFull s (start + min kept room) (start + min len room)
-  first_full place after low = full place (place - start) (omega arith) (let within' = laid_out.start_within in elim (wrap start (place - start) (length s.slots) within' (omega arith)) [ inl a ↦ omega arith | inr a ↦ omega arith ])
-
-  module _ (mid : Slots X) (first : Empties s mid (start + min kept room) (start + min len room)) where
-    pub second_full : AreFull mid (kept - room) (len - room)
+  module _ (mid : Slots X) (first : Empties s mid (start + min from room) (start + min to room)) where
+    pub second_full : AreFull mid (from - room) (to - room)
     second_full place after low =
         let starts = laid_out.start_within in let fit = laid_out.fit in
-        rw (first.before place (omega arith)) (full place (room + place) (omega arith) (elim (wrap start (room + place) (length s.slots) starts (omega arith)) [ inl a ↦ omega arith | inr a ↦ omega arith ]))
+        rw (first.before place (omega arith)) (full place (room + place) (omega arith) (elim (wrap start (room + place) size starts (omega arith)) [ inl a ↦ omega arith | inr a ↦ omega arith ]))
 
-    -- once both runs are empty, the slots hold the items before the index
-    module _ (new : Slots X) (second : Empties mid new (kept - room) (len - room)) where
-      -- a place, by the count that reaches it
-      by_count : (place j : ℕ) → slot_at s place ≡ slice_get items j → (j < kept → slot_at new place ≡ slot_at s place)
-          → (kept ≤ j → j < len → slot_at new place ≡ None) → (len ≤ j → slot_at new place ≡ slot_at s place) → slot_at new place ≡ slice_get (take kept items) j
-      by_count place j held keeps empties stays =
-          let past : kept ≤ j → slice_get (take kept items) j ≡ None = λ after. slice_get_past (take kept items) j (omega (arith, length-take kept items)) in
-          elim (dec_lt j kept) [
-            | yes low ↦ keeps low ∙ held ∙ sym (slice_get-take kept j items low)
-            | no after ↦ elim (dec_lt j len) [
-              | yes low ↦ empties (omega arith) low ∙ sym (past (omega arith))
-              | no above ↦ stays (omega arith) ∙ held ∙ slice_get_past items j (omega arith) ∙ sym (past (omega arith))
+    module _ (new : Slots X) (second : Empties mid new (from - room) (to - room)) where
+      same_size : length new.slots ≡ size
+      same_size = second.same_size ∙ first.same_size
+
+      counted : new.changes ≡ s.changes + (to - from)
+      counted = let one = first.counted in let two = second.counted in omega arith
+
+      -- the slot of each item in the range is empty
+      emptied_at : (j : ℕ) → j < size → from ≤ j → j < to → slot_at new ((start + j) % size) ≡ None
+      emptied_at j low late early =
+          let starts = laid_out.start_within in let place = (start + j) % size in
+          elim (wrap start j size starts (omega arith)) [ inl a ↦ second.behind place (omega arith) ∙ first.emptied place (omega arith) (omega arith) | inr a ↦ second.emptied place (omega arith) (omega arith) ]
+
+      -- and every other slot is as it was
+      kept_at : (j : ℕ) → j < size → (j < from) ⊎ (to ≤ j) → slot_at new ((start + j) % size) ≡ slice_get items j
+      kept_at j low (inl early) =
+          let starts = laid_out.start_within in let place = (start + j) % size in
+          elim (wrap start j size starts (omega arith)) [ inl a ↦ second.behind place (omega arith) ∙ first.before place (omega arith) | inr a ↦ second.before place (omega arith) ∙ first.before place (omega arith) ]
+          ∙ laid_out.layout j low
+      kept_at j low (inr late) =
+          let starts = laid_out.start_within in let place = (start + j) % size in
+          elim (wrap start j size starts (omega arith)) [ inl a ↦ second.behind place (omega arith) ∙ first.behind place (omega arith) | inr a ↦ second.behind place (omega arith) ∙ first.before place (omega arith) ]
+          ∙ laid_out.layout j low
+
+      -- the items before the index stay, where those up to the last are dropped
+      kept : to ≡ length items → SlotsHold new.slots start (take from items)
+      kept all j low =
+          let low' : j < size = rw same_size at low in
+          let past : from ≤ j → slice_get (take from items) j ≡ None = λ after. slice_get_past (take from items) j (omega (arith, length-take from items)) in
+          rw same_size (elim (dec_lt j from) [
+            | yes low ↦ kept_at j low' (inl low) ∙ sym (slice_get-take from j items low)
+            | no after ↦ elim (dec_lt j to) [
+              | yes low ↦ emptied_at j low' (omega arith) low ∙ sym (past (omega arith))
+              | no above ↦ kept_at j low' (inr (omega arith)) ∙ slice_get_past items j (omega arith) ∙ sym (past (omega arith))
             ]
-          ]
+          ])
 
-      lie : SlotsHold new.slots start (take kept items)
-      lie j low =
-          let size = length s.slots in let same : length new.slots ≡ size = second.same_size ∙ first.same_size in
-          let starts = laid_out.start_within in let fit = laid_out.fit in
-          let low' : j < size = rw same at low in
-          let place = (start + j) % size in
-          let at = wrap start j size starts (omega arith) in
-          rw same (by_count place j (holds place j low' refl)
-          (λ early. elim at [ inl a ↦ second.behind place (omega arith) ∙ first.before place (omega arith) | inr a ↦ second.before place (omega arith) ∙ first.before place (omega arith) ])
-          (λ late early. elim at [ inl a ↦ second.behind place (omega arith) ∙ first.emptied place (omega arith) (omega arith) | inr a ↦ second.emptied place (omega arith) (omega arith) ])
-          (λ late. elim at [ inl a ↦ second.behind place (omega arith) ∙ first.behind place (omega arith) | inr a ↦ second.behind place (omega arith) ∙ first.before place (omega arith) ]))
+      pub LaysOut-truncate : to ≡ length items → LaysOut P s new start (after_truncate from (view_from s start))
+      LaysOut-truncate all =
+          let changes : s.changes + (length items - from) ≡ new.changes = omega (counted, all, arith) in
+          rw changes (LaysOut-items s start laid_out new start (take from items) same_size laid_out.start_within (let fit = laid_out.fit in omega (arith, length-take from items)) (kept all))
 
-      pub LaysOut-truncate : LaysOut P s new start (after_truncate kept (view_from s start))
-      LaysOut-truncate =
-          let changes : s.changes + (length items - kept) ≡ new.changes = let one = first.counted in let two = second.counted in omega arith in
-          rw changes (LaysOut-items s start laid_out new start (take kept items) (second.same_size ∙ first.same_size) laid_out.start_within (let fit = laid_out.fit in omega (arith, length-take kept items)) lie)
+      -- the items behind stay, where those from the first on are dropped
+      behind : from ≡ 0 → SlotsHold new.slots ((start + to) % size) (drop to items)
+      behind none j low =
+          let low' : j < size = rw same_size at low in
+          let fit = laid_out.fit in
+          let here = ap (λ p. slot_at new p) (from_count start to j size laid_out.start_within (omega arith)) in
+          rw same_size (here ∙ elim (dec_lt (to + j) size) [
+            | yes more ↦ kept_at (to + j) more (inr (omega arith)) ∙ sym (slice_get-drop to j items)
+            | no round ↦ let far : (start + (to + j)) % size ≡ (start + (to + j - size)) % size =
+                mod-eq-sub-mod (omega arith) ∙ ap (λ n. n % size) {x = start + (to + j) - size} {y = start + (to + j - size)} (omega arith) in
+                ap (λ p. slot_at new p) far
+                ∙ emptied_at (to + j - size) (omega arith) (omega arith) (omega arith)
+                ∙ sym (slice_get_past (drop to items) j (omega (arith, length-drop to items)))
+          ])
+
+      pub LaysOut-takes : from ≡ 0 → LaysOut P s new ((start + to) % size) (after_takes to (view_from s start))
+      LaysOut-takes none =
+          let changes : s.changes + to ≡ new.changes = omega (counted, none, arith) in
+          let starts = laid_out.start_within in
+          rw changes (LaysOut-items s start laid_out new ((start + to) % size) (drop to items) same_size (mod-lt (start + to) (omega arith)) (let fit = laid_out.fit in omega (arith, length-drop to items)) (behind none))

@@ -1,4 +1,3 @@
-pub mod DroppedRun
 pub mod EmptiedRuns
 pub mod Ends
 pub mod LaysOut

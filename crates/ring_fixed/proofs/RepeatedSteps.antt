@@ -2,7 +2,7 @@
 use Rattle.std.proofs.Common.{◌≡◌, ℕ, suc, ◌+◌, ◌-◌, ◌<◌, ◌≤◌, List, Some, ap, sym, ◌∙◌, [], ◌∷◌, ◌++◌, length, take, drop, refl, arith, append_assoc, append-nil, length-append, length-drop}
 use Rattle.std.specs.Prelude.{min, option_to_list, slice_get}
 use Rattle.std.proofs.Math.Seq.{drop-length}
-use Rattle.std.proofs.lemmas.List.{drop-drop, take_all}
+use Rattle.std.proofs.lemmas.List.{take_all}
 use Rattle.ring_fixed.specs.View.{View, after_put, after_puts, after_take, after_takes, after_clear, after_push, after_extend}
 use Rattle.ring_core.specs.Contents.{keep_last}
 use Rattle.ring_core.proofs.Items.{take-suc_get}
@@ -12,14 +12,6 @@ module _ {X : Type 0} where
   -- the last item behind those before it makes all items
   pub last_behind : (xs : List X) → take (length xs - 1) xs ++ option_to_list (slice_get xs (length xs - 1)) ≡ xs
   last_behind xs = let last = length xs - 1 in sym (take-suc_get xs last) ∙ take_all (suc last) xs (omega arith)
-
-  pub after_takes-more : (k : ℕ) (v : View X) → k < length v.items → after_take (after_takes k v) ≡ after_takes (k + 1) v
-  after_takes-more k v more =
-      let one : v.changes + k + min (length (drop k v.items)) 1 ≡ v.changes + (k + 1) = omega (arith, length-drop k v.items) in
-      rw (drop-drop, one) refl
-
-  pub after_takes-then : (j k : ℕ) (v : View X) → after_takes k (after_takes j v) ≡ after_takes (j + k) v
-  after_takes-then j k v = let one : v.changes + j + k ≡ v.changes + (j + k) = omega arith in rw (drop-drop, one) refl
 
   pub after_takes-all : (k : ℕ) (v : View X) → k ≡ length v.items → after_takes k v ≡ after_clear v
   after_takes-all k v all = rw (all, drop-length v.items) refl

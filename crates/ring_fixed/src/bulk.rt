@@ -20,7 +20,7 @@ impl<T: Drop, S: RingSlots<T>> Fixed<T, S> {
             (after_takes count (view_of S.seen self.old)) }
     {
         let start = self.start;
-        Self::drop_from(&mut self.slots, start, count);
+        Self::drop_items(&mut self.slots, start, 0, count);
         self.start = self.slots.place(start, count);
         self.len -= count;
     }
@@ -32,7 +32,7 @@ impl<T: Drop, S: RingSlots<T>> Fixed<T, S> {
             (after_truncate len (view_of S.seen self.old)) }
     {
         if len < self.len {
-            Self::drop_after(&mut self.slots, self.start, len, self.len);
+            Self::drop_items(&mut self.slots, self.start, len, self.len);
             self.len = len;
         }
     }
@@ -148,50 +148,23 @@ impl<T: Drop, S: RingSlots<T>> Fixed<T, S> {
         (len + items.len(), Ok(()))
     }
 
-    // Drops the first items, in one run of slots or, where they reach the last slot, in two.
+    // Drops the items from an index up to another, in two runs of slots: up to the last slot, and on from the first.
     #[inline]
-    fn drop_from(slots: &mut S, start: usize, count: usize)
+    fn drop_items(slots: &mut S, start: usize, from: usize, to: usize)
         requires laid_out { IsLaidOut S.is_size (S.seen slots.old) start }
-        requires some { count ≤ length (view_from (S.seen slots.old) start).items }
-        ensures { LaysOut S.is_size (S.seen slots.old) (S.seen slots.new)
-            ((start + count) % length (S.seen slots.old).slots)
-            (after_takes count (view_from (S.seen slots.old) start)) }
-    {
-        let first = count.min(slots.size() - start);
-        Self::drop_run(slots, start, start + first);
-        if count == first {
-            return;
-        }
-        Self::drop_run(slots, 0, count - first);
-    }
-
-    // Drops the items of slots side by side, which are the first of the ring.
-    #[inline]
-    fn drop_run(slots: &mut S, from: usize, to: usize)
-        requires laid_out { IsLaidOut S.is_size (S.seen slots.old) from }
-        requires some { to - from ≤ length (view_from (S.seen slots.old) from).items }
-        requires places { (from ≤ to) × (to ≤ length (S.seen slots.old).slots) }
-        ensures { LaysOut S.is_size (S.seen slots.old) (S.seen slots.new)
-            (to % length (S.seen slots.old).slots)
-            (after_takes (to - from) (view_from (S.seen slots.old) from)) }
-    {
-        for place in from..to {
-            slots.discard(place);
-        }
-    }
-
-    // Drops the items from an index on, in two runs of slots: up to the last slot, and on from the first.
-    #[inline]
-    fn drop_after(slots: &mut S, start: usize, kept: usize, len: usize)
-        requires laid_out { IsLaidOut S.is_size (S.seen slots.old) start }
-        requires len { len ≡ length (view_from (S.seen slots.old) start).items }
-        requires within { kept ≤ len }
-        ensures { LaysOut S.is_size (S.seen slots.old) (S.seen slots.new) start
-            (after_truncate kept (view_from (S.seen slots.old) start)) }
+        requires order { from ≤ to }
+        requires within { to ≤ length (view_from (S.seen slots.old) start).items }
+        ensures first { from ≡ 0
+            → LaysOut S.is_size (S.seen slots.old) (S.seen slots.new)
+            ((start + to) % length (S.seen slots.old).slots)
+            (after_takes to (view_from (S.seen slots.old) start)) }
+        ensures last { to ≡ length (view_from (S.seen slots.old) start).items
+            → LaysOut S.is_size (S.seen slots.old) (S.seen slots.new) start
+            (after_truncate from (view_from (S.seen slots.old) start)) }
     {
         let room = slots.size() - start;
-        Self::empty_run(slots, start + kept.min(room), start + len.min(room));
-        Self::empty_run(slots, kept.saturating_sub(room), len.saturating_sub(room));
+        Self::empty_run(slots, start + from.min(room), start + to.min(room));
+        Self::empty_run(slots, from.saturating_sub(room), to.saturating_sub(room));
     }
 
     // Drops the items of slots side by side.
