@@ -171,6 +171,28 @@ fn a_skip_and_a_clear_drop_at_once(rt: HostRuntime) -> Result<(), AllocError> {
     on_each::<4>(&rt, &supply, &SkipsAndClears)
 }
 
+#[test]
+fn what_is_not_kept_is_dropped_at_once(rt: HostRuntime) -> Result<(), AllocError> {
+    let supply = Supply::new(rt.alloc(), 8)?;
+    let mut ring = AllocRingBuffer::new(rt.alloc(), 5)?;
+    push_items(&rt, &mut ring, &supply, 8);
+    ring.truncate(4);
+    for (number, drops) in [(3, 0), (4, 0), (5, 0), (6, 0), (7, 1)] {
+        supply.assert_drops(&rt, number, drops);
+    }
+    ring.keep_newest(2);
+    for (number, drops) in [(3, 1), (4, 1), (5, 0), (6, 0)] {
+        supply.assert_drops(&rt, number, drops);
+    }
+    let newest = ring.pop_back().expect(&rt, "an item");
+    assert_eq!(rt; newest.number, 6);
+    supply.assert_drops(&rt, 6, 0);
+    drop(newest);
+    drop(ring);
+    supply.assert_each_dropped(&rt);
+    Ok(())
+}
+
 #[derive(Drop)]
 struct Extends {
     overwritten: u8,
