@@ -3,6 +3,7 @@ use Rattle.std.proofs.Common.{◌≡◌, ℕ, zero, suc, ◌+◌, ◌-◌, ◌%�
 use Rattle.std.specs.Prelude.{slice_get, min}
 use Rattle.std.proofs.Math.Nat.{mod-eq_of_lt}
 use Rattle.std.proofs.lemmas.List.{ext_get_or, get_or-take, get_or-drop, length-map, length-take, length-drop, take-append-drop}
+use Rattle.ring_core.proofs.Items.{slice_get-drop, slice_get-take}
 use Rattle.ring_slots.specs.Slots.{Slots, HoldsRun, IsFullRun}
 use Rattle.ring_fixed.specs.Layout.{items_from, IsLaidOut}
 use Rattle.ring_fixed.proofs.SlotsHold.{wrap}
@@ -12,17 +13,6 @@ module _ {X : Type 0} where
   get_or-map_some [] k = refl
   get_or-map_some (x ∷ xs) zero = refl
   get_or-map_some (x ∷ xs) (suc k) = get_or-map_some xs k
-
-  slice_get-take : (n : ℕ) (xs : List X) (k : ℕ) → k < n → slice_get (take n xs) k ≡ slice_get xs k
-  slice_get-take zero xs k low = absurd (omega arith)
-  slice_get-take (suc n) [] k low = refl
-  slice_get-take (suc n) (x ∷ xs) zero low = refl
-  slice_get-take (suc n) (x ∷ xs) (suc k) low = slice_get-take n xs k (omega arith)
-
-  slice_get-drop : (n : ℕ) (xs : List X) (k : ℕ) → slice_get (drop n xs) k ≡ slice_get xs (n + k)
-  slice_get-drop zero xs k = ap (λ i. slice_get xs i) {x = k} {y = 0 + k} (omega arith)
-  slice_get-drop (suc n) [] k = refl
-  slice_get-drop (suc n) (x ∷ xs) k = slice_get-drop n xs k ∙ ap (λ i. slice_get (x ∷ xs) i) {x = suc (n + k)} {y = suc n + k} (omega arith)
 
   -- items that are known one by one are a run
   run_of : (cs : List (Option X)) (from : ℕ) (xs : List X) → from + length xs ≤ length cs → ((k : ℕ) → k < length xs → get_or cs (from + k) None ≡ slice_get xs k)
@@ -60,7 +50,7 @@ module _ {X : Type 0} {P : ℕ → Type 0} (s : Slots X) (start : ℕ) (laid_out
       let long : length xs ≡ first = omega (arith, length-take first items) in
       let reads = λ (k : ℕ) (low : k < length xs).
       let near : start + k < length s.slots = omega arith in
-      ap (λ place. get_or s.slots place None) (sym (mod-eq_of_lt near)) ∙ laid_out.layout k (omega arith) ∙ sym (slice_get-take first items k (omega arith)) in
+      ap (λ place. get_or s.slots place None) (sym (mod-eq_of_lt near)) ∙ laid_out.layout k (omega arith) ∙ sym (slice_get-take first k items (omega arith)) in
       (omega arith, (xs, rw long at (run_of s.slots start xs (omega arith) reads)))
 
   pub second_run : IsFullRun s.slots 0 (len - first)
@@ -70,7 +60,7 @@ module _ {X : Type 0} {P : ℕ → Type 0} (s : Slots X) (start : ℕ) (laid_out
       let long : length xs ≡ len - first = omega (arith, length-drop first items) in
       let reads = λ (k : ℕ) (low : k < length xs).
       let round : (start + (first + k)) % length s.slots ≡ 0 + k = elim (wrap start (first + k) (length s.slots) within (omega arith)) [ inl a ↦ omega arith | inr a ↦ omega arith ] in
-      ap (λ place. get_or s.slots place None) (sym round) ∙ laid_out.layout (first + k) (omega arith) ∙ sym (slice_get-drop first items k) in
+      ap (λ place. get_or s.slots place None) (sym round) ∙ laid_out.layout (first + k) (omega arith) ∙ sym (slice_get-drop first k items) in
       (omega arith, (xs, rw long at (run_of s.slots 0 xs (omega arith) reads)))
 
   pub both_runs : (xs ys : List X) → HoldsRun s.slots start first xs → HoldsRun s.slots 0 (len - first) ys → xs ++ ys ≡ items

@@ -35,6 +35,12 @@ module _ {X : Type 0} where
   after_extend limit v xs =
       record v { items = keep_last (Some limit) (v.items ++ xs); changes = v.changes + length xs + (length v.items + length xs - limit) }
 
+  -- a slice pushed of which only the last items are put that the limit leaves: one change for each of those, and one for each item that gives way
+  abbrev pub after_extend_from_slice : ℕ → View X → List X → View X
+  after_extend_from_slice limit v xs =
+      let put = min (length xs) limit in
+      record v { items = keep_last (Some limit) (v.items ++ xs); changes = v.changes + put + (length v.items + put - limit) }
+
   -- so many items taken, from the first on, each of which changes its slot
   abbrev pub after_takes : ℕ → View X → View X
   after_takes k v = record v { items = drop k v.items; changes = v.changes + k }

@@ -2,7 +2,7 @@
 ghost use Rattle.std.specs.Prelude.{◌≡◌, ◌+◌, ◌-◌, ◌%◌, ◌<◌, ◌≤◌, [], ◌++◌, All, IsOk, List, MatchResult, length};
 ghost use Rattle.std.specs.Iterator.{Drains, IsFiniteIterable};
 ghost use Rattle.std.specs.List.{AllZip, FoldsTo};
-ghost use Rattle.ring_fixed.specs.View.{after_put, after_puts, after_takes, after_push, after_extend, after_truncate, after_keep_newest, after_clear, after_fill};
+ghost use Rattle.ring_fixed.specs.View.{after_put, after_puts, after_takes, after_push, after_extend, after_extend_from_slice, after_truncate, after_keep_newest, after_clear, after_fill};
 ghost use Rattle.ring_fixed.specs.Layout.{AreFull, Empties, EndsBefore, IsLaidOut, LaysOut, LaysOutBefore, start_before, view_before, view_from};
 
 use crate::fixed::Fixed;
@@ -148,6 +148,27 @@ impl<T: Drop, S: RingSlots<T>> Fixed<T, S> {
         (len + items.len(), Ok(()))
     }
 
+    // Puts copies of items behind the last, side by side from a place on.
+    #[inline]
+    fn put_copies(slots: &mut S, start: usize, len: usize, place: usize, items: &[T])
+    where
+        T: Copy,
+        requires laid_out { IsLaidOut S.is_size (S.seen slots.old) start }
+        requires len { len ≡ length (view_from (S.seen slots.old) start).items }
+        requires room { len + length items.now ≤ length (S.seen slots.old).slots }
+        requires place { 0 < length items.now
+            → place ≡ (start + len) % length (S.seen slots.old).slots }
+        requires straight { place + length items.now ≤ length (S.seen slots.old).slots }
+        ensures { LaysOut S.is_size (S.seen slots.old) (S.seen slots.new) start
+            (after_puts items.now (view_from (S.seen slots.old) start)) }
+    {
+        // A number of slots is a word, and so is each place.
+        let _size = slots.size();
+        for i in 0..items.len() {
+            Self::put_at(slots, start, len + i, place + i, items[i]);
+        }
+    }
+
     // Drops the items from an index up to another, in two runs of slots: up to the last slot, and on from the first.
     #[inline]
     fn drop_items(slots: &mut S, start: usize, from: usize, to: usize)
@@ -188,7 +209,7 @@ impl<T: Drop, S: RingSlots<T>> Fixed<T, S> {
         ensures { LaysOut S.is_size (S.seen slots.old) (S.seen slots.new) 0
             (after_put (view_from (S.seen slots.old) 0) item) }
     {
-        slots.put(len, item);
+        Self::put_at(slots, 0, len, len, item);
     }
 
     // Pushes an item onto `len` items that end before a place, which a loop of these needs in place of their start.
@@ -267,6 +288,28 @@ impl<T: Drop, S: RingSlots<T>> Fixed<T, S> {
         }
         self.start = Self::start_of(&self.slots, end, len);
         self.len = len;
+        (self, ())
+    }
+
+    /// Pushes copies of the items of a slice, in order, but for those that would be overwritten by later ones.
+    pub fn extended_from_slice(mut self, given: (&[T], usize)) -> (Self, ())
+    where
+        T: Copy,
+        requires sound { IsSound S.seen S.is_size self }
+        requires within { length (view_of S.seen self).items ≤ given.1 }
+        requires room { given.1 ≤ (view_of S.seen self).capacity }
+        ensures { ChangesTo S.seen S.is_size self result.0
+            (after_extend_from_slice given.entry.1 (view_of S.seen self) given.entry.0.now) }
+    {
+        let (items, capacity) = given;
+        let (_, newest) = items.split_at(items.len().saturating_sub(capacity));
+        self.keep_newest(capacity - newest.len());
+        let (start, len) = (self.start, self.len);
+        let end = self.slots.place_after(start, len);
+        let (first, second) = newest.split_at(newest.len().min(self.slots.size() - end));
+        Self::put_copies(&mut self.slots, start, len, end, first);
+        Self::put_copies(&mut self.slots, start, len + first.len(), 0, second);
+        self.len = len + newest.len();
         (self, ())
     }
 

@@ -264,6 +264,19 @@ impl<T: Drop, S: RingSlots<T>> Fixed<T, S> {
             (after_put (view_from (S.seen slots.old) start) item) }
     {
         let place = slots.place(start, len);
+        Self::put_at(slots, start, len, place, item);
+    }
+
+    // The same where the place is known.
+    #[inline]
+    pub(crate) fn put_at(slots: &mut S, start: usize, len: usize, place: usize, item: T)
+        requires laid_out { IsLaidOut S.is_size (S.seen slots.old) start }
+        requires len { len ≡ length (view_from (S.seen slots.old) start).items }
+        requires room { len < length (S.seen slots.old).slots }
+        requires place { place ≡ (start + len) % length (S.seen slots.old).slots }
+        ensures { LaysOut S.is_size (S.seen slots.old) (S.seen slots.new) start
+            (after_put (view_from (S.seen slots.old) start) item) }
+    {
         slots.put(place, item);
     }
 

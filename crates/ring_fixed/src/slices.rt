@@ -1,5 +1,5 @@
 //! The items of a ring over heap slots as slices.
-ghost use Rattle.std.specs.Prelude.{◌≡◌, ◌↔◌, ◌+◌, ◌++◌, ◌<◌, length};
+ghost use Rattle.std.specs.Prelude.{◌≡◌, ◌↔◌, ◌+◌, ◌++◌, ◌<◌, drop, length, min, take};
 ghost use Rattle.std.specs.Cmp.Lexicographic.{pointwise};
 ghost use Rattle.std.specs.Int.{IsPowerOfTwo};
 
@@ -22,6 +22,30 @@ impl<T: Drop> Fixed<T, HeapSlots<T>> {
             self.slots.run(0, self.len - first),
         )
     }
+}
+
+/// Copies the items of two slices, in order, to the first places of a third, as many as it has. Returns how many.
+pub fn copy_slices<T: Copy>(items: (&[T], &[T]), output: &mut [T]) -> usize
+    ensures count { result
+        ≡ min (length output.old) (length items.entry.0.now + length items.entry.1.now) }
+    ensures copied { output.new
+        ≡ take result (items.entry.0.now ++ items.entry.1.now) ++ drop result output.old }
+{
+    let (first, second) = items;
+    let before = first.len().min(output.len());
+    let (front, back) = output.split_at_mut(before);
+    front.copy_from_slice(&first[..before]);
+    before + copy_slice(second, back)
+}
+
+// The same of one slice.
+fn copy_slice<T: Copy>(items: &[T], output: &mut [T]) -> usize
+    ensures count { result ≡ min (length output.old) (length items.now) }
+    ensures copied { output.new ≡ take result items.now ++ drop result output.old }
+{
+    let count = items.len().min(output.len());
+    output[..count].copy_from_slice(&items[..count]);
+    count
 }
 
 /// Whether the items of two slices and the items of two others are equal, place by place.

@@ -1,6 +1,6 @@
 //! The ring without a limit, over a deque.
 
-ghost use Rattle.std.specs.Prelude.{◌≡◌, ◌↔◌, ◌-◌, ◌%◌, ◌<◌, [], ◌∷◌, ◌++◌, All, IfOk, IsSome, List, MatchResult, None, Some, length, option_to_list, refl, slice_get, slice_set, take};
+ghost use Rattle.std.specs.Prelude.{◌≡◌, ◌↔◌, ◌-◌, ◌%◌, ◌<◌, [], ◌∷◌, ◌++◌, All, IfOk, IsSome, List, MatchResult, None, OnErr, OnOk, Some, drop, length, min, option_to_list, refl, slice_get, slice_set, take};
 ghost use Rattle.std.specs.Borrow.{sem};
 ghost use Rattle.std.specs.Cmp.Lexicographic.{lists_per, pointwise};
 ghost use Rattle.std.specs.Iterator.{Drains, IsFinite, YieldsThen};
@@ -16,6 +16,7 @@ use ring_core::{
     RingBufferMutIterator,
 };
 use ring_fixed::position::{position, signed_position};
+use ring_fixed::slices::copy_slices;
 use std::alloc::{AllocError, Global};
 use std::collections::VecDeque;
 use std::fmt::{self, Debug, Formatter, Write};
@@ -91,6 +92,13 @@ impl<T: Drop> GrowableAllocRingBuffer<T> {
 }
 
 impl<T: Drop> GrowableAllocRingBuffer<T> {
+    // The deque, with all items.
+    pub(crate) fn into_deque(self) -> VecDeque<T>
+        ensures { result.items ≡ self }
+    {
+        self.deque
+    }
+
     // Takes out all items with their memory.
     fn take_vec(&mut self) -> Vec<T>
         ensures items { result.items ≡ self.old }
@@ -276,6 +284,43 @@ impl<T: Drop> GrowableAllocRingBuffer<T> {
     {
         let others = self.deque.len().saturating_sub(len);
         self.deque.drain(..others);
+    }
+}
+
+impl<T: Copy + Drop> GrowableAllocRingBuffer<T> {
+    /// Puts copies of a slice's items last, in order.
+    ///
+    /// # Errors
+    ///
+    /// Where memory for all of them was refused. The ring is as it was then.
+    pub fn extend_from_slice(&mut self, items: &[T]) -> Result<(), AllocError>
+        ensures ok { OnOk result (self.new ≡ self.old ++ items.now) }
+        ensures err { OnErr result (self.new ≡ self.old) }
+    {
+        self.deque.reserve(items.len())?;
+        for i in 0..items.len() {
+            self.deque.push_back_reserved(items[i]);
+        }
+        Ok(())
+    }
+
+    /// Copies the oldest items to the first places of a slice, as many as it has, and returns how many.
+    pub fn copy_to_slice(&self, output: &mut [T]) -> usize
+        ensures count { result ≡ min (length output.old) (length self.now) }
+        ensures copied { output.new ≡ take result self.now ++ drop result output.old }
+    {
+        copy_slices(self.as_slices(), output)
+    }
+
+    /// Takes out the oldest items, as many as a slice has places, copies them to its first places, and returns how many.
+    pub fn dequeue_into(&mut self, output: &mut [T]) -> usize
+        ensures count { result ≡ min (length output.old) (length self.old) }
+        ensures copied { output.new ≡ take result self.old ++ drop result output.old }
+        ensures rest { self.new ≡ drop result self.old }
+    {
+        let count = self.copy_to_slice(output);
+        self.deque.drain(..count);
+        count
     }
 }
 

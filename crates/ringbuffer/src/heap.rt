@@ -1,5 +1,5 @@
 //! The ring on the heap.
-ghost use Rattle.std.specs.Prelude.{◌≡◌, ◌↔◌, ◌+◌, ◌-◌, ◌^◌, ◌<◌, ◌≤◌, [], ◌∷◌, ◌++◌, length, refl, ◌&&◌, nat_eq, IfOk, IsErr, IsOk, Some, option_to_list, slice_get};
+ghost use Rattle.std.specs.Prelude.{◌≡◌, ◌↔◌, ◌+◌, ◌-◌, ◌^◌, ◌<◌, ◌≤◌, [], ◌∷◌, ◌++◌, length, refl, ◌&&◌, nat_eq, IfOk, IsErr, IsOk, Some, option_to_list, slice_get, drop, min, take};
 ghost use Rattle.std.specs.Borrow.{Lends, sem};
 ghost use Rattle.std.specs.Int.{IsNextPowerOfTwo};
 ghost use Rattle.std.specs.Cmp.{and_per, on_per, partial_equiv_from_equiv};
@@ -8,7 +8,7 @@ ghost use Rattle.std.specs.List.{AllZip};
 ghost use Rattle.std.proofs.lemmas.Cmp.{and_equiv, lists_equiv, nat_eq_equiv, on_equiv};
 ghost use Rattle.ring_core.specs.Contents.{overwritten, place};
 ghost use Rattle.ring_core.specs.Walk.{ReadsInOrder, ReadsInReverse, StartsOver, into_iter_to_come, iterator_to_come};
-ghost use Rattle.ring_fixed.specs.View.{after_keep_newest, after_pop, after_push, after_truncate, after_write};
+ghost use Rattle.ring_fixed.specs.View.{after_extend_from_slice, after_keep_newest, after_pop, after_push, after_takes, after_truncate, after_write};
 
 mod convert;
 
@@ -18,7 +18,7 @@ use ring_core::{
     RingBufferMutIterator,
 };
 use ring_fixed::fixed::Fixed;
-use ring_fixed::slices::same_in_slices;
+use ring_fixed::slices::{copy_slices, same_in_slices};
 use ring_slots::{HeapSlots, RingSlots};
 use std::alloc::{AllocError, Global};
 use std::fmt::{self, Debug, Formatter, Write};
@@ -263,6 +263,39 @@ impl<T: Drop> AllocRingBuffer<T> {
         ensures { self.new ≡ after_keep_newest len self.old }
     {
         self.ring.keep_newest(len);
+    }
+}
+
+impl<T: Copy + Drop> AllocRingBuffer<T> {
+    /// Pushes copies of a slice's items in order, as `extend` would: the oldest items give way. Items of the slice that
+    /// later ones would overwrite are passed over.
+    pub fn extend_from_slice(&mut self, items: &[T])
+        ensures { self.new ≡ after_extend_from_slice self.old.capacity self.old items.now }
+    {
+        replace_with(
+            &mut self.ring,
+            (items, self.capacity),
+            Fixed::extended_from_slice,
+        );
+    }
+
+    /// Copies the oldest items to the first places of a slice, as many as it has, and returns how many.
+    pub fn copy_to_slice(&self, output: &mut [T]) -> usize
+        ensures count { result ≡ min (length output.old) (length self.now.items) }
+        ensures copied { output.new ≡ take result self.now.items ++ drop result output.old }
+    {
+        copy_slices(self.as_slices(), output)
+    }
+
+    /// Takes out the oldest items, as many as a slice has places, copies them to its first places, and returns how many.
+    pub fn dequeue_into(&mut self, output: &mut [T]) -> usize
+        ensures count { result ≡ min (length output.old) (length self.old.items) }
+        ensures copied { output.new ≡ take result self.old.items ++ drop result output.old }
+        ensures rest { self.new ≡ after_takes result self.old }
+    {
+        let count = self.copy_to_slice(output);
+        self.ring.drop_first(count);
+        count
     }
 }
 

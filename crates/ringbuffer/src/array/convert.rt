@@ -52,7 +52,7 @@ impl<T: Drop, const CAP: usize> ConstGenericRingBuffer<T, CAP> {
         requires { 0 < CAP }
         ensures { HoldsLast CAP items.items result }
     {
-        Self::from_iter(items)
+        Self::from_vec(items.into_vec())
     }
 
     /// The last `CAP` items of a linked list, or all where they are fewer. The others are dropped.
@@ -68,7 +68,7 @@ impl<T: Drop, const CAP: usize> ConstGenericRingBuffer<T, CAP> {
         requires { 0 < CAP }
         ensures { HoldsLast CAP ring result }
     {
-        Self::from_iter(ring)
+        Self::from_deque(ring.into_deque())
     }
 
     /// The last `CAP` items of a heap ring, or all where they are fewer. The others are dropped.

@@ -74,7 +74,7 @@ impl<T: Drop> AllocRingBuffer<T> {
         requires { 0 < length items.items }
         ensures { IfOk result (HoldsAll items.items) }
     {
-        Self::holding(alloc, items.len(), items)
+        Self::from_vec(alloc, items.into_vec())
     }
 
     /// The items of a linked list, of which there must be one. Their number is the ring's capacity.
@@ -101,7 +101,7 @@ impl<T: Drop> AllocRingBuffer<T> {
         requires { 0 < length ring }
         ensures { IfOk result (HoldsAll ring) }
     {
-        Self::holding(alloc, ring.len(), ring)
+        Self::from_deque(alloc, ring.into_deque())
     }
 
     /// The items of an array ring, of which there must be one. Their number is the ring's capacity.

@@ -1,0 +1,33 @@
+use Rattle.std.proofs.Common.{◌≡◌, ℕ, ◌+◌, ◌-◌, ◌%◌, ◌++◌, drop, ap, sym, ◌∙◌, arith, length, length-append, take-append-drop}
+use Rattle.std.proofs.Math.Nat.{mod-add-mod, mod_self}
+use Rattle.ring_fixed.specs.View.{View, after_keep_newest, after_puts}
+use Rattle.ring_fixed.specs.Layout.{view_from}
+use Rattle.ring_fixed.proofs.LaysOut.{LaysOut-then}
+use Rattle.ring_fixed.proofs.RepeatedSteps.{after_extend_from_slice-by, after_puts-then}
+use Rattle.ring_fixed.proofs.fixed.Fixed.extended_from_slice.Goals as goal
+
+-- behind the last slot the first one follows
+round : (start len end first size : ℕ) → end ≡ (start + len) % size → end + first ≡ size → 0 ≡ (start + (len + first)) % size
+round start len end first size found all =
+    sym (ap (λ n. n % size) {x = start + (len + first)} {y = start + len + first} (omega arith) ∙ sym (mod-add-mod (start + len) size first)
+    ∙ ap (λ p. (p + first) % size) (sym found) ∙ ap (λ n. n % size) all ∙ mod_self size)
+
+pub put_copies-requires-2-clause-place : goal.put_copies-requires-2-clause-place
+put_copies-requires-2-clause-place g c =
+    λ more. let ring = c.keep_newest.new.self in let size = c.put_copies.ensures.same_size in let parts = c.split_at-2.ensures in
+    let ends : c.place_after-end.result + length c.split_at-2.result.0.now ≡ length (g.S.RingSlots.seen ring.slots).slots =
+    omega (arith, c.min.ensures, c.size.ensures, parts.front_len, parts.back_len) in
+    rw size (round ring.start ring.len c.place_after-end.result _ _ c.place_after-end.ensures ends)
+
+-- So many are kept that the newest fit, which are put in two runs.
+pub returns : goal.returns
+returns g c =
+    let v = view_from (g.S.RingSlots.seen c.args.self.slots) c.args.self.start in let newest = c.split_at.result.1.now in
+    let first = c.split_at-2.result.0.now in let second = c.split_at-2.result.1.now in
+    let kept = after_keep_newest (c.args.given.1 - length newest) v in
+    let one = LaysOut-then (after_puts first) c.keep_newest.ensures.0 c.put_copies.ensures in
+    let two = LaysOut-then (after_puts second) one c.put_copies-2.ensures in
+    let parts = c.split_at-2.ensures in let joined : first ++ second ≡ newest = rw (parts.front, parts.back) (take-append-drop c.min.result newest) in
+    let is = after_extend_from_slice-by c.args.given.1 v c.args.given.0.now newest (c.split_at.ensures.back ∙ ap (λ n. drop n c.args.given.0.now) c.saturating_sub.ensures) in
+    let all = rw (after_puts-then first second kept, joined, is) at two in
+    (all, omega (arith, c.keep_newest.ensures.1, ap (λ (w : View _). length w.items) is, length-append kept.items newest))

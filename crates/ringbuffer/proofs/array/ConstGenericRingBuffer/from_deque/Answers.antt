@@ -1,7 +1,0 @@
-use Rattle.std.proofs.Common.{rules}
-use Rattle.std.proofs.lemmas.Iterator.Adapters.{YieldsList-from_vec}
-use Rattle.ringbuffer.proofs.Conversions.{last_made}
-use Rattle.ringbuffer.proofs.array.ConstGenericRingBuffer.from_deque.Goals as goal
-
-pub returns : goal.returns
-returns g c = last_made _ c.from_iter.ensures (λ it from. YieldsList-from_vec _ from.1 (search rules))

@@ -1,7 +1,0 @@
-use Rattle.std.proofs.Common.{arith, rules}
-use Rattle.std.proofs.lemmas.Iterator.Adapters.{YieldsList-from_vec}
-use Rattle.ringbuffer.proofs.Conversions.{all_made}
-use Rattle.ringbuffer.proofs.heap.AllocRingBuffer.from_deque.Goals as goal
-
-pub returns : goal.returns
-returns g c = all_made c.holding.result _ c.holding.ensures (search rules) (omega arith) (λ it from. YieldsList-from_vec _ from.1 (search rules))
