@@ -8,6 +8,7 @@ mod ends;
 mod fills;
 mod positions;
 mod pushing;
+mod slices;
 mod sums;
 mod walks;
 

@@ -1,3 +1,4 @@
+pub mod Bytes
 pub mod Log
 pub mod Signal
 pub mod States

@@ -1,6 +1,7 @@
 //! Uses of ring buffers, each as a user would write it, and proved from the library's public contracts alone.
 #![tactic(auto)]
 
+pub mod array_pipe;
 pub mod events;
 pub mod last_two;
 pub mod pipe;

@@ -1,71 +1,79 @@
 //! A pipe of bytes.
 
-ghost use Rattle.std.specs.Prelude.{◌≡◌, ◌-◌, ◌<◌, ◌≤◌, [], ◌++◌, drop, length, min, take};
+ghost use Rattle.std.specs.Prelude.{◌≡◌, ◌-◌, ◌<◌, ◌≤◌, [], ◌++◌, IfOk, drop, length, min, take};
 
-use ringbuffer::{ConstGenericRingBuffer, RingBuffer};
+use ringbuffer::{AllocRingBuffer, RingBuffer};
+use std::alloc::{AllocError, Global};
 use std::marker::Model;
 
-/// Bytes on their way, at most `CAP`, oldest first. What has come in goes out, in order and once.
+/// Bytes on their way, oldest first. What has come in goes out, in order and once.
 #[derive(Drop)]
-pub struct Pipe<const CAP: usize> {
-    bytes: ConstGenericRingBuffer<u8, CAP>,
+pub struct Pipe {
+    bytes: AllocRingBuffer<u8>,
 }
 
-impl<const CAP: usize> Model for Pipe<CAP> {
-    ghost use Rattle.std.specs.Prelude.{List, ℕ};
+impl Model for Pipe {
+    ghost use Rattle.ring_uses.specs.Bytes.{Bytes};
 
-    ghost Value = { List ℕ };
+    ghost Value = { Bytes };
 
-    ghost view = { λ p. p.bytes.items };
+    ghost view = { λ p. record { bytes = p.bytes.items; capacity = p.bytes.capacity } };
 }
 
-impl<const CAP: usize> Pipe<CAP> {
-    /// A pipe with no byte on its way.
-    pub fn new() -> Self
-        requires { 0 < CAP }
-        ensures { result ≡ [] }
+impl Pipe {
+    /// A pipe with no byte on its way and room for `capacity` of them.
+    ///
+    /// # Errors
+    ///
+    /// Where memory was refused.
+    pub fn new(alloc: Global, capacity: usize) -> Result<Self, AllocError>
+        requires { 0 < capacity }
+        ensures { IfOk result (λ pipe. pipe ≡ record { bytes = []; capacity = capacity }) }
     {
-        Pipe {
-            bytes: ConstGenericRingBuffer::new(),
-        }
+        Ok(Pipe {
+            bytes: AllocRingBuffer::new(alloc, capacity)?,
+        })
     }
 
     /// Takes in the first of these bytes, as many as there is room for, and returns how many. It overwrites none.
     pub fn receive(&mut self, input: &[u8]) -> usize
-        ensures count { result ≡ min (length input.now) (CAP - length self.old) }
-        ensures bytes { self.new ≡ self.old ++ take result input.now }
-        ensures within { length self.new ≤ CAP }
+        ensures count { result
+            ≡ min (length input.now) (self.old.capacity - length self.old.bytes) }
+        ensures bytes { self.new
+            ≡ record self.old { bytes = self.old.bytes ++ take result input.now } }
+        ensures within { length self.new.bytes ≤ self.new.capacity }
     {
-        let count = input.len().min(CAP - self.bytes.len());
-        let _ = self.bytes.extend(input[..count].iter().copied());
+        let room = self.bytes.capacity() - self.bytes.len();
+        let count = input.len().min(room);
+        self.bytes.extend_from_slice(&input[..count]);
         count
+    }
+
+    /// Copies the oldest bytes, as many as there are places for, and returns how many. They stay on their way.
+    pub fn peek(&self, output: &mut [u8]) -> usize
+        ensures count { result ≡ min (length output.old) (length self.now.bytes) }
+        ensures seen { output.new ≡ take result self.now.bytes ++ drop result output.old }
+    {
+        self.bytes.copy_to_slice(output)
     }
 
     /// Hands out the oldest bytes, as many as there are places for, and returns how many. The other places stay.
     pub fn send(&mut self, output: &mut [u8]) -> usize
-        ensures count { result ≡ min (length output.old) (length self.old) }
-        ensures sent { output.new ≡ take result self.old ++ drop result output.old }
-        ensures rest { self.new ≡ drop result self.old }
+        ensures count { result ≡ min (length output.old) (length self.old.bytes) }
+        ensures sent { output.new ≡ take result self.old.bytes ++ drop result output.old }
+        ensures rest { self.new ≡ record self.old { bytes = drop result self.old.bytes } }
     {
-        let mut count = 0;
-        for place in output.iter_mut() {
-            let Some(byte) = self.bytes.dequeue() else {
-                break;
-            };
-            *place = byte;
-            count += 1;
-        }
-        count
+        self.bytes.dequeue_into(output)
     }
 }
 
 /// Copies `input` to `output` through an empty pipe, a part at a time.
-pub fn relay<const CAP: usize>(pipe: &mut Pipe<CAP>, input: &[u8], output: &mut [u8])
-    requires capacity { 0 < CAP }
-    requires empty { pipe.old ≡ [] }
+pub fn relay(pipe: &mut Pipe, input: &[u8], output: &mut [u8])
+    requires capacity { 0 < pipe.old.capacity }
+    requires empty { pipe.old.bytes ≡ [] }
     requires places { length output.old ≡ length input.now }
     ensures copied { output.new ≡ input.now }
-    ensures empty { pipe.new ≡ [] }
+    ensures empty { pipe.new.bytes ≡ [] }
 {
     let mut received = 0;
     let mut sent = 0;

@@ -1,5 +1,6 @@
 //! Each use once, on input as it comes in practice.
 
+use crate::array_pipe::ArrayPipe;
 use crate::events::remember;
 use crate::last_two::newest_and_oldest;
 use crate::pipe::{Pipe, relay};
@@ -138,8 +139,27 @@ fn undo_of_many_keystrokes(rt: HostRuntime) -> Result<(), AllocError> {
 }
 
 #[test]
-fn pipe_that_is_too_small(rt: HostRuntime) {
-    let mut pipe = Pipe::<8>::new();
+fn pipe_that_is_too_small(rt: HostRuntime) -> Result<(), AllocError> {
+    let mut pipe = Pipe::new(rt.alloc(), 8)?;
+    assert_eq!(rt; pipe.receive(b"GET /"), 5);
+    assert_eq!(rt; pipe.receive(b"status"), 3);
+    assert_eq!(rt; pipe.receive(b"tus"), 0);
+    let mut output = *b"..........";
+    assert_eq!(rt; pipe.peek(&mut output[..3]), 3);
+    assert_eq!(rt; output, *b"GET.......");
+    assert_eq!(rt; pipe.send(&mut output[..5]), 5);
+    assert_eq!(rt; output, *b"GET /.....");
+    assert_eq!(rt; pipe.receive(b"tus"), 3);
+    assert_eq!(rt; pipe.send(&mut output), 6);
+    assert_eq!(rt; output, *b"status....");
+    assert_eq!(rt; pipe.send(&mut output), 0);
+    assert_eq!(rt; output, *b"status....");
+    Ok(())
+}
+
+#[test]
+fn array_pipe_that_is_too_small(rt: HostRuntime) {
+    let mut pipe = ArrayPipe::<8>::new();
     assert_eq!(rt; pipe.receive(b"GET /"), 5);
     assert_eq!(rt; pipe.receive(b"status"), 3);
     assert_eq!(rt; pipe.receive(b"tus"), 0);
@@ -149,18 +169,16 @@ fn pipe_that_is_too_small(rt: HostRuntime) {
     assert_eq!(rt; pipe.receive(b"tus"), 3);
     assert_eq!(rt; pipe.send(&mut output), 6);
     assert_eq!(rt; output, *b"status....");
-    assert_eq!(rt; pipe.send(&mut output), 0);
-    assert_eq!(rt; output, *b"status....");
 }
 
 #[test]
-fn request_through_pipes(rt: HostRuntime) {
-    let mut output = [0; REQUEST.len()];
-    relay(&mut Pipe::<1>::new(), REQUEST, &mut output);
-    assert_eq!(rt; output.as_slice(), REQUEST);
-    let mut output = [0; REQUEST.len()];
-    relay(&mut Pipe::<16>::new(), REQUEST, &mut output);
-    assert_eq!(rt; output.as_slice(), REQUEST);
+fn request_through_pipes(rt: HostRuntime) -> Result<(), AllocError> {
+    for capacity in [1, 16, REQUEST.len()] {
+        let mut output = [0; REQUEST.len()];
+        relay(&mut Pipe::new(rt.alloc(), capacity)?, REQUEST, &mut output);
+        assert_eq!(rt; output.as_slice(), REQUEST);
+    }
+    Ok(())
 }
 
 #[test]

@@ -4,7 +4,7 @@ use Rattle.std.proofs.lemmas.Iterator.Consumers.{YieldsList-from_copied}
 use Rattle.std.proofs.lemmas.List.{length-take, map-id}
 use Rattle.ringbuffer.proofs.Drained.{shown_extended}
 use Rattle.ringbuffer.proofs.Limits.{keep_last_within}
-use Rattle.ring_uses.proofs.pipe.Pipe.receive.Goals as goal
+use Rattle.ring_uses.proofs.array_pipe.ArrayPipe.receive.Goals as goal
 
 pub returns-clause-bytes : goal.returns-clause-bytes
 returns-clause-bytes g c =

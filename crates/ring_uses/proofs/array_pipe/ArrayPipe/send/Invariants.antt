@@ -1,5 +1,5 @@
 use Rattle.std.proofs.Common.{◌≡◌, ◌≤◌, ◌++◌, drop, length, take}
-use Rattle.ring_uses.proofs.pipe.Pipe.send.Given as goal
+use Rattle.ring_uses.proofs.array_pipe.ArrayPipe.send.Given as goal
 
 -- the oldest bytes were handed out, and the others are still on their way
 abbrev pub invariant-loop-place : goal.invariant-loop-place

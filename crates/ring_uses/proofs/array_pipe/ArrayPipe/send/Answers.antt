@@ -1,7 +1,7 @@
 use Rattle.std.proofs.Common.{◌≡◌, ◌∙◌, arith, drop, refl, slice_get, Some}
 use Rattle.std.proofs.lemmas.List.{drop-drop}
 use Rattle.ring_uses.proofs.Sent.{one_more, set-copied}
-use Rattle.ring_uses.proofs.pipe.Pipe.send.Goals as goal
+use Rattle.ring_uses.proofs.array_pipe.ArrayPipe.send.Goals as goal
 
 pub loop-place-preserved : goal.loop-place-preserved
 loop-place-preserved g c =

@@ -1,0 +1,140 @@
+//! Whole slices in and out.
+
+use super::{assert_gives, assert_holds, push_all};
+use ringbuffer::{AllocRingBuffer, GrowableAllocRingBuffer, RingBuffer};
+use std::alloc::AllocError;
+use std::process::Abort;
+
+/// The calls that the heap ring and the growable ring have of their own and no trait of the library has.
+trait Slices: RingBuffer<i64> {
+    fn extend_from_slice(&mut self, items: &[i64]) -> Result<(), AllocError>;
+
+    fn copy_to_slice(&self, output: &mut [i64]) -> usize;
+
+    fn dequeue_into(&mut self, output: &mut [i64]) -> usize;
+}
+
+impl Slices for AllocRingBuffer<i64> {
+    fn extend_from_slice(&mut self, items: &[i64]) -> Result<(), AllocError> {
+        AllocRingBuffer::extend_from_slice(self, items);
+        Ok(())
+    }
+
+    fn copy_to_slice(&self, output: &mut [i64]) -> usize {
+        AllocRingBuffer::copy_to_slice(self, output)
+    }
+
+    fn dequeue_into(&mut self, output: &mut [i64]) -> usize {
+        AllocRingBuffer::dequeue_into(self, output)
+    }
+}
+
+impl Slices for GrowableAllocRingBuffer<i64> {
+    fn extend_from_slice(&mut self, items: &[i64]) -> Result<(), AllocError> {
+        GrowableAllocRingBuffer::extend_from_slice(self, items)
+    }
+
+    fn copy_to_slice(&self, output: &mut [i64]) -> usize {
+        GrowableAllocRingBuffer::copy_to_slice(self, output)
+    }
+
+    fn dequeue_into(&mut self, output: &mut [i64]) -> usize {
+        GrowableAllocRingBuffer::dequeue_into(self, output)
+    }
+}
+
+/// The items of a ring, a slice that it is extended by, and all of them in order.
+const EXTENSIONS: [(&[i64], &[i64], &[i64]); 9] = [
+    (&[], &[], &[]),
+    (&[1, 2], &[], &[1, 2]),
+    (&[], &[1, 2, 3], &[1, 2, 3]),
+    (&[1, 2], &[3, 4], &[1, 2, 3, 4]),
+    (&[1, 2, 3], &[4, 5, 6, 7], &[1, 2, 3, 4, 5, 6, 7]),
+    (&[1, 2, 3, 4], &[5], &[1, 2, 3, 4, 5]),
+    (&[1, 2, 3], &[4, 5, 6, 7, 8], &[1, 2, 3, 4, 5, 6, 7, 8]),
+    (&[], &[1, 2, 3, 4, 5, 6], &[1, 2, 3, 4, 5, 6]),
+    (
+        &[1, 2],
+        &[3, 4, 5, 6, 7, 8, 9],
+        &[1, 2, 3, 4, 5, 6, 7, 8, 9],
+    ),
+];
+
+/// The items of a ring, and a slice of nines after as many of them as it has places for were copied to it.
+const COPIES: [(&[i64], usize, &[i64]); 8] = [
+    (&[], 0, &[]),
+    (&[], 0, &[9, 9]),
+    (&[1, 2, 3], 0, &[]),
+    (&[1, 2, 3], 1, &[1]),
+    (&[1, 2, 3], 3, &[1, 2, 3]),
+    (&[1, 2, 3], 3, &[1, 2, 3, 9, 9]),
+    (&[1, 2, 3, 4, 5], 4, &[1, 2, 3, 4]),
+    (&[1, 2, 3, 4, 5], 5, &[1, 2, 3, 4, 5, 9]),
+];
+
+/// Where the items of a ring begin: so many places after the first slot.
+const STARTS: [usize; 8] = [0, 1, 2, 3, 4, 5, 6, 7];
+
+/// The ring holds these items and no other, which begin so many places after the first slot.
+fn lay<R: RingBuffer<i64>>(rt: &impl Abort, ring: &mut R, start: usize, items: &[i64]) {
+    ring.clear();
+    for _ in 0..start {
+        push_all(rt, ring, &[0]);
+        ring.skip();
+    }
+    push_all(rt, ring, items);
+}
+
+/// An extension by the slice of each row leaves the last of all items that the limit allows.
+fn assert_extends<R: Slices + Drop>(
+    rt: &impl Abort,
+    mut ring: R,
+    limit: usize,
+) -> Result<(), AllocError> {
+    for (items, slice, all) in EXTENSIONS {
+        let left = &all[all.len().saturating_sub(limit)..];
+        for start in STARTS {
+            lay(rt, &mut ring, start, items);
+            ring.extend_from_slice(slice)?;
+            assert_gives(rt, &mut ring, left);
+        }
+    }
+    Ok(())
+}
+
+#[test]
+fn slices_are_put_behind_the_items(rt: HostRuntime) -> Result<(), AllocError> {
+    assert_extends(&rt, AllocRingBuffer::new(rt.alloc(), 4)?, 4)?;
+    assert_extends(&rt, AllocRingBuffer::new(rt.alloc(), 5)?, 5)?;
+    assert_extends(&rt, GrowableAllocRingBuffer::new(rt.alloc()), usize::MAX)
+}
+
+/// `copy_to_slice` and `dequeue_into` on the items and the slice of each row.
+fn assert_copies<R: Slices + Drop>(rt: &impl Abort, mut ring: R) -> Result<(), AllocError> {
+    for (items, count, copied) in COPIES {
+        for start in STARTS {
+            lay(rt, &mut ring, start, items);
+            let mut output = [9; 6];
+            let output = &mut output[..copied.len()];
+            assert_eq!(rt; ring.copy_to_slice(output), count);
+            assert_eq!(rt; &*output, copied);
+            assert_holds(rt, &ring, items);
+            output.fill(9);
+            assert_eq!(rt; ring.dequeue_into(output), count);
+            assert_eq!(rt; &*output, copied);
+            push_all(rt, &mut ring, &[8]);
+            for item in items.iter().skip(count) {
+                assert_eq!(rt; ring.dequeue(), Some(*item));
+            }
+            assert_gives(rt, &mut ring, &[8]);
+        }
+    }
+    Ok(())
+}
+
+#[test]
+fn items_are_copied_to_slices(rt: HostRuntime) -> Result<(), AllocError> {
+    assert_copies(&rt, AllocRingBuffer::new(rt.alloc(), 6)?)?;
+    assert_copies(&rt, AllocRingBuffer::new(rt.alloc(), 8)?)?;
+    assert_copies(&rt, GrowableAllocRingBuffer::new(rt.alloc()))
+}
