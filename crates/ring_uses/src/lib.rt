@@ -5,6 +5,7 @@ pub mod array_pipe;
 pub mod events;
 pub mod last_two;
 pub mod pipe;
+pub mod relay;
 pub mod samples;
 pub mod tail;
 #[cfg(test)]

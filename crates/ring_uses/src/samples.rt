@@ -63,7 +63,11 @@ impl SampleBuffer {
         ensures { IfOk result (λ last. last.items ≡ keep_last (Some k) self.now.samples) }
     {
         let older = self.samples.len().saturating_sub(k);
-        self.samples.iter().skip(older).copied().collect(alloc)
+        let (first, second) = self.samples.as_slices();
+        let mut last = Vec::new(alloc);
+        last.extend_from_slice(&first[older.min(first.len())..])?;
+        last.extend_from_slice(&second[older.saturating_sub(first.len())..])?;
+        Ok(last)
     }
 
     /// The sample at a time, counted in samples from now: -1 is the newest. `None` before the oldest, and from 0 on.

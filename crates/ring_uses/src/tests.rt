@@ -3,7 +3,8 @@
 use crate::array_pipe::ArrayPipe;
 use crate::events::remember;
 use crate::last_two::newest_and_oldest;
-use crate::pipe::{Pipe, relay};
+use crate::pipe::Pipe;
+use crate::relay::relay;
 use crate::samples::SampleBuffer;
 use crate::tail::{LogTail, tail};
 use crate::undo::History;

@@ -3,7 +3,7 @@ use Rattle.std.proofs.Math.Seq.{take-add}
 use Rattle.std.proofs.lemmas.List.{length-take, take_all}
 use Rattle.ring_uses.specs.Bytes.{Bytes}
 use Rattle.ring_uses.proofs.Sent.{take-append-sent}
-use Rattle.ring_uses.proofs.pipe.relay.Goals as goal
+use Rattle.ring_uses.proofs.relay.relay.Goals as goal
 
 pub loop-sent-preserved : goal.loop-sent-preserved
 loop-sent-preserved c =

@@ -1,5 +1,5 @@
 use Rattle.std.proofs.Common.{◌≡◌, ◌≤◌, ◌+◌, ◌-◌, ◌++◌, length, take}
-use Rattle.ring_uses.proofs.pipe.relay.Given as goal
+use Rattle.ring_uses.proofs.relay.relay.Given as goal
 
 -- what was received is what was sent and what is on its way, in order
 abbrev pub invariant-loop-sent : goal.invariant-loop-sent
