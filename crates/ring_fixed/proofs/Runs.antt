@@ -6,6 +6,7 @@ use Rattle.std.proofs.lemmas.List.{ext_get_or, get_or-take, get_or-drop, length-
 use Rattle.ring_core.proofs.Items.{slice_get-drop, slice_get-take}
 use Rattle.ring_slots.specs.Slots.{Slots, HoldsRun, IsFullRun}
 use Rattle.ring_fixed.specs.Layout.{items_from, IsLaidOut}
+use Rattle.ring_fixed.specs.Somes.{somes}
 use Rattle.ring_fixed.proofs.SlotsHold.{wrap}
 
 module _ {X : Type 0} where
@@ -24,19 +25,13 @@ module _ {X : Type 0} where
       ext_get_or None part (map Some xs) (omega (arith, length-map xs Some)) (λ k low.
       get_or-take n (drop from cs) k None (omega arith) ∙ get_or-drop from cs k None ∙ reads k (omega arith) ∙ sym (get_or-map_some xs k))
 
-  known : List (Option X) → List X
-  known [] = []
-  known (None ∷ cs) = known cs
-  known (Some x ∷ cs) = x ∷ known cs
-
-  known-map : (xs : List X) → known (map Some xs) ≡ xs
-  unfolding known
-  known-map [] = refl
-  known-map (x ∷ xs) = ap (λ l. x ∷ l) (known-map xs)
+  somes-map : (xs : List X) → somes (map Some xs) ≡ xs
+  somes-map [] = refl
+  somes-map (x ∷ xs) = ap (λ l. x ∷ l) (somes-map xs)
 
   -- a run holds one list of items
   run_is : (cs : List (Option X)) (from n : ℕ) (xs ys : List X) → HoldsRun cs from n xs → HoldsRun cs from n ys → xs ≡ ys
-  run_is cs from n xs ys holds holds' = sym (known-map xs) ∙ ap known (sym holds ∙ holds') ∙ known-map ys
+  run_is cs from n xs ys holds holds' = sym (somes-map xs) ∙ ap somes (sym holds ∙ holds') ∙ somes-map ys
 
 module _ {X : Type 0} {P : ℕ → Type 0} (s : Slots X) (start : ℕ) (laid_out : IsLaidOut P s start) (len first : ℕ)
     (counted : len ≡ length (items_from s.slots start)) (least : first ≡ min len (length s.slots - start)) where
