@@ -9,7 +9,7 @@ using Ring = boost::circular_buffer<std::uint64_t>;
 
 namespace {
 
-enum Work : std::uint32_t { Push, PushCall, PushDequeue, Extend, Walk, Get, Fill, Clone, Refill, Slide, Reextend, Slices, ToVec, Equal, Contains, FromSlice };
+enum Work : std::uint32_t { Push, PushCall, PushDequeue, Extend, Walk, Get, Fill, Clone, Refill, Slide, Reextend, Slices, ToVec, Equal, Contains, FromSlice, Pipe, Undo };
 
 constexpr std::uint64_t extension = 4096;
 
@@ -77,6 +77,52 @@ constexpr std::uint64_t extension = 4096;
     return sum + copy[sum % copy.size()];
 }
 
+[[gnu::noinline]] std::uint64_t undo(Ring &ring, std::size_t items) {
+    std::uint64_t sum = 0;
+    for (std::size_t number = 0; number < items; ++number) {
+        sum += ring.back();
+        ring.pop_back();
+        ring.push_back(number);
+    }
+    return sum;
+}
+
+using Bytes = boost::circular_buffer<std::uint8_t>;
+
+// The place of the oldest byte of a new pipe, and the size of a block.
+constexpr std::size_t start = 1000;
+constexpr std::size_t block_size = 4096;
+
+[[gnu::noinline]] void relay(Bytes &pipe, const std::vector<std::uint8_t> &block, std::vector<std::uint8_t> &output) {
+    pipe.insert(pipe.end(), block.begin(), block.end());
+    const auto first = pipe.array_one();
+    const std::size_t before = std::min(first.second, output.size());
+    std::copy_n(first.first, before, output.begin());
+    std::copy_n(pipe.array_two().first, output.size() - before, output.begin() + before);
+    pipe.erase_begin(output.size());
+}
+
+std::vector<std::uint8_t> bytes(std::size_t count) {
+    std::vector<std::uint8_t> result(count);
+    for (std::size_t number = 0; number < count; ++number) result[number] = number % 251;
+    return result;
+}
+
+std::uint64_t through_pipe(std::size_t capacity, std::size_t items) {
+    const auto first = bytes(start + capacity / 2);
+    Bytes pipe(capacity);
+    pipe.insert(pipe.end(), first.begin(), first.end());
+    pipe.erase_begin(start);
+    const auto block = bytes(block_size);
+    std::vector<std::uint8_t> output(block_size);
+    std::uint64_t sum = 0;
+    for (std::size_t i = 0; i < items / block_size; ++i) {
+        relay(pipe, block, output);
+        sum += output.back();
+    }
+    return sum;
+}
+
 using Samples = boost::circular_buffer<std::int64_t>;
 
 [[gnu::noinline]] __int128 slide(Samples &ring, __int128 &sum, std::size_t items) {
@@ -102,6 +148,7 @@ std::uint64_t slide_side(std::size_t capacity, std::size_t items) {
 
 extern "C" std::uint64_t boost_side(std::uint32_t work, std::size_t capacity, std::size_t items) {
     if (work == Slide) return slide_side(capacity, items);
+    if (work == Pipe) return through_pipe(capacity, items);
     Ring ring(capacity);
     push(ring, capacity);
     std::uint64_t sum = 0;
@@ -115,6 +162,7 @@ extern "C" std::uint64_t boost_side(std::uint32_t work, std::size_t capacity, st
         case Get: for (std::size_t i = 0; i < rounds; ++i) sum = get(ring, capacity, sum); break;
         case Fill: for (std::size_t i = 0; i < rounds; ++i) fill(ring, i); break;
         case Clone: for (std::size_t i = 0; i < rounds; ++i) sum = clone(ring, sum); break;
+        case Undo: sum = undo(ring, items); break;
         case Slices: for (std::size_t i = 0; i < rounds; ++i) sum = sum_slices(ring, sum); break;
         case ToVec: for (std::size_t i = 0; i < rounds; ++i) sum = to_vector(ring, sum); break;
         case Equal: {

@@ -10,7 +10,9 @@ set yrange [0:*]
 set grid ytics lc rgb "#dddddd"
 set key outside right top
 set xtics rotate by -20 nomirror
-of(name) = sprintf("< awk -F, -v name='%s' '$2 == 1024 && $3 == name { print $1 \",\" $4 }' target/times.csv", name)
+# A kind of work that a contender doesn't do is a gap among its bars.
+set datafile missing "?"
+of(name) = sprintf("< awk -F, -v name='%s' '$2 == 1024 { if (!($1 in seen)) works[++count] = $1; seen[$1] } $2 == 1024 && $3 == name { time[$1] = $4 } END { for (i = 1; i <= count; ++i) print works[i] \",\" (works[i] in time ? time[works[i]] : \"?\") }' target/times.csv", name)
 plot of("heap") using 2:xtic(1) title "heap" lc rgb "#1f4e9c", \
      of("Rust heap") using 2 title "Rust heap" lc rgb "#9db8e6", \
      of("array") using 2 title "array" lc rgb "#1d7a3e", \

@@ -1,5 +1,6 @@
 //! The same work on a `VecDeque` that is kept to its capacity by hand.
 
+use crate::pipe;
 use crate::work::{Work, EXTENSION};
 use std::collections::VecDeque;
 
@@ -113,6 +114,42 @@ fn of_slice(items: &[u64], sum: u64) -> u64 {
     copy.get(sum as usize % copy.len()).map_or(0, |item| sum.wrapping_add(*item))
 }
 
+#[inline(never)]
+fn undo(ring: &mut VecDeque<u64>, capacity: usize, items: usize) -> u64 {
+    let mut sum = 0u64;
+    for number in 0..items {
+        if let Some(item) = ring.pop_back() {
+            sum = sum.wrapping_add(item);
+        }
+        push_one(ring, capacity, number as u64);
+    }
+    sum
+}
+
+/// A pipe of bytes, and the capacity that it is kept to.
+struct Pipe {
+    bytes: VecDeque<u8>,
+    capacity: usize,
+}
+
+/// For bytes alone a deque is a `Read` too, which is faster than `drain`: no other item has that.
+#[inline(never)]
+fn relay(pipe: &mut Pipe, block: &[u8], output: &mut [u8]) {
+    let over = (pipe.bytes.len() + block.len()).saturating_sub(pipe.capacity);
+    pipe.bytes.drain(..over);
+    pipe.bytes.extend(block);
+    for (place, byte) in output.iter_mut().zip(pipe.bytes.drain(..block.len())) {
+        *place = byte;
+    }
+}
+
+fn through_pipe(capacity: usize, items: usize) -> u64 {
+    let mut bytes = VecDeque::with_capacity(capacity);
+    bytes.extend(pipe::first_bytes());
+    bytes.drain(..pipe::START);
+    pipe::relay_blocks(&mut Pipe { bytes, capacity }, items, relay)
+}
+
 /// A sum that is kept by hand.
 struct Window {
     ring: VecDeque<i64>,
@@ -180,6 +217,8 @@ pub fn deque(work: Work, capacity: usize, items: usize) -> u64 {
         Work::Fill => (0..rounds).for_each(|round| fill(&mut ring, capacity, round as u64)),
         Work::Refill => (0..rounds).for_each(|round| refill(&mut ring, capacity, round as u64)),
         Work::Slide => return slide(capacity, items),
+        Work::Pipe => return through_pipe(capacity, items),
+        Work::Undo => sum = undo(&mut ring, capacity, items),
         Work::Reextend => (0..rounds).for_each(|_| reextend(&mut ring, capacity)),
         Work::Slices => (0..rounds).for_each(|_| sum = sum_slices(&ring, sum)),
         Work::ToVec => (0..rounds).for_each(|_| sum = to_vec(&ring, sum)),

@@ -1,5 +1,6 @@
 //! The limit: a bare write under a mask, and plain slices. It keeps no length and overwrites without a test.
 
+use crate::pipe;
 use crate::work::{Work, EXTENSION};
 
 struct Masked {
@@ -97,6 +98,27 @@ fn slide(ring: &mut Masked, sum: &mut i128, items: usize) -> i128 {
     sums
 }
 
+/// A pipe that keeps no length, and whose blocks never go round its end.
+struct Pipe {
+    bytes: Box<[u8]>,
+    oldest: usize,
+}
+
+#[inline(never)]
+fn relay(pipe: &mut Pipe, block: &[u8], output: &mut [u8]) {
+    let size = pipe.bytes.len();
+    let end = (pipe.oldest + size / 2) % size;
+    pipe.bytes[end..end + block.len()].copy_from_slice(block);
+    output.copy_from_slice(&pipe.bytes[pipe.oldest..pipe.oldest + output.len()]);
+    pipe.oldest = (pipe.oldest + output.len()) % size;
+}
+
+fn through_pipe(capacity: usize, items: usize) -> u64 {
+    let mut bytes = vec![0; capacity].into_boxed_slice();
+    bytes[..capacity / 2].copy_from_slice(&pipe::first_bytes()[pipe::START..]);
+    pipe::relay_blocks(&mut Pipe { bytes, oldest: 0 }, items, relay)
+}
+
 pub fn slices(work: Work, capacity: usize, items: usize) -> u64 {
     let size = capacity.next_power_of_two();
     let mut ring = Masked { slots: vec![0; size].into_boxed_slice(), next: 0 };
@@ -127,6 +149,8 @@ pub fn slices(work: Work, capacity: usize, items: usize) -> u64 {
             (0..rounds).for_each(|round| refill(&mut ring.slots[..capacity], round as u64));
         }
         Work::Slide => sum = slide(&mut ring, &mut 0, items) as u64,
+        Work::Pipe => return through_pipe(capacity, items),
+        Work::Undo => unreachable!("no limit of undoing"),
     }
     sum.wrapping_add(ring.read(0))
 }

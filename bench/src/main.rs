@@ -6,6 +6,7 @@
 
 mod bounded;
 mod limit;
+mod pipe;
 mod rust_side;
 mod table;
 mod work;
@@ -31,9 +32,21 @@ pub struct Contender {
 /// since an item takes it as many steps as the ring holds.
 const ANEW: &str = "summed anew";
 
+/// The contenders that hold bytes too, and move them by the block.
+const PIPES: [&str; 5] = ["heap", "Rust heap", "VecDeque", "Boost", "limit"];
+
+/// The contenders at undoing, of those that can take out their newest item.
+const HISTORIES: [&str; 5] = ["heap", "growable", "Rust growable", "VecDeque", "Boost"];
+
 impl Contender {
+    /// Whether it is timed at this work with this capacity.
     fn does(&self, work: Work, capacity: usize) -> bool {
-        self.name != ANEW || (work == Work::Slide && capacity <= 1000)
+        match work {
+            Work::Slide => self.name != ANEW || capacity <= 1000,
+            Work::Pipe => capacity == pipe::CAPACITY && PIPES.contains(&self.name),
+            Work::Undo => HISTORIES.contains(&self.name),
+            _ => self.name != ANEW,
+        }
     }
 }
 
@@ -56,6 +69,17 @@ pub const CONTENDERS: &[Contender] = &[
 const ROUNDS: usize = 60;
 const ITEMS: usize = 1 << 19;
 
+/// Bytes go so fast that as many of them would be lost in the time of making the pipe.
+const BYTES: usize = ITEMS << 5;
+
+fn items(work: Work) -> usize {
+    if work == Work::Pipe {
+        BYTES
+    } else {
+        ITEMS
+    }
+}
+
 fn seconds(contender: &Contender, work: Work, capacity: usize, items: usize) -> f64 {
     let start = Instant::now();
     std::hint::black_box((contender.run)(work, capacity, std::hint::black_box(items)));
@@ -71,12 +95,12 @@ fn time(works: &[Work]) {
             for _ in 0..ROUNDS {
                 for (contender, (made, done)) in contenders.iter().zip(&mut least) {
                     *made = made.min(seconds(contender, work, capacity, 0));
-                    *done = done.min(seconds(contender, work, capacity, ITEMS));
+                    *done = done.min(seconds(contender, work, capacity, items(work)));
                 }
             }
             for (contender, (made, done)) in contenders.iter().zip(least) {
-                let nanoseconds = (done - made) * 1e9 / ITEMS as f64;
-                println!("{},{capacity},{},{nanoseconds:.3}", work.name(), contender.name);
+                let nanoseconds = (done - made) * 1e9 / items(work) as f64;
+                println!("{},{capacity},{},{nanoseconds:.4}", work.name(), contender.name);
             }
         }
     }

@@ -1,5 +1,6 @@
 //! The same work on the rings of the Rust crate.
 
+use crate::pipe;
 use crate::work::{Work, EXTENSION};
 use ringbuffer::{AllocRingBuffer, ConstGenericRingBuffer, GrowableAllocRingBuffer, RingBuffer};
 
@@ -114,6 +115,36 @@ fn of_slice<R: RingBuffer<u64> + for<'a> From<&'a [u64]>>(items: &[u64], sum: u6
     copy.get(sum as usize).map_or(0, |item| sum.wrapping_add(*item))
 }
 
+/// The newest item comes out by the deque that the ring lends.
+#[inline(never)]
+fn undo(ring: &mut GrowableAllocRingBuffer<u64>, items: usize) -> u64 {
+    let mut sum = 0u64;
+    for number in 0..items {
+        if let Some(item) = ring.pop_back() {
+            sum = sum.wrapping_add(item);
+        }
+        ring.push(number as u64);
+    }
+    sum
+}
+
+#[inline(never)]
+fn relay(pipe: &mut AllocRingBuffer<u8>, block: &[u8], output: &mut [u8]) {
+    pipe.extend(block.iter().copied());
+    for place in output {
+        if let Some(byte) = pipe.dequeue() {
+            *place = byte;
+        }
+    }
+}
+
+fn through_pipe(capacity: usize, items: usize) -> u64 {
+    let mut pipe = AllocRingBuffer::new(capacity);
+    pipe.extend(pipe::first_bytes());
+    (0..pipe::START).for_each(|_| pipe.skip());
+    pipe::relay_blocks(&mut pipe, items, relay)
+}
+
 /// A sum that is kept by hand.
 struct Window<R> {
     ring: R,
@@ -219,10 +250,11 @@ pub fn array(work: Work, capacity: usize, items: usize) -> u64 {
 }
 
 pub fn heap(work: Work, capacity: usize, items: usize) -> u64 {
-    if let Work::Slide = work {
-        return slide(AllocRingBuffer::new(capacity), capacity, items);
+    match work {
+        Work::Slide => slide(AllocRingBuffer::new(capacity), capacity, items),
+        Work::Pipe => through_pipe(capacity, items),
+        _ => on_fixed(AllocRingBuffer::new(capacity), work, capacity, items),
     }
-    on_fixed(AllocRingBuffer::new(capacity), work, capacity, items)
 }
 
 pub fn growable(work: Work, capacity: usize, items: usize) -> u64 {
@@ -238,6 +270,7 @@ pub fn growable(work: Work, capacity: usize, items: usize) -> u64 {
             ring.clear();
             extend(&mut ring);
         }),
+        Work::Undo => return undo(&mut ring, items).wrapping_add(outcome(&ring)),
         _ => return on_full(ring, work, capacity, items),
     }
     outcome(&ring)

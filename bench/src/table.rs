@@ -20,6 +20,21 @@ fn numbers(lines: &str) -> Numbers<'_> {
         .collect()
 }
 
+/// Each kind of work at each capacity that was measured.
+fn rows<'a>(numbers: &'a Numbers) -> impl Iterator<Item = (&'static str, usize)> + 'a {
+    let all = Work::ALL.into_iter().flat_map(|work| CAPACITIES.map(|capacity| (work.name(), capacity)));
+    all.filter(|row| numbers.keys().any(|(work, capacity, _)| (*work, *capacity) == *row))
+}
+
+/// A number as a cell. A byte takes so little that two places of it would say nothing.
+fn cell(number: Option<f64>) -> String {
+    match number {
+        Some(number) if number < 0.1 => format!(" {number:.3} |"),
+        Some(number) => format!(" {number:.2} |"),
+        None => String::from(" |"),
+    }
+}
+
 fn table(numbers: &Numbers) -> String {
     let mut text = String::from("| work | capacity |");
     for contender in CONTENDERS {
@@ -28,22 +43,17 @@ fn table(numbers: &Numbers) -> String {
     text.push_str("\n|---|---|");
     text.push_str(&"---|".repeat(CONTENDERS.len()));
     text.push('\n');
-    for work in Work::ALL {
-        for capacity in CAPACITIES {
-            write!(text, "| {} | {capacity} |", work.name()).unwrap();
-            for contender in CONTENDERS {
-                match numbers.get(&(work.name(), capacity, contender.name)) {
-                    Some(number) => write!(text, " {number:.2} |").unwrap(),
-                    None => text.push_str(" |"),
-                }
-            }
-            text.push('\n');
+    for (work, capacity) in rows(numbers) {
+        write!(text, "| {work} | {capacity} |").unwrap();
+        for contender in CONTENDERS {
+            text.push_str(&cell(numbers.get(&(work, capacity, contender.name)).copied()));
         }
+        text.push('\n');
     }
     text
 }
 
-/// The ratios that there are targets for.
+/// The ratios that there are targets for, where both were measured.
 fn ratios(times: &Numbers) -> String {
     let pairs = [("heap", "Rust heap"), ("growable", "Rust growable"), ("array", "Rust array"), ("heap", "limit")];
     let mut text = String::from("| work | capacity |");
@@ -51,15 +61,13 @@ fn ratios(times: &Numbers) -> String {
         write!(text, " {ours} / {theirs} |").unwrap();
     }
     text.push_str("\n|---|---|---|---|---|---|\n");
-    for work in Work::ALL {
-        for capacity in CAPACITIES {
-            write!(text, "| {} | {capacity} |", work.name()).unwrap();
-            for (ours, theirs) in pairs {
-                let of = |contender| times[&(work.name(), capacity, contender)];
-                write!(text, " {:.2} |", of(ours) / of(theirs)).unwrap();
-            }
-            text.push('\n');
+    for (work, capacity) in rows(times) {
+        write!(text, "| {work} | {capacity} |").unwrap();
+        for (ours, theirs) in pairs {
+            let of = |contender| times.get(&(work, capacity, contender));
+            text.push_str(&cell(of(ours).zip(of(theirs)).map(|(ours, theirs)| ours / theirs)));
         }
+        text.push('\n');
     }
     text
 }

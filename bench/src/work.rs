@@ -24,10 +24,12 @@ pub enum Work {
     Equal,
     Contains,
     FromSlice,
+    Pipe,
+    Undo,
 }
 
 impl Work {
-    pub const ALL: [Work; 16] = [
+    pub const ALL: [Work; 18] = [
         Work::Push,
         Work::PushCall,
         Work::PushDequeue,
@@ -44,6 +46,8 @@ impl Work {
         Work::Equal,
         Work::Contains,
         Work::FromSlice,
+        Work::Pipe,
+        Work::Undo,
     ];
 
     pub fn name(self) -> &'static str {
@@ -64,6 +68,8 @@ impl Work {
             Work::Equal => "==",
             Work::Contains => "contains",
             Work::FromSlice => "from a slice",
+            Work::Pipe => "bytes through a pipe",
+            Work::Undo => "undo and record",
         }
     }
 }

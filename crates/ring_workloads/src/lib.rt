@@ -1,14 +1,17 @@
 //! Work to be timed from outside, exported to C.
 //!
-//! Each export makes a ring of u64 items, or a window over one of i64 samples, fills it, does so much work on it, and
-//! returns a number that depends on that work. Its first argument names the work, by the numbers of `Work`. It returns 0 where the work or the array's
-//! capacity isn't one of those named here, where the capacity is 0, and where memory is refused.
+//! Each export makes a ring of u64 items, a window over one of i64 samples, or a pipe of bytes, fills it, does so much
+//! work on it, and returns a number that depends on that work. Its first argument names the work, by the numbers of
+//! `Work`. It returns 0 where the work or the array's capacity isn't one of those named here, where the capacity is 0,
+//! and where memory is refused. Only the heap ring does `Work::Pipe`: the others return 0 for it.
 #![tactic(auto)]
 
+mod pipes;
 mod rings;
 mod windows;
 mod work;
 
+use pipes::on_heap_pipe;
 use ringbuffer::ConstGenericRingBuffer;
 use rings::{on_fixed, on_growable, on_heap};
 use std::alloc::Global;
@@ -26,8 +29,10 @@ pub extern "C" fn ring_workloads_array(
     let Some(work) = Work::numbered(work) else {
         return 0;
     };
-    if let Work::Slide = work {
-        return on_array_window(capacity, items);
+    match work {
+        Work::Slide => return on_array_window(capacity, items),
+        Work::Pipe => return 0,
+        _ => {}
     }
     match capacity {
         7 => on_fixed(
@@ -72,6 +77,7 @@ pub extern "C" fn ring_workloads_heap(
 ) -> u64 {
     match Work::numbered(work) {
         Some(Work::Slide) if capacity > 0 => { on_heap_window(alloc, capacity, items).unwrap_or(0) }
+        Some(Work::Pipe) if capacity > 0 => on_heap_pipe(alloc, capacity, items).unwrap_or(0),
         Some(work) if capacity > 0 => on_heap(alloc, work, capacity, items).unwrap_or(0),
         _ => 0,
     }
@@ -89,6 +95,7 @@ pub extern "C" fn ring_workloads_growable(
         Some(Work::Slide) if capacity > 0 => {
             on_growable_window(alloc, capacity, items).unwrap_or(0)
         }
+        Some(Work::Pipe) => 0,
         Some(work) if capacity > 0 => on_growable(alloc, work, capacity, items).unwrap_or(0),
         _ => 0,
     }

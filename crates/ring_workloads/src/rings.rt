@@ -20,6 +20,9 @@ pub trait Own: RingBuffer<u64> {
 
     // Another ring, of the items of a slice.
     fn of_slice(&self, alloc: Global, items: &[u64]) -> Result<Self, AllocError>;
+
+    // Takes out the newest item.
+    fn take_newest(&mut self) -> Option<u64>;
 }
 
 impl<const CAP: usize> Own for ConstGenericRingBuffer<u64, CAP> {
@@ -47,6 +50,11 @@ impl<const CAP: usize> Own for ConstGenericRingBuffer<u64, CAP> {
         let _held = self.len();
         ConstGenericRingBuffer::from_slice(items)
     }
+
+    #[inline]
+    fn take_newest(&mut self) -> Option<u64> {
+        self.pop_back()
+    }
 }
 
 impl Own for AllocRingBuffer<u64> {
@@ -73,6 +81,11 @@ impl Own for AllocRingBuffer<u64> {
         }
         AllocRingBuffer::from_slice(alloc, items)
     }
+
+    #[inline]
+    fn take_newest(&mut self) -> Option<u64> {
+        self.pop_back()
+    }
 }
 
 impl Own for GrowableAllocRingBuffer<u64> {
@@ -95,6 +108,11 @@ impl Own for GrowableAllocRingBuffer<u64> {
     #[inline]
     fn of_slice(&self, alloc: Global, items: &[u64]) -> Result<Self, AllocError> {
         GrowableAllocRingBuffer::from_slice(alloc, items)
+    }
+
+    #[inline]
+    fn take_newest(&mut self) -> Option<u64> {
+        self.pop_back()
     }
 }
 
@@ -142,6 +160,20 @@ fn of_slice<R: Own + Drop>(alloc: Global, ring: &R, items: &[u64], sum: u64) -> 
     };
     copy.get(sum as usize)
         .map_or(0, |item| sum.wrapping_add(*item))
+}
+
+// Takes out the newest item and pushes a number in its place, for each number below `items`. Returns the sum of what
+// came out.
+#[inline(never)]
+fn undo<R: Own>(ring: &mut R, items: usize) -> u64 {
+    let mut sum = 0u64;
+    for number in 0..items {
+        if let Some(item) = ring.take_newest() {
+            sum = sum.wrapping_add(item);
+        }
+        let _ = ring.push(number as u64);
+    }
+    sum
 }
 
 /// Work on a heap ring.
@@ -283,6 +315,7 @@ fn on_full<R: Own + Drop>(
                 sum = of_slice(alloc, ring, &source, sum);
             }
         }
+        Work::Undo => sum = undo(ring, items),
         _ => {
             for round in 0..rounds {
                 refill(ring, capacity, round as u64);

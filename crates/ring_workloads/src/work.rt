@@ -45,6 +45,10 @@ pub enum Work {
     Contains,
     /// Rings made of a slice.
     FromSlice,
+    /// Bytes through a pipe, a block in and a block out at a time.
+    Pipe,
+    /// Takes out the newest item of a full ring, and pushes another.
+    Undo,
 }
 
 impl Work {
@@ -67,6 +71,8 @@ impl Work {
             13 => Some(Work::Equal),
             14 => Some(Work::Contains),
             15 => Some(Work::FromSlice),
+            16 => Some(Work::Pipe),
+            17 => Some(Work::Undo),
             _ => None,
         }
     }
