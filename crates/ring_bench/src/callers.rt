@@ -331,3 +331,10 @@ pub fn bytes_in_growable(
     bytes.extend_from_slice(second)?;
     Ok(bytes)
 }
+
+/// Turns the items of a growable ring round.
+pub fn turn_round(ring: &mut GrowableAllocRingBuffer<u32>)
+    ensures { ring.new ≡ reverse ring.old }
+{
+    ring.make_contiguous().reverse();
+}

@@ -3,6 +3,7 @@
 
 pub mod array_pipe;
 pub mod events;
+pub mod last_lines;
 pub mod last_two;
 pub mod pipe;
 pub mod relay;

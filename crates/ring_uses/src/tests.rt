@@ -2,11 +2,12 @@
 
 use crate::array_pipe::ArrayPipe;
 use crate::events::remember;
+use crate::last_lines::tail;
 use crate::last_two::newest_and_oldest;
 use crate::pipe::Pipe;
 use crate::relay::relay;
 use crate::samples::SampleBuffer;
-use crate::tail::{LogTail, tail};
+use crate::tail::LogTail;
 use crate::undo::History;
 use crate::window::Window;
 use ringbuffer::{AllocRingBuffer, RingBuffer};

@@ -325,6 +325,8 @@ impl<T: Copy + Drop> GrowableAllocRingBuffer<T> {
 }
 
 impl<T: Drop> GrowableAllocRingBuffer<T> {
+    ghost use Rattle.ringbuffer.specs.grow.Lends.{lends_items};
+
     /// The items in two slices, oldest first, as they lie in the deque.
     #[inline]
     pub fn as_slices(&self) -> (&[T], &[T])
@@ -332,6 +334,14 @@ impl<T: Drop> GrowableAllocRingBuffer<T> {
         ensures first { (0 < length result.0.now) ↔ (0 < length self.now) }
     {
         self.deque.as_slices()
+    }
+
+    /// The items in one slice, oldest first, for writing. The deque moves them where they don't lie side by side.
+    pub fn make_contiguous(&mut self) -> &mut [T]
+        ensures* writes_back { sem 𝓛 (lends_items T.row self.entry result) }
+        ensures value { result.now ≡ self.old }
+    {
+        self.deque.make_contiguous()
     }
 
     /// A walk over the items, oldest first, from either end.

@@ -5,7 +5,7 @@ use Rattle.std.proofs.lemmas.Result.{IfOk-weaker}
 use Rattle.ringbuffer.specs.Contents.{keep_last}
 use Rattle.ringbuffer.proofs.Drained.{YieldsList-unpacked, shown_extended}
 use Rattle.ringbuffer.proofs.Limits.{map-keep_last}
-use Rattle.ring_uses.proofs.tail.tail.Goals as goal
+use Rattle.ring_uses.proofs.last_lines.tail.Goals as goal
 
 pub returns : goal.returns
 returns c =
