@@ -2,18 +2,29 @@
 //!
 //! The body of a test is generic over the ring, and a driver gives it a ring of each type.
 
-mod comparison;
-mod debug;
 mod ends;
 mod fills;
 mod positions;
 mod pushing;
 mod slices;
 mod sums;
-mod walks;
 
-use ringbuffer::RingBuffer;
+ghost use Rattle.std.specs.Prelude.{◌<◌};
+
+use ring_test_support::rings::Case;
+use ringbuffer::{AllocRingBuffer, RingBuffer};
+use std::alloc::AllocError;
 use std::process::Abort;
+
+/// The case on a heap ring of this capacity.
+fn on_heap<const CAP: usize, Rt: Abort + AllocGlobal>(
+    rt: &Rt,
+    case: &impl Case<Rt>,
+) -> Result<(), AllocError>
+    requires some { 0 < CAP }
+{
+    case.on(rt, AllocRingBuffer::new(rt.alloc(), CAP)?)
+}
 
 /// Pushes the items in order. None is refused.
 fn push_all<R: RingBuffer<i64>>(rt: &impl Abort, ring: &mut R, items: &[i64]) {

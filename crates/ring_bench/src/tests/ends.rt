@@ -108,47 +108,60 @@ fn assert_left<R: RingBuffer<i64>>(rt: &impl Abort, ring: &mut R, items: &[i64])
     assert_gives(rt, ring, &[8]);
 }
 
+/// What a test does with a ring that is new.
+trait EndsCase {
+    fn on<R: Ends + Drop>(&self, rt: &impl Abort, ring: R);
+}
+
+/// The case on a ring of each type. On the heap one ring has spare slots, and one has none.
+fn on_each(rt: &(impl Abort + AllocGlobal), case: &impl EndsCase) -> Result<(), AllocError> {
+    case.on(rt, ConstGenericRingBuffer::<i64, 5>::new());
+    case.on(rt, ConstGenericRingBuffer::<i64, 8>::new());
+    case.on(rt, AllocRingBuffer::new(rt.alloc(), 5)?);
+    case.on(rt, AllocRingBuffer::new(rt.alloc(), 8)?);
+    case.on(rt, GrowableAllocRingBuffer::new(rt.alloc()));
+    Ok(())
+}
+
 /// `pop_back` on the items of each row, which begin at each place.
-fn assert_pops<R: Ends + Drop>(rt: &impl Abort, mut ring: R) {
-    for (items, popped, left) in POPS {
-        for start in STARTS {
-            lay(rt, &mut ring, start, items);
-            assert_eq!(rt; ring.pop_back(), popped, "from {start}");
-            assert_left(rt, &mut ring, left);
+struct Pops;
+
+impl EndsCase for Pops {
+    fn on<R: Ends + Drop>(&self, rt: &impl Abort, mut ring: R) {
+        for (items, popped, left) in POPS {
+            for start in STARTS {
+                lay(rt, &mut ring, start, items);
+                assert_eq!(rt; ring.pop_back(), popped, "from {start}");
+                assert_left(rt, &mut ring, left);
+            }
         }
     }
 }
 
 #[test]
 fn pop_back_takes_the_newest(rt: HostRuntime) -> Result<(), AllocError> {
-    assert_pops(&rt, ConstGenericRingBuffer::<i64, 5>::new());
-    assert_pops(&rt, ConstGenericRingBuffer::<i64, 8>::new());
-    assert_pops(&rt, AllocRingBuffer::new(rt.alloc(), 5)?);
-    assert_pops(&rt, AllocRingBuffer::new(rt.alloc(), 8)?);
-    assert_pops(&rt, GrowableAllocRingBuffer::new(rt.alloc()));
-    Ok(())
+    on_each(&rt, &Pops)
 }
 
 /// `truncate` and `keep_newest` on the items of each row, which begin at each place.
-fn assert_keeps<R: Ends + Drop>(rt: &impl Abort, mut ring: R) {
-    for (items, len, oldest, newest) in KEPT {
-        for start in STARTS {
-            lay(rt, &mut ring, start, items);
-            ring.truncate(len);
-            assert_left(rt, &mut ring, oldest);
-            lay(rt, &mut ring, start, items);
-            ring.keep_newest(len);
-            assert_left(rt, &mut ring, newest);
+struct Keeps;
+
+impl EndsCase for Keeps {
+    fn on<R: Ends + Drop>(&self, rt: &impl Abort, mut ring: R) {
+        for (items, len, oldest, newest) in KEPT {
+            for start in STARTS {
+                lay(rt, &mut ring, start, items);
+                ring.truncate(len);
+                assert_left(rt, &mut ring, oldest);
+                lay(rt, &mut ring, start, items);
+                ring.keep_newest(len);
+                assert_left(rt, &mut ring, newest);
+            }
         }
     }
 }
 
 #[test]
 fn items_of_one_end_are_kept(rt: HostRuntime) -> Result<(), AllocError> {
-    assert_keeps(&rt, ConstGenericRingBuffer::<i64, 5>::new());
-    assert_keeps(&rt, ConstGenericRingBuffer::<i64, 8>::new());
-    assert_keeps(&rt, AllocRingBuffer::new(rt.alloc(), 5)?);
-    assert_keeps(&rt, AllocRingBuffer::new(rt.alloc(), 8)?);
-    assert_keeps(&rt, GrowableAllocRingBuffer::new(rt.alloc()));
-    Ok(())
+    on_each(&rt, &Keeps)
 }

@@ -1,6 +1,6 @@
 //! Fills.
 
-use super::{assert_gives, assert_holds, push_all};
+use super::{assert_gives, assert_holds, on_heap, push_all};
 use ring_test_support::rings::{Case, Rings};
 use ringbuffer::{AllocRingBuffer, GrowableAllocRingBuffer, RingBuffer};
 use std::alloc::AllocError;
@@ -57,15 +57,24 @@ fn a_fill_of_clones_fills_from_any_length(rt: HostRuntime) -> Result<(), AllocEr
 
 #[test]
 fn a_fill_clones_vectors(rt: HostRuntime) -> Result<(), AllocError> {
+    fn on<R: RingBuffer<Vec<i64>> + Drop>(
+        rt: &impl Abort,
+        mut ring: R,
+        filling: Vec<i64>,
+        item: &[i64],
+    ) {
+        assert!(rt; ring.fill(filling).is_ok());
+        for _ in 0..2 {
+            let found = ring.dequeue().expect(rt, "an item");
+            assert_eq!(rt; found.as_slice(), item);
+        }
+        assert!(rt; ring.is_empty());
+    }
     let one = vec![in rt.alloc(); 1]?;
     let two = vec![in rt.alloc(); 2]?;
-    let mut ring = AllocRingBuffer::from_array(rt.alloc(), [Some(one), Some(two)])?;
-    ring.fill(vec![in rt.alloc(); 2]?)?;
-    for _ in 0..2 {
-        let item = ring.dequeue().expect(&rt, "an item");
-        assert_eq!(rt; item.as_slice(), [2].as_slice());
-    }
-    assert!(rt; ring.is_empty());
+    let filling = vec![in rt.alloc(); 2]?;
+    let ring = AllocRingBuffer::from_array(rt.alloc(), [Some(one), Some(two)])?;
+    on(&rt, ring, filling, &[2]);
     Ok(())
 }
 
@@ -121,76 +130,96 @@ fn a_fill_keeps_the_state_of_its_closure(rt: HostRuntime) -> Result<(), AllocErr
     Rings::<4>::fixed(&rt, &FillsByTurns)
 }
 
+/// A ring of capacity 5 in eight slots keeps both.
+struct FillsBeforeSpareSlots;
+
+impl<Rt: Abort + AllocGlobal> Case<Rt> for FillsBeforeSpareSlots {
+    fn on<R: RingBuffer<i64> + Drop>(&self, rt: &Rt, mut ring: R) -> Result<(), AllocError> {
+        push_all(rt, &mut ring, &[0, 1, 2, 3, 4, 5, 6]);
+        assert!(rt; ring.fill(4).is_ok());
+        assert_holds(rt, &ring, &[4, 4, 4, 4, 4]);
+        assert!(rt; ring.is_full());
+        assert_eq!(rt; ring.capacity(), 5);
+        assert_eq!(rt; ring.buffer_size(), 8);
+        Ok(())
+    }
+}
+
 #[test]
 fn a_filled_heap_ring_keeps_its_capacity(rt: HostRuntime) -> Result<(), AllocError> {
-    let mut ring = AllocRingBuffer::new(rt.alloc(), 5)?;
-    push_all(&rt, &mut ring, &[0, 1, 2, 3, 4, 5, 6]);
-    ring.fill(4)?;
-    assert_holds(&rt, &ring, &[4, 4, 4, 4, 4]);
-    assert!(rt; ring.is_full());
-    assert_eq!(rt; ring.capacity(), 5);
-    assert_eq!(rt; ring.buffer_size(), 8);
-    Ok(())
+    on_heap::<5, _>(&rt, &FillsBeforeSpareSlots)
 }
 
 /// A growable ring is full exactly where its length is its capacity, and has as many slots.
-fn assert_agrees(rt: &impl Abort, ring: &GrowableAllocRingBuffer<i64>) {
+fn assert_agrees<R: RingBuffer<i64>>(rt: &impl Abort, ring: &R) {
     assert_eq!(rt; ring.is_full(), ring.len() == ring.capacity());
     assert_eq!(rt; ring.buffer_size(), ring.capacity());
 }
 
-/// A growable ring of room for so many items, which holds three.
-fn three_in_room_for(
-    rt: &(impl Abort + AllocGlobal),
-    asked: usize,
-) -> Result<GrowableAllocRingBuffer<i64>, AllocError> {
-    let mut ring = GrowableAllocRingBuffer::with_capacity(rt.alloc(), asked)?;
-    push_all(rt, &mut ring, &[1, 2, 3]);
-    Ok(ring)
+/// The ring gives up the numbers from 0 on, so many.
+fn assert_gives_counts<R: RingBuffer<i64>>(rt: &impl Abort, ring: &mut R, count: i64) {
+    for number in 0..count {
+        assert_eq!(rt; ring.dequeue(), Some(number));
+    }
+    assert!(rt; ring.is_empty());
+}
+
+struct FillsItsRoom;
+
+impl<Rt: Abort + AllocGlobal> Case<Rt> for FillsItsRoom {
+    fn on<R: RingBuffer<i64> + Drop>(&self, rt: &Rt, mut ring: R) -> Result<(), AllocError> {
+        push_all(rt, &mut ring, &[1, 2, 3]);
+        let capacity = ring.capacity();
+        assert!(rt; capacity >= 3);
+        assert_agrees(rt, &ring);
+        let mut calls = 0i64;
+        let filled = ring.fill_with(|| {
+            let answer = calls;
+            calls = answer.wrapping_add(1);
+            answer
+        });
+        assert!(rt; filled.is_ok());
+        assert_eq!(rt; ring.len(), capacity);
+        assert_agrees(rt, &ring);
+        assert_gives_counts(rt, &mut ring, calls);
+        Ok(())
+    }
 }
 
 #[test]
 fn a_growable_ring_is_filled_to_its_capacity(rt: HostRuntime) -> Result<(), AllocError> {
-    for asked in [4, 100, 1000] {
-        let mut ring = three_in_room_for(&rt, asked)?;
-        let capacity = ring.capacity();
-        assert!(rt; capacity >= 3);
-        assert_agrees(&rt, &ring);
-        let mut calls = 0i64;
-        ring.fill_with(|| {
-            let answer = calls;
-            calls = answer.wrapping_add(1);
-            answer
-        })?;
-        assert_eq!(rt; ring.len(), capacity);
-        assert_agrees(&rt, &ring);
-        let mut count = 0i64;
-        for item in &ring {
-            assert_eq!(rt; *item, count);
-            count = count.wrapping_add(1);
-        }
-        assert_eq!(rt; calls, count);
+    Rings::<4>::growable(&rt, &FillsItsRoom)?;
+    Rings::<100>::growable(&rt, &FillsItsRoom)?;
+    Rings::<1000>::growable(&rt, &FillsItsRoom)
+}
+
+/// The ring holds so many items, each this one.
+fn assert_full_of<R: RingBuffer<i64>>(rt: &impl Abort, ring: &R, count: usize, item: i64) {
+    assert_eq!(rt; ring.len(), count);
+    for i in 0..count {
+        assert_eq!(rt; ring.get(i).copied(), Some(item));
     }
-    Ok(())
+}
+
+struct FillsItsRoomByClones;
+
+impl<Rt: Abort + AllocGlobal> Case<Rt> for FillsItsRoomByClones {
+    fn on<R: RingBuffer<i64> + Drop>(&self, rt: &Rt, mut ring: R) -> Result<(), AllocError> {
+        push_all(rt, &mut ring, &[1, 2, 3]);
+        let capacity = ring.capacity();
+        assert!(rt; ring.fill(5).is_ok());
+        assert_full_of(rt, &ring, capacity, 5);
+        ring.clear();
+        let capacity = ring.capacity();
+        assert!(rt; ring.fill_default().is_ok());
+        assert_full_of(rt, &ring, capacity, 0);
+        Ok(())
+    }
 }
 
 #[test]
 fn other_fills_of_a_growable_ring_fill_it_too(rt: HostRuntime) -> Result<(), AllocError> {
-    let mut ring = three_in_room_for(&rt, 100)?;
-    let capacity = ring.capacity();
-    ring.fill(5)?;
-    assert_eq!(rt; ring.len(), capacity);
-    for item in &ring {
-        assert_eq!(rt; *item, 5);
-    }
-    ring.clear();
-    let capacity = ring.capacity();
-    ring.fill_default()?;
-    assert_eq!(rt; ring.len(), capacity);
-    for item in &ring {
-        assert_eq!(rt; *item, 0);
-    }
-    Ok(())
+    Rings::<100>::growable(&rt, &FillsItsRoomByClones)
 }
 
 #[test]

@@ -9,19 +9,18 @@ use std::process::Abort;
 /// Reading and writing find these items at the positions from 0 on.
 fn assert_from_oldest<R: RingBuffer<i64>>(rt: &impl Abort, ring: &mut R, items: &[i64]) {
     for (i, item) in items.iter().enumerate() {
-        assert_eq!(rt; ring.get(i).copied(), Some(*item), "at {i}");
-        assert_eq!(rt; ring.get_mut(i).copied(), Some(*item), "at {i}");
+        let found = (ring.get(i).copied(), ring.get_mut(i).copied());
+        assert_eq!(rt; found, (Some(*item), Some(*item)), "at {i}");
     }
 }
 
 /// Reading and writing find the item at a position that may be negative.
 fn assert_at<R: RingBuffer<i64>>(rt: &impl Abort, ring: &mut R, index: isize, item: i64) {
-    assert_eq!(rt; ring.get_signed(index).copied(), Some(item), "at {index}");
-    assert_eq!(rt;
+    let found = (
+        ring.get_signed(index).copied(),
         ring.get_mut_signed(index).copied(),
-        Some(item),
-        "at {index}"
     );
+    assert_eq!(rt; found, (Some(item), Some(item)), "at {index}");
 }
 
 /// The same for each of these positions, with the item beside it.
@@ -295,48 +294,89 @@ fn extreme_positions_wrap_too(rt: HostRuntime) -> Result<(), AllocError> {
     Rings::<8>::each(&rt, &ExtremePositions)
 }
 
-// No trait that the rings share has indexes, so the body is a macro.
-macro_rules! assert_indexed {
-    ($rt:expr, $ring:expr) => {
-        let mut ring = $ring;
-        push_all($rt, &mut ring, &[2]);
-        assert_eq!($rt; ring.len(), 1);
-        assert_eq!($rt; ring[0], 2);
-        ring[0] = 5;
-        assert_eq!($rt; ring[0], 5);
-        push_all($rt, &mut ring, &[6, 7]);
-        assert_eq!($rt; ring.len(), 3);
-        ring[3] = 9;
-        assert_eq!($rt; ring[5], 7);
-        assert_holds($rt, &ring, &[9, 6, 7]);
-    };
+/// A ring that has indexes. No trait of the library has them.
+trait Indexed: RingBuffer<i64> + Drop {
+    fn at(&self, rt: &impl Abort, index: usize) -> i64;
+
+    fn write_at(&mut self, rt: &impl Abort, index: usize, item: i64);
+}
+
+impl<const CAP: usize> Indexed for ConstGenericRingBuffer<i64, CAP> {
+    fn at(&self, rt: &impl Abort, index: usize) -> i64 {
+        assert!(rt; self.len() > 0);
+        self[index]
+    }
+
+    fn write_at(&mut self, rt: &impl Abort, index: usize, item: i64) {
+        assert!(rt; self.len() > 0);
+        self[index] = item;
+    }
+}
+
+impl Indexed for AllocRingBuffer<i64> {
+    fn at(&self, rt: &impl Abort, index: usize) -> i64 {
+        assert!(rt; self.len() > 0);
+        self[index]
+    }
+
+    fn write_at(&mut self, rt: &impl Abort, index: usize, item: i64) {
+        assert!(rt; self.len() > 0);
+        self[index] = item;
+    }
+}
+
+impl Indexed for GrowableAllocRingBuffer<i64> {
+    fn at(&self, rt: &impl Abort, index: usize) -> i64 {
+        assert!(rt; self.len() > 0);
+        self[index]
+    }
+
+    fn write_at(&mut self, rt: &impl Abort, index: usize, item: i64) {
+        assert!(rt; self.len() > 0);
+        self[index] = item;
+    }
+}
+
+/// Reading and writing by an index, as by a position.
+fn assert_indexed<R: Indexed>(rt: &impl Abort, mut ring: R) {
+    push_all(rt, &mut ring, &[2]);
+    assert_eq!(rt; ring.len(), 1);
+    assert_eq!(rt; ring.at(rt, 0), 2);
+    ring.write_at(rt, 0, 5);
+    assert_eq!(rt; ring.at(rt, 0), 5);
+    push_all(rt, &mut ring, &[6, 7]);
+    assert_eq!(rt; ring.len(), 3);
+    ring.write_at(rt, 3, 9);
+    assert_eq!(rt; ring.at(rt, 5), 7);
+    assert_holds(rt, &ring, &[9, 6, 7]);
 }
 
 #[test]
 fn an_array_ring_is_indexed_by_positions(rt: HostRuntime) {
-    assert_indexed!(&rt, ConstGenericRingBuffer::<i64, 8>::new());
+    assert_indexed(&rt, ConstGenericRingBuffer::<i64, 8>::new());
 }
 
 #[test]
 fn a_heap_ring_is_indexed_by_positions(rt: HostRuntime) -> Result<(), AllocError> {
-    assert_indexed!(&rt, AllocRingBuffer::new(rt.alloc(), 8)?);
+    assert_indexed(&rt, AllocRingBuffer::new(rt.alloc(), 8)?);
     Ok(())
 }
 
 #[test]
 fn a_growable_ring_is_indexed_by_positions(rt: HostRuntime) -> Result<(), AllocError> {
-    assert_indexed!(&rt, GrowableAllocRingBuffer::with_capacity(rt.alloc(), 8)?);
+    assert_indexed(&rt, GrowableAllocRingBuffer::with_capacity(rt.alloc(), 8)?);
     Ok(())
 }
 
 #[test]
-fn growable_writes_name_the_places_of_reads(rt: HostRuntime) -> Result<(), AllocError> {
-    let mut ring = GrowableAllocRingBuffer::new(rt.alloc());
-    push_all(&rt, &mut ring, &[1, 2, 3]);
-    assert_eq!(rt; ring.back_mut().copied(), Some(3));
-    assert_eq!(rt; ring.get_mut(4).copied(), Some(2));
-    assert_eq!(rt; ring.len(), 3);
-    ring[3] = 9;
-    assert_holds(&rt, &ring, &[9, 2, 3]);
-    Ok(())
+fn growable_writes_name_the_places_of_reads(rt: HostRuntime) {
+    fn on<R: Indexed>(rt: &impl Abort, mut ring: R) {
+        push_all(rt, &mut ring, &[1, 2, 3]);
+        assert_eq!(rt; ring.back_mut().copied(), Some(3));
+        assert_eq!(rt; ring.get_mut(4).copied(), Some(2));
+        assert_eq!(rt; ring.len(), 3);
+        ring.write_at(rt, 3, 9);
+        assert_holds(rt, &ring, &[9, 2, 3]);
+    }
+    on(&rt, GrowableAllocRingBuffer::new(rt.alloc()));
 }

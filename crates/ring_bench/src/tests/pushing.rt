@@ -3,7 +3,7 @@
 ghost use Rattle.std.specs.Prelude.{◌-◌};
 ghost use Rattle.std.specs.Iterator.{at_most};
 
-use super::{assert_gives, assert_holds, push_all};
+use super::{assert_gives, assert_holds, on_heap, push_all};
 use ring_test_support::rings::{Case, Rings};
 use ringbuffer::{AllocRingBuffer, ConstGenericRingBuffer, RingBuffer};
 use std::alloc::AllocError;
@@ -142,9 +142,9 @@ struct Lengths {
 impl<Rt: Abort + AllocGlobal> Case<Rt> for Lengths {
     fn on<R: RingBuffer<i64> + Drop>(&self, rt: &Rt, mut ring: R) -> Result<(), AllocError> {
         for (item, before, after) in self.pushes {
-            assert_eq!(rt; ring.len(), *before, "before {item}");
+            let found = ring.len();
             push_all(rt, &mut ring, &[*item]);
-            assert_eq!(rt; ring.len(), *after, "after {item}");
+            assert_eq!(rt; (found, ring.len()), (*before, *after), "around {item}");
         }
         Ok(())
     }
@@ -335,19 +335,23 @@ fn the_last_of_many_stay(rt: HostRuntime) -> Result<(), AllocError> {
     Rings::<10>::fixed(&rt, &KeepsTheLastTen)
 }
 
+/// Pushes 1 and 2, and takes the two oldest items, which are 1 and 2 as well.
+fn come_and_go<R: RingBuffer<i64>>(rt: &impl Abort, ring: &mut R) {
+    push_all(rt, ring, &[1, 2]);
+    assert_eq!(rt; ring.dequeue(), Some(1));
+    assert_eq!(rt; ring.dequeue(), Some(2));
+}
+
 struct ComesAndGoes;
 
 impl<Rt: Abort + AllocGlobal> Case<Rt> for ComesAndGoes {
     fn on<R: RingBuffer<i64> + Drop>(&self, rt: &Rt, mut ring: R) -> Result<(), AllocError> {
         for _ in 0..100_000 {
-            for _ in 0..2 {
-                push_all(rt, &mut ring, &[1, 2]);
-                assert_eq!(rt; ring.dequeue(), Some(1));
-                assert_eq!(rt; ring.dequeue(), Some(2));
-            }
+            come_and_go(rt, &mut ring);
+            come_and_go(rt, &mut ring);
             push_all(rt, &mut ring, &[1, 2]);
-            assert_eq!(rt; ring.get_signed(-1).copied(), Some(2));
-            assert_eq!(rt; ring.get_signed(-2).copied(), Some(1));
+            let newest = (ring.get_signed(-1).copied(), ring.get_signed(-2).copied());
+            assert_eq!(rt; newest, (Some(2), Some(1)));
         }
         Ok(())
     }
@@ -558,8 +562,7 @@ fn a_ring_may_have_one_slot(rt: HostRuntime) -> Result<(), AllocError> {
 
 /// The ring has this capacity, and this number of slots.
 fn assert_sizes<R: RingBuffer<i64>>(rt: &impl Abort, ring: &R, capacity: usize, slots: usize) {
-    assert_eq!(rt; ring.capacity(), capacity);
-    assert_eq!(rt; ring.buffer_size(), slots, "at {capacity}");
+    assert_eq!(rt; (ring.capacity(), ring.buffer_size()), (capacity, slots));
 }
 
 #[test]
@@ -589,28 +592,60 @@ fn a_heap_ring_has_a_power_of_two_of_slots(rt: HostRuntime) -> Result<(), AllocE
     Ok(())
 }
 
+/// Pushes these items, of which a full ring in so many slots keeps the last.
+#[derive(Drop)]
+struct SpareSlots {
+    pushed: &'static [i64],
+    kept: &'static [i64],
+    slots: usize,
+}
+
+impl<Rt: Abort + AllocGlobal> Case<Rt> for SpareSlots {
+    fn on<R: RingBuffer<i64> + Drop>(&self, rt: &Rt, mut ring: R) -> Result<(), AllocError> {
+        push_all(rt, &mut ring, self.pushed);
+        assert!(rt; ring.is_full());
+        assert_holds(rt, &ring, self.kept);
+        assert_eq!(rt; ring.buffer_size(), self.slots);
+        Ok(())
+    }
+}
+
 #[test]
 fn spare_slots_hold_no_items(rt: HostRuntime) -> Result<(), AllocError> {
-    let mut ring = AllocRingBuffer::new(rt.alloc(), 5)?;
-    push_all(&rt, &mut ring, &[0, 1, 2, 3, 4, 5, 6]);
-    assert_holds(&rt, &ring, &[2, 3, 4, 5, 6]);
-    assert!(rt; ring.is_full());
-    let mut ring = AllocRingBuffer::new(rt.alloc(), 3)?;
-    push_all(&rt, &mut ring, &[1, 2, 3]);
-    assert!(rt; ring.is_full());
-    push_all(&rt, &mut ring, &[4]);
-    assert_holds(&rt, &ring, &[2, 3, 4]);
-    assert_eq!(rt; ring.buffer_size(), 4);
-    Ok(())
+    let of_five = SpareSlots {
+        pushed: &[0, 1, 2, 3, 4, 5, 6],
+        kept: &[2, 3, 4, 5, 6],
+        slots: 8,
+    };
+    on_heap::<5, _>(&rt, &of_five)?;
+    let full = SpareSlots {
+        pushed: &[1, 2, 3],
+        kept: &[1, 2, 3],
+        slots: 4,
+    };
+    on_heap::<3, _>(&rt, &full)?;
+    let of_three = SpareSlots {
+        pushed: &[1, 2, 3, 4],
+        kept: &[2, 3, 4],
+        slots: 4,
+    };
+    on_heap::<3, _>(&rt, &of_three)
+}
+
+struct PushesAThousand;
+
+impl<Rt: Abort + AllocGlobal> Case<Rt> for PushesAThousand {
+    fn on<R: RingBuffer<i64> + Drop>(&self, rt: &Rt, mut ring: R) -> Result<(), AllocError> {
+        for item in 0..1000 {
+            push_all(rt, &mut ring, &[item]);
+        }
+        assert_holds(rt, &ring, &[997, 998, 999]);
+        assert_eq!(rt; ring.buffer_size(), 4);
+        Ok(())
+    }
 }
 
 #[test]
 fn a_heap_ring_keeps_the_last_of_a_thousand(rt: HostRuntime) -> Result<(), AllocError> {
-    let mut ring = AllocRingBuffer::new(rt.alloc(), 3)?;
-    for item in 0..1000 {
-        push_all(&rt, &mut ring, &[item]);
-    }
-    assert_holds(&rt, &ring, &[997, 998, 999]);
-    assert_eq!(rt; ring.buffer_size(), 4);
-    Ok(())
+    on_heap::<3, _>(&rt, &PushesAThousand)
 }

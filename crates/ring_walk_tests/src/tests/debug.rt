@@ -19,20 +19,29 @@ fn assert_writes<R: RingBuffer<i64> + Debug + Drop>(
     Ok(())
 }
 
+/// A ring of each type that these items were pushed onto writes its text.
+fn assert_each_writes(
+    rt: &(impl Abort + AllocGlobal),
+    items: &[i64],
+    fixed: &str,
+    growable: &str,
+) -> Result<(), AllocError> {
+    assert_writes(rt, ConstGenericRingBuffer::<i64, 3>::new(), items, fixed)?;
+    assert_writes(rt, AllocRingBuffer::new(rt.alloc(), 3)?, items, fixed)?;
+    assert_writes(
+        rt,
+        GrowableAllocRingBuffer::new(rt.alloc()),
+        items,
+        growable,
+    )
+}
+
 #[test]
 fn an_empty_ring_writes_brackets(rt: HostRuntime) -> Result<(), AllocError> {
-    assert_writes(&rt, ConstGenericRingBuffer::<i64, 3>::new(), &[], "[]")?;
-    assert_writes(&rt, AllocRingBuffer::new(rt.alloc(), 3)?, &[], "[]")?;
-    assert_writes(&rt, GrowableAllocRingBuffer::new(rt.alloc()), &[], "[]")
+    assert_each_writes(&rt, &[], "[]", "[]")
 }
 
 #[test]
 fn a_ring_writes_its_items_oldest_first(rt: HostRuntime) -> Result<(), AllocError> {
-    let items = &[1, 20, -3, 4];
-    let array = ConstGenericRingBuffer::<i64, 3>::new();
-    assert_writes(&rt, array, items, "[20, -3, 4]")?;
-    let heap = AllocRingBuffer::new(rt.alloc(), 3)?;
-    assert_writes(&rt, heap, items, "[20, -3, 4]")?;
-    let growable = GrowableAllocRingBuffer::new(rt.alloc());
-    assert_writes(&rt, growable, items, "[1, 20, -3, 4]")
+    assert_each_writes(&rt, &[1, 20, -3, 4], "[20, -3, 4]", "[1, 20, -3, 4]")
 }

@@ -17,18 +17,35 @@ enum End {
     Back,
 }
 
+/// So many items are still to come before this one.
+fn assert_to_come(rt: &impl Abort, hint: (usize, Option<usize>), left: usize, item: Option<i64>) {
+    assert_eq!(rt; hint, (left, Some(left)), "before {item:?}");
+}
+
+/// What a step of a reading walk finds.
+fn read<R: RingBuffer<i64>>(walk: &mut RingBufferIterator<'_, i64, R>, end: End) -> Option<i64> {
+    match end {
+        Front => walk.next().copied(),
+        Back => walk.next_back().copied(),
+    }
+}
+
+/// What a step of a cursor finds.
+fn lend<R: RingBuffer<i64>>(walk: &mut RingBufferMutIterator<'_, i64, R>, end: End) -> Option<i64> {
+    match end {
+        Front => walk.next().copied(),
+        Back => walk.next_back().copied(),
+    }
+}
+
 /// Steps of a reading walk over all items, each with what it finds. The number still to come is exact before each.
 fn assert_reads<R: RingBuffer<i64>>(rt: &impl Abort, ring: &R, steps: &[(End, Option<i64>)]) {
     let mut walk = RingBufferIterator::new(ring);
     let mut left = ring.len();
     for (end, found) in steps {
-        assert_eq!(rt; walk.size_hint(), (left, Some(left)), "before {found:?}");
-        assert_eq!(rt; walk.len(), left, "before {found:?}");
-        let item = match end {
-            Front => walk.next(),
-            Back => walk.next_back(),
-        };
-        assert_eq!(rt; item.copied(), *found);
+        assert_to_come(rt, walk.size_hint(), left, *found);
+        assert_eq!(rt; walk.len(), left);
+        assert_eq!(rt; read(&mut walk, *end), *found);
         left = left.saturating_sub(1);
     }
 }
@@ -38,12 +55,8 @@ fn assert_lends<R: RingBuffer<i64>>(rt: &impl Abort, ring: &mut R, steps: &[(End
     let mut left = ring.len();
     let mut walk = RingBufferMutIterator::new(ring);
     for (end, found) in steps {
-        assert_eq!(rt; walk.size_hint(), (left, Some(left)), "before {found:?}");
-        let item = match end {
-            Front => walk.next().copied(),
-            Back => walk.next_back().copied(),
-        };
-        assert_eq!(rt; item, *found);
+        assert_to_come(rt, walk.size_hint(), left, *found);
+        assert_eq!(rt; lend(&mut walk, *end), *found);
         left = left.saturating_sub(1);
     }
 }
@@ -54,12 +67,25 @@ fn assert_lists<R: RingBuffer<i64>>(rt: &(impl Abort + AllocGlobal), ring: &R, i
     assert_eq!(rt; listed.as_slice(), items);
 }
 
-/// Adds one to each item.
-fn increment<R: RingBuffer<i64>>(rt: &impl Abort, ring: &mut R) {
-    let mut walk = RingBufferMutIterator::new(ring);
+/// Adds a number to the item that a cursor lends at one end.
+fn add<R: RingBuffer<i64>>(
+    rt: &impl Abort,
+    walk: &mut RingBufferMutIterator<'_, i64, R>,
+    end: End,
+    number: i64,
+) {
+    let item = match end {
+        Front => walk.next(),
+        Back => walk.next_back(),
+    };
+    let item = item.expect(rt, "an item to come");
+    *item = item.wrapping_add(number);
+}
+
+/// Adds one to each item that a cursor lends.
+fn increment<R: RingBuffer<i64>>(rt: &impl Abort, walk: &mut RingBufferMutIterator<'_, i64, R>) {
     for _ in 0..walk.size_hint().0 {
-        let item = walk.next().expect(rt, "an item to come");
-        *item = item.wrapping_add(1);
+        add(rt, walk, Front, 1);
     }
     assert!(rt; walk.next().is_none());
 }
@@ -134,23 +160,47 @@ fn an_empty_ring_has_nothing_to_come(rt: HostRuntime) -> Result<(), AllocError> 
     Rings::<8>::each(&rt, &NothingToCome)
 }
 
-struct ReadsInOrder;
-
-impl<Rt: Abort + AllocGlobal> Case<Rt> for ReadsInOrder {
-    fn on<R: RingBuffer<i64> + Drop>(&self, rt: &Rt, mut ring: R) -> Result<(), AllocError> {
-        push_all(rt, &mut ring, &[1, 2, 3, 4, 5, 6, 7]);
-        let mut walk = RingBufferIterator::new(&ring);
-        for item in 1..8 {
-            assert_eq!(rt; walk.next().copied(), Some(item));
-        }
-        assert!(rt; walk.next().is_none());
-        Ok(())
-    }
-}
-
 #[test]
 fn a_walk_reads_in_order(rt: HostRuntime) -> Result<(), AllocError> {
-    Rings::<7>::each(&rt, &ReadsInOrder)
+    let items = &[1, 2, 3, 4, 5, 6, 7];
+    let steps = &[
+        (Front, Some(1)),
+        (Front, Some(2)),
+        (Front, Some(3)),
+        (Front, Some(4)),
+        (Front, Some(5)),
+        (Front, Some(6)),
+        (Front, Some(7)),
+        (Front, None),
+    ];
+    Rings::<7>::each(&rt, &Steps { items, steps })
+}
+
+/// A walk over the items from 1 to 7 passes over some from the front, until too few are left.
+fn assert_passes<R: RingBuffer<i64>>(rt: &impl Abort, ring: &R) {
+    let mut walk = RingBufferIterator::new(ring);
+    assert_eq!(rt; walk.nth(0).copied(), Some(1));
+    assert_eq!(rt; walk.nth(2).copied(), Some(4));
+    assert_eq!(rt; walk.next_back().copied(), Some(7));
+    assert!(rt; walk.nth(2).is_none(), "5 and 6 are left");
+    assert!(rt; walk.next().is_none());
+    assert!(rt; walk.next_back().is_none());
+}
+
+/// A walk that passes over all items has ended.
+fn assert_passes_all<R: RingBuffer<i64>>(rt: &impl Abort, ring: &R) {
+    let mut walk = RingBufferIterator::new(ring);
+    assert!(rt; walk.nth(usize::MAX).is_none());
+    assert!(rt; walk.next_back().is_none());
+    assert_eq!(rt; walk.count(), 0);
+}
+
+/// A walk over the items from 1 to 7 counts what is left, and finds the last.
+fn assert_counts<R: RingBuffer<i64>>(rt: &impl Abort, ring: &R) {
+    let mut walk = RingBufferIterator::new(ring);
+    let _ = walk.next();
+    assert_eq!(rt; walk.count(), 6);
+    assert_eq!(rt; RingBufferIterator::new(ring).last().copied(), Some(7));
 }
 
 struct PassesOver;
@@ -165,21 +215,9 @@ impl<Rt: Abort + AllocGlobal> Case<Rt> for PassesOver {
             ring.skip();
         }
         push_all(rt, &mut ring, &[2, 3, 4, 5, 6, 7]);
-        let mut walk = RingBufferIterator::new(&ring);
-        assert_eq!(rt; walk.nth(0).copied(), Some(1));
-        assert_eq!(rt; walk.nth(2).copied(), Some(4));
-        assert_eq!(rt; walk.next_back().copied(), Some(7));
-        assert!(rt; walk.nth(2).is_none(), "5 and 6 are left");
-        assert!(rt; walk.next().is_none());
-        assert!(rt; walk.next_back().is_none());
-        let mut walk = RingBufferIterator::new(&ring);
-        assert!(rt; walk.nth(usize::MAX).is_none());
-        assert!(rt; walk.next_back().is_none());
-        assert_eq!(rt; walk.count(), 0);
-        let mut walk = RingBufferIterator::new(&ring);
-        let _ = walk.next();
-        assert_eq!(rt; walk.count(), 6);
-        assert_eq!(rt; RingBufferIterator::new(&ring).last().copied(), Some(7));
+        assert_passes(rt, &ring);
+        assert_passes_all(rt, &ring);
+        assert_counts(rt, &ring);
         Ok(())
     }
 }
@@ -189,6 +227,17 @@ fn a_walk_passes_over_items(rt: HostRuntime) -> Result<(), AllocError> {
     Rings::<8>::each(&rt, &PassesOver)
 }
 
+/// An owning walk has so many items still to come, and takes this one.
+fn assert_takes<R: RingBuffer<i64> + Drop>(
+    rt: &impl Abort,
+    walk: &mut RingBufferIntoIterator<i64, R>,
+    left: usize,
+    item: i64,
+) {
+    assert_to_come(rt, walk.size_hint(), left, Some(item));
+    assert_eq!(rt; walk.next(), Some(item));
+}
+
 struct TakesInOrder;
 
 impl<Rt: Abort + AllocGlobal> Case<Rt> for TakesInOrder {
@@ -196,8 +245,7 @@ impl<Rt: Abort + AllocGlobal> Case<Rt> for TakesInOrder {
         push_all(rt, &mut ring, &[1, 2, 3, 4, 5, 6, 7]);
         let mut walk = RingBufferIntoIterator::new(ring);
         for (item, left) in [(1, 7), (2, 6), (3, 5), (4, 4), (5, 3), (6, 2), (7, 1)] {
-            assert_eq!(rt; walk.size_hint(), (left, Some(left)), "before {item}");
-            assert_eq!(rt; walk.next(), Some(item));
+            assert_takes(rt, &mut walk, left, item);
         }
         assert_eq!(rt; walk.size_hint(), (0, Some(0)));
         assert!(rt; walk.next().is_none());
@@ -210,17 +258,27 @@ fn an_owning_walk_takes_in_order(rt: HostRuntime) -> Result<(), AllocError> {
     Rings::<8>::each(&rt, &TakesInOrder)
 }
 
+/// Pushes each letter of a text of three.
+fn push_letters<'a, R: RingBuffer<&'a str>>(rt: &impl Abort, ring: &mut R, text: &'a str) {
+    for i in 0..3 {
+        let letter = text.get(i..i + 1).expect(rt, "three letters");
+        assert!(rt; ring.push(letter).is_ok());
+    }
+}
+
+/// A walk reads these letters.
+fn assert_letters<'a, R: RingBuffer<&'a str>>(rt: &impl Abort, ring: &R, letters: &[&str]) {
+    let mut walk = RingBufferIterator::new(ring);
+    for letter in letters {
+        assert!(rt; *walk.next().expect(rt, "a letter") == *letter);
+    }
+}
+
 #[test]
 fn items_may_be_borrowed_texts(rt: HostRuntime) -> Result<(), AllocError> {
     fn on<'a, R: RingBuffer<&'a str> + Drop>(rt: &impl Abort, mut ring: R, text: &'a str) {
-        for i in 0..3 {
-            let letter = text.get(i..i + 1).expect(rt, "three letters");
-            assert!(rt; ring.push(letter).is_ok());
-        }
-        let mut walk = RingBufferIterator::new(&ring);
-        for letter in ["a", "b", "c"] {
-            assert!(rt; *walk.next().expect(rt, "a letter") == letter);
-        }
+        push_letters(rt, &mut ring, text);
+        assert_letters(rt, &ring, &["a", "b", "c"]);
     }
     let text = String::from_str(rt.alloc(), "abc")?;
     on(&rt, ConstGenericRingBuffer::<&str, 8>::new(), text.as_str());
@@ -233,16 +291,26 @@ fn items_may_be_borrowed_texts(rt: HostRuntime) -> Result<(), AllocError> {
     Ok(())
 }
 
+/// Pushes a reference to each number.
+fn push_references<'a, R: RingBuffer<&'a i64>>(rt: &impl Abort, ring: &mut R, numbers: &'a [i64]) {
+    for number in numbers {
+        assert!(rt; ring.push(number).is_ok());
+    }
+}
+
+/// A walk reads references to these numbers.
+fn assert_refers<'a, R: RingBuffer<&'a i64>>(rt: &impl Abort, ring: &R, numbers: &[i64]) {
+    let mut walk = RingBufferIterator::new(ring);
+    for number in numbers {
+        assert_eq!(rt; **walk.next().expect(rt, "an item to come"), *number);
+    }
+}
+
 #[test]
 fn items_may_be_references(rt: HostRuntime) -> Result<(), AllocError> {
     fn on<'a, R: RingBuffer<&'a i64> + Drop>(rt: &impl Abort, mut ring: R, numbers: &'a [i64]) {
-        for number in numbers {
-            assert!(rt; ring.push(number).is_ok());
-        }
-        let mut walk = RingBufferIterator::new(&ring);
-        for number in numbers {
-            assert_eq!(rt; **walk.next().expect(rt, "an item to come"), *number);
-        }
+        push_references(rt, &mut ring, numbers);
+        assert_refers(rt, &ring, numbers);
         let oldest = ring.dequeue().expect(rt, "an item");
         *ring.back_mut().expect(rt, "a newest item") = oldest;
         assert_eq!(rt; **ring.get(0).expect(rt, "an item"), 2);
@@ -266,12 +334,10 @@ impl<Rt: Abort + AllocGlobal> Case<Rt> for SideBySide {
         push_all(rt, &mut ring, &[1, 2, 3]);
         let mut one = RingBufferIterator::new(&ring);
         let mut other = RingBufferIterator::new(&ring);
-        assert_eq!(rt; one.next().copied(), Some(1));
-        assert_eq!(rt; other.next().copied(), Some(1));
-        assert_eq!(rt; one.next().copied(), Some(2));
-        assert_eq!(rt; other.next().copied(), Some(2));
-        assert_eq!(rt; one.next().copied(), Some(3));
-        assert_eq!(rt; other.next().copied(), Some(3));
+        for item in [1, 2, 3] {
+            assert_eq!(rt; read(&mut one, Front), Some(item));
+            assert_eq!(rt; read(&mut other, Front), Some(item));
+        }
         Ok(())
     }
 }
@@ -294,7 +360,7 @@ impl<Rt: Abort + AllocGlobal> Case<Rt> for Seen {
         push_all(rt, &mut ring, &[1, 2, 3]);
         assert_reads(rt, &ring, self.steps);
         assert_lists(rt, &ring, self.kept);
-        increment(rt, &mut ring);
+        increment(rt, &mut RingBufferMutIterator::new(&mut ring));
         assert_holds(rt, &ring, self.incremented);
         Ok(())
     }
@@ -330,7 +396,7 @@ struct Increments;
 impl<Rt: Abort + AllocGlobal> Case<Rt> for Increments {
     fn on<R: RingBuffer<i64> + Drop>(&self, rt: &Rt, mut ring: R) -> Result<(), AllocError> {
         push_all(rt, &mut ring, &[1, 2, 3]);
-        increment(rt, &mut ring);
+        increment(rt, &mut RingBufferMutIterator::new(&mut ring));
         assert_holds(rt, &ring, &[2, 3, 4]);
         Ok(())
     }
@@ -347,10 +413,8 @@ impl<Rt: Abort + AllocGlobal> Case<Rt> for WritesFromBothEnds {
     fn on<R: RingBuffer<i64> + Drop>(&self, rt: &Rt, mut ring: R) -> Result<(), AllocError> {
         push_all(rt, &mut ring, &[1, 2, 3, 4]);
         let mut walk = RingBufferMutIterator::new(&mut ring);
-        let first = walk.next().expect(rt, "a first item");
-        *first = first.wrapping_add(10);
-        let last = walk.next_back().expect(rt, "a last item");
-        *last = last.wrapping_add(20);
+        add(rt, &mut walk, Front, 10);
+        add(rt, &mut walk, Back, 20);
         assert_eq!(rt; walk.size_hint(), (2, Some(2)));
         drop(walk);
         assert_holds(rt, &ring, &[11, 2, 3, 24]);
@@ -381,28 +445,25 @@ fn a_dropped_cursor_keeps_what_was_written(rt: HostRuntime) -> Result<(), AllocE
     Rings::<3>::each(&rt, &WritesTheFirst)
 }
 
+/// A drain takes these items, and then none. The number still to come is exact before each.
+fn assert_drains<R: RingBuffer<i64>>(rt: &impl Abort, ring: &mut R, items: &[i64]) {
+    let mut left = ring.len();
+    let mut walk = RingBufferDrainingIterator::new(ring);
+    for item in items {
+        assert_to_come(rt, walk.size_hint(), left, Some(*item));
+        assert_eq!(rt; walk.next(), Some(*item));
+        left = left.saturating_sub(1);
+    }
+    assert!(rt; walk.next().is_none());
+}
+
 struct DrainsAll;
 
 impl<Rt: Abort + AllocGlobal> Case<Rt> for DrainsAll {
     fn on<R: RingBuffer<i64> + Drop>(&self, rt: &Rt, mut ring: R) -> Result<(), AllocError> {
         push_all(rt, &mut ring, &[0, 1, 2, 3, 4, 5, 6, 7]);
         assert_eq!(rt; ring.len(), 8);
-        let mut walk = RingBufferDrainingIterator::new(&mut ring);
-        for (item, left) in [
-            (0, 8),
-            (1, 7),
-            (2, 6),
-            (3, 5),
-            (4, 4),
-            (5, 3),
-            (6, 2),
-            (7, 1),
-        ] {
-            assert_eq!(rt; walk.size_hint(), (left, Some(left)), "before {item}");
-            assert_eq!(rt; walk.next(), Some(item));
-        }
-        assert!(rt; walk.next().is_none());
-        drop(walk);
+        assert_drains(rt, &mut ring, &[0, 1, 2, 3, 4, 5, 6, 7]);
         assert_eq!(rt; ring.len(), 0);
         Ok(())
     }
@@ -413,49 +474,41 @@ fn a_drain_empties_the_ring(rt: HostRuntime) -> Result<(), AllocError> {
     Rings::<16>::each(&rt, &DrainsAll)
 }
 
-struct DrainsInParts;
+/// A drain takes these items, and is dropped.
+fn drain<R: RingBuffer<i64>>(rt: &impl Abort, ring: &mut R, items: &[i64]) {
+    let mut walk = RingBufferDrainingIterator::new(ring);
+    for item in items {
+        assert_eq!(rt; walk.next(), Some(*item));
+    }
+}
+
+/// Pushes the numbers from 1 to 4. Then drains follow, each with what it takes and what it leaves.
+#[derive(Drop)]
+struct DrainsInParts {
+    parts: &'static [(&'static [i64], &'static [i64])],
+}
 
 impl<Rt: Abort + AllocGlobal> Case<Rt> for DrainsInParts {
     fn on<R: RingBuffer<i64> + Drop>(&self, rt: &Rt, mut ring: R) -> Result<(), AllocError> {
         push_all(rt, &mut ring, &[1, 2, 3, 4]);
-        drop(RingBufferDrainingIterator::new(&mut ring));
-        assert_holds(rt, &ring, &[1, 2, 3, 4]);
-        let mut walk = RingBufferDrainingIterator::new(&mut ring);
-        assert_eq!(rt; walk.next(), Some(1));
-        assert_eq!(rt; walk.next(), Some(2));
-        drop(walk);
-        assert_holds(rt, &ring, &[3, 4]);
-        assert_eq!(rt; RingBufferDrainingIterator::new(&mut ring).next(), Some(3));
-        assert_holds(rt, &ring, &[4]);
+        for (taken, left) in self.parts {
+            drain(rt, &mut ring, taken);
+            assert_holds(rt, &ring, left);
+        }
         Ok(())
     }
 }
 
 #[test]
 fn a_dropped_drain_leaves_the_rest(rt: HostRuntime) -> Result<(), AllocError> {
-    Rings::<4>::each(&rt, &DrainsInParts)
-}
-
-struct DrainsThree;
-
-impl<Rt: Abort + AllocGlobal> Case<Rt> for DrainsThree {
-    fn on<R: RingBuffer<i64> + Drop>(&self, rt: &Rt, mut ring: R) -> Result<(), AllocError> {
-        push_all(rt, &mut ring, &[1, 2, 3, 4]);
-        drop(RingBufferDrainingIterator::new(&mut ring));
-        assert_holds(rt, &ring, &[1, 2, 3, 4]);
-        let mut walk = RingBufferDrainingIterator::new(&mut ring);
-        assert_eq!(rt; walk.next(), Some(1));
-        assert_eq!(rt; walk.next(), Some(2));
-        assert_eq!(rt; walk.next(), Some(3));
-        drop(walk);
-        assert_holds(rt, &ring, &[4]);
-        Ok(())
-    }
+    let parts: &[(&[i64], &[i64])] = &[(&[], &[1, 2, 3, 4]), (&[1, 2], &[3, 4]), (&[3], &[4])];
+    Rings::<4>::each(&rt, &DrainsInParts { parts })
 }
 
 #[test]
 fn a_drain_of_three_leaves_the_fourth(rt: HostRuntime) -> Result<(), AllocError> {
-    Rings::<4>::each(&rt, &DrainsThree)
+    let parts: &[(&[i64], &[i64])] = &[(&[], &[1, 2, 3, 4]), (&[1, 2, 3], &[4])];
+    Rings::<4>::each(&rt, &DrainsInParts { parts })
 }
 
 struct Listed;
@@ -586,64 +639,102 @@ impl Walked for GrowableAllocRingBuffer<i64> {
     }
 }
 
-/// Each walk that the ring makes takes 1, 2 and 3.
-fn assert_walked<R: Walked>(rt: &impl Abort, mut ring: R) {
-    push_all(rt, &mut ring, &[0, 1, 2]);
-    let mut walk = ring.writer();
-    for _ in 0..3 {
-        let item = walk.next().expect(rt, "an item to come");
-        *item = item.wrapping_add(1);
-    }
-    drop(walk);
+/// What a test does with a ring that is new and makes its own walks.
+trait WalkedCase {
+    fn on<R: Walked>(&self, rt: &impl Abort, ring: R);
+}
+
+/// The case on an array ring.
+fn on_array(rt: &impl Abort, case: &impl WalkedCase) {
+    case.on(rt, ConstGenericRingBuffer::<i64, 3>::new());
+}
+
+/// The case on a heap ring.
+fn on_heap(rt: &(impl Abort + AllocGlobal), case: &impl WalkedCase) -> Result<(), AllocError> {
+    case.on(rt, AllocRingBuffer::new(rt.alloc(), 3)?);
+    Ok(())
+}
+
+/// The case on a growable ring.
+fn on_growable(rt: &(impl Abort + AllocGlobal), case: &impl WalkedCase) {
+    case.on(rt, GrowableAllocRingBuffer::new(rt.alloc()));
+}
+
+/// A reading walk that the ring makes finds 3, 2 and 1 from its end on.
+fn assert_read<R: Walked>(rt: &impl Abort, ring: &R) {
     assert!(rt; ring.reader().rev().copied().eq([3, 2, 1]));
+}
+
+/// A drain that the ring makes takes 1, 2 and 3.
+fn assert_drained<R: Walked>(rt: &impl Abort, ring: &mut R) {
     assert!(rt; ring.drainer().eq([1, 2, 3]));
-    push_all(rt, &mut ring, &[1, 2, 3]);
-    assert!(rt; ring.taker().eq([1, 2, 3]));
+}
+
+/// Each walk that the ring makes takes 1, 2 and 3.
+struct MakesItsWalks;
+
+impl WalkedCase for MakesItsWalks {
+    fn on<R: Walked>(&self, rt: &impl Abort, mut ring: R) {
+        push_all(rt, &mut ring, &[0, 1, 2]);
+        increment(rt, &mut ring.writer());
+        assert_read(rt, &ring);
+        assert_drained(rt, &mut ring);
+        push_all(rt, &mut ring, &[1, 2, 3]);
+        assert!(rt; ring.taker().eq([1, 2, 3]));
+    }
 }
 
 #[test]
 fn an_array_ring_makes_its_walks(rt: HostRuntime) {
-    assert_walked(&rt, ConstGenericRingBuffer::<i64, 3>::new());
+    on_array(&rt, &MakesItsWalks);
 }
 
 #[test]
 fn a_heap_ring_makes_its_walks(rt: HostRuntime) -> Result<(), AllocError> {
-    assert_walked(&rt, AllocRingBuffer::new(rt.alloc(), 3)?);
-    Ok(())
+    on_heap(&rt, &MakesItsWalks)
 }
 
 #[test]
 fn a_growable_ring_makes_its_walks(rt: HostRuntime) {
-    assert_walked(&rt, GrowableAllocRingBuffer::new(rt.alloc()));
+    on_growable(&rt, &MakesItsWalks);
 }
 
-/// Loops over the ring, by reference and by value, go from 1 to 3.
-fn assert_looped<R: Walked>(rt: &impl Abort, mut ring: R) {
-    push_all(rt, &mut ring, &[1, 2, 3]);
+/// A loop over a reference to the ring goes from 1 to 3.
+fn assert_looped<R: Walked>(rt: &impl Abort, ring: &R) {
     let mut last = 0;
     for item in ring.lent() {
         assert!(rt; last < *item);
         last = *item;
     }
     assert_eq!(rt; last, 3);
-    for item in ring.given() {
-        last = last.wrapping_sub(item);
+}
+
+/// Loops over the ring, by reference and by value, go from 1 to 3.
+struct LoopedOver;
+
+impl WalkedCase for LoopedOver {
+    fn on<R: Walked>(&self, rt: &impl Abort, mut ring: R) {
+        push_all(rt, &mut ring, &[1, 2, 3]);
+        assert_looped(rt, &ring);
+        let mut last = 3i64;
+        for item in ring.given() {
+            last = last.wrapping_sub(item);
+        }
+        assert_eq!(rt; last, -3);
     }
-    assert_eq!(rt; last, -3);
 }
 
 #[test]
 fn loops_go_over_an_array_ring(rt: HostRuntime) {
-    assert_looped(&rt, ConstGenericRingBuffer::<i64, 3>::new());
+    on_array(&rt, &LoopedOver);
 }
 
 #[test]
 fn loops_go_over_a_heap_ring(rt: HostRuntime) -> Result<(), AllocError> {
-    assert_looped(&rt, AllocRingBuffer::new(rt.alloc(), 3)?);
-    Ok(())
+    on_heap(&rt, &LoopedOver)
 }
 
 #[test]
 fn loops_go_over_a_growable_ring(rt: HostRuntime) {
-    assert_looped(&rt, GrowableAllocRingBuffer::new(rt.alloc()));
+    on_growable(&rt, &LoopedOver);
 }

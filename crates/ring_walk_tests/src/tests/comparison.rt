@@ -210,18 +210,33 @@ fn an_empty_heap_ring_is_cloned_with_its_capacity(rt: HostRuntime) -> Result<(),
     Ok(())
 }
 
+/// A clone of a full ring of capacity 5, in as many slots as it has.
+struct FullTwin;
+
+impl TwinCase for FullTwin {
+    fn on<R: RingBuffer<i64> + PartialEq + Twin + Drop>(
+        &self,
+        rt: &impl Abort,
+        mut ring: R,
+        _other: R,
+    ) -> Result<(), AllocError> {
+        push_all(rt, &mut ring, &[0, 1, 2, 3, 4, 5, 6]);
+        ring.fill(4)?;
+        let mut twin = ring.twin()?;
+        assert!(rt; twin == ring);
+        assert_eq!(rt; twin.capacity(), 5);
+        assert_eq!(rt; twin.buffer_size(), 8);
+        push_all(rt, &mut twin, &[1]);
+        assert_holds(rt, &ring, &[4, 4, 4, 4, 4]);
+        assert_holds(rt, &twin, &[4, 4, 4, 4, 1]);
+        assert!(rt; twin != ring);
+        Ok(())
+    }
+}
+
 #[test]
 fn a_clone_of_a_full_heap_ring_keeps_its_capacity(rt: HostRuntime) -> Result<(), AllocError> {
-    let mut ring = AllocRingBuffer::new(rt.alloc(), 5)?;
-    push_all(&rt, &mut ring, &[0, 1, 2, 3, 4, 5, 6]);
-    ring.fill(4)?;
-    let mut twin = ring.clone()?;
-    assert!(rt; twin == ring);
-    assert_eq!(rt; twin.capacity(), 5);
-    assert_eq!(rt; twin.buffer_size(), 8);
-    push_all(&rt, &mut twin, &[1]);
-    assert_holds(&rt, &ring, &[4, 4, 4, 4, 4]);
-    assert_holds(&rt, &twin, &[4, 4, 4, 4, 1]);
-    assert!(rt; twin != ring);
-    Ok(())
+    let ring = AllocRingBuffer::new(rt.alloc(), 5)?;
+    let other = AllocRingBuffer::new(rt.alloc(), 5)?;
+    FullTwin.on(&rt, ring, other)
 }

@@ -1,0 +1,5 @@
+//! Tests of walks, lists of the items, equality, clones and `Debug`.
+#![tactic(auto)]
+
+#[cfg(test)]
+mod tests;
