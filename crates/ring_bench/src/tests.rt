@@ -33,6 +33,19 @@ fn push_all<R: RingBuffer<i64>>(rt: &impl Abort, ring: &mut R, items: &[i64]) {
     }
 }
 
+/// Where the items of a ring begin: so many places after the first slot.
+const STARTS: [usize; 8] = [0, 1, 2, 3, 4, 5, 6, 7];
+
+/// The ring holds these items and no other, which begin so many places after the first slot.
+fn lay<R: RingBuffer<i64>>(rt: &impl Abort, ring: &mut R, start: usize, items: &[i64]) {
+    ring.clear();
+    for _ in 0..start {
+        push_all(rt, ring, &[0]);
+        ring.skip();
+    }
+    push_all(rt, ring, items);
+}
+
 /// The ring holds these items and no other, in order.
 fn assert_holds<R: RingBuffer<i64>>(rt: &impl Abort, ring: &R, items: &[i64]) {
     assert_eq!(rt; ring.len(), items.len());

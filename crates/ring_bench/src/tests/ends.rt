@@ -1,6 +1,6 @@
 //! Taking the newest item, and keeping the items of one end.
 
-use super::{assert_gives, assert_holds, push_all};
+use super::{STARTS, assert_gives, assert_holds, lay, push_all};
 use ringbuffer::{AllocRingBuffer, ConstGenericRingBuffer, GrowableAllocRingBuffer, RingBuffer};
 use std::alloc::AllocError;
 use std::process::Abort;
@@ -83,19 +83,6 @@ const KEPT: [(&[i64], usize, &[i64], &[i64]); 11] = [
         &[1, 2, 3, 4, 5],
     ),
 ];
-
-/// Where the items of a ring begin: so many places after the first slot.
-const STARTS: [usize; 8] = [0, 1, 2, 3, 4, 5, 6, 7];
-
-/// The ring holds these items and no other, which begin so many places after the first slot.
-fn lay<R: RingBuffer<i64>>(rt: &impl Abort, ring: &mut R, start: usize, items: &[i64]) {
-    ring.clear();
-    for _ in 0..start {
-        push_all(rt, ring, &[0]);
-        ring.skip();
-    }
-    push_all(rt, ring, items);
-}
 
 /// The ring holds these items and no other, and an item that is pushed then comes behind them.
 fn assert_left<R: RingBuffer<i64>>(rt: &impl Abort, ring: &mut R, items: &[i64]) {

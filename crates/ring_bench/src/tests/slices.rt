@@ -1,6 +1,6 @@
 //! Whole slices in and out.
 
-use super::{assert_gives, assert_holds, push_all};
+use super::{STARTS, assert_gives, assert_holds, lay, push_all};
 use ringbuffer::{AllocRingBuffer, GrowableAllocRingBuffer, RingBuffer};
 use std::alloc::AllocError;
 use std::process::Abort;
@@ -72,19 +72,6 @@ const COPIES: [(&[i64], usize, &[i64]); 8] = [
     (&[1, 2, 3, 4, 5], 5, &[1, 2, 3, 4, 5, 9]),
 ];
 
-/// Where the items of a ring begin: so many places after the first slot.
-const STARTS: [usize; 8] = [0, 1, 2, 3, 4, 5, 6, 7];
-
-/// The ring holds these items and no other, which begin so many places after the first slot.
-fn lay<R: RingBuffer<i64>>(rt: &impl Abort, ring: &mut R, start: usize, items: &[i64]) {
-    ring.clear();
-    for _ in 0..start {
-        push_all(rt, ring, &[0]);
-        ring.skip();
-    }
-    push_all(rt, ring, items);
-}
-
 /// An extension by the slice of each row leaves the last of all items that the limit allows.
 fn assert_extends<R: Slices + Drop>(
     rt: &impl Abort,
@@ -137,4 +124,17 @@ fn items_are_copied_to_slices(rt: HostRuntime) -> Result<(), AllocError> {
     assert_copies(&rt, AllocRingBuffer::new(rt.alloc(), 6)?)?;
     assert_copies(&rt, AllocRingBuffer::new(rt.alloc(), 8)?)?;
     assert_copies(&rt, GrowableAllocRingBuffer::new(rt.alloc()))
+}
+
+#[test]
+fn items_are_made_one_slice(rt: HostRuntime) -> Result<(), AllocError> {
+    let mut ring = GrowableAllocRingBuffer::with_capacity(rt.alloc(), 5)?;
+    for start in STARTS {
+        lay(&rt, &mut ring, start, &[1, 2, 3, 4, 5]);
+        let all = ring.make_contiguous();
+        assert_eq!(rt; &*all, [1, 2, 3, 4, 5].as_slice());
+        all[4] = 6;
+        assert_gives(&rt, &mut ring, &[1, 2, 3, 4, 6]);
+    }
+    Ok(())
 }

@@ -149,6 +149,35 @@ fn a_refused_extension_keeps_what_there_was_room_for(rt: HostRuntime) -> Result<
     Ok(())
 }
 
+#[test]
+fn a_refused_slice_leaves_a_growable_ring(rt: HostRuntime) -> Result<(), AllocError> {
+    let mut ring = GrowableAllocRingBuffer::with_capacity(rt.alloc(), 3)?;
+    push_all(&rt, &mut ring, &[1, 2]);
+    let drought = Drought::total(rt.alloc())?;
+    let refused = ring.extend_from_slice(&[3, 4, 5]);
+    let fitting = ring.extend_from_slice(&[6]);
+    drop(drought);
+    assert!(rt; refused.is_err());
+    assert!(rt; fitting.is_ok());
+    assert_holds(&rt, &ring, &[1, 2, 6]);
+    Ok(())
+}
+
+#[test]
+fn slices_of_a_heap_ring_take_no_memory(rt: HostRuntime) -> Result<(), AllocError> {
+    let mut ring = AllocRingBuffer::new(rt.alloc(), 3)?;
+    push_all(&rt, &mut ring, &[1, 2]);
+    let mut output = [0; 2];
+    let drought = Drought::total(rt.alloc())?;
+    ring.extend_from_slice(&[3, 4, 5, 6]);
+    let count = ring.dequeue_into(&mut output);
+    drop(drought);
+    assert_eq!(rt; count, 2);
+    assert_eq!(rt; output, [4, 5]);
+    assert_holds(&rt, &ring, &[6]);
+    Ok(())
+}
+
 struct FixedTakesNone;
 
 impl<Rt: Abort + AllocGlobal> Case<Rt> for FixedTakesNone {
