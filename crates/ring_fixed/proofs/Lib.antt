@@ -7,3 +7,4 @@ pub mod RepeatedSteps
 pub mod Runs
 pub mod SlotsHold
 pub mod SomesTaken
+pub mod Straight

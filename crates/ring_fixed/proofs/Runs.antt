@@ -30,7 +30,7 @@ module _ {X : Type 0} where
   somes-map (x ∷ xs) = ap (λ l. x ∷ l) (somes-map xs)
 
   -- a run holds one list of items
-  run_is : (cs : List (Option X)) (from n : ℕ) (xs ys : List X) → HoldsRun cs from n xs → HoldsRun cs from n ys → xs ≡ ys
+  pub run_is : (cs : List (Option X)) (from n : ℕ) (xs ys : List X) → HoldsRun cs from n xs → HoldsRun cs from n ys → xs ≡ ys
   run_is cs from n xs ys holds holds' = sym (somes-map xs) ∙ ap somes (sym holds ∙ holds') ∙ somes-map ys
 
 module _ {X : Type 0} {P : ℕ → Type 0} (s : Slots X) (start : ℕ) (laid_out : IsLaidOut P s start) (len first : ℕ)

@@ -1,5 +1,5 @@
 -- What a change of one slot does to the items that lie in the slots.
-use Rattle.std.proofs.Common.{◌≡◌, ◌≢◌, ℕ, zero, suc, ◌+◌, ◌-◌, ◌%◌, ◌<◌, ◌≤◌, ◌⊎◌, inl, inr, List, [], ◌∷◌, ◌++◌, length, take, get_or, Option, None, Some, refl, sym, ap, ◌∙◌, arith, length-set, get_or-set_same, get_or-set_other}
+use Rattle.std.proofs.Common.{◌≡◌, ◌≢◌, ℕ, zero, suc, ◌+◌, ◌-◌, ◌%◌, ◌<◌, ◌≤◌, ◌⊎◌, inl, inr, List, [], ◌∷◌, ◌++◌, length, take, get_or, ext_get_or, Option, None, Some, refl, sym, ap, ◌∙◌, arith, length-set, get_or-set_same, get_or-set_other}
 use Rattle.std.proofs.Math.ListN.{set}
 use Rattle.std.proofs.Math.Nat.{mod-eq_of_lt, mod-eq-sub-mod, mod-lt}
 use Rattle.std.proofs.Math.Decide.{dec_lt, ℕ_discrete}
@@ -44,19 +44,26 @@ module _ {X : Type 0} (slots : List (Option X)) (start : ℕ) (within : start < 
   last_place : (k : ℕ) → k < length slots → (suc k < length slots → ⊥) → (start + suc k) % length slots ≡ start
   last_place k low last = elim (wrap start (suc k) (length slots) within (omega arith)) [ inl a ↦ omega arith | inr a ↦ omega arith ]
 
+  -- each place is counted to from the start
+  count_to : (place : ℕ) → place < length slots → (k : ℕ) × (k < length slots) × ((start + k) % length slots ≡ place)
+  count_to place here =
+      let size = length slots in
+      elim (dec_lt place start) [
+        | yes before ↦ let k : ℕ = place + size - start in (k, omega arith, elim (wrap start k size within (omega arith)) [ inl a ↦ omega arith | inr a ↦ omega arith ])
+        | no after ↦ let k : ℕ = place - start in (k, omega arith, elim (wrap start k size within (omega arith)) [ inl a ↦ omega arith | inr a ↦ omega arith ])
+      ]
+
   -- where no item lies from one start, none lies from another
   pub SlotsHold-none : SlotsHold slots start [] → (other : ℕ) → SlotsHold slots other []
   SlotsHold-none lie other k low =
-      let size = length slots in let place = (other + k) % size in
-      let here : place < size = mod-lt (other + k) (omega arith) in
-      elim (dec_lt place start) [
-        | yes before ↦ let count : ℕ = place + size - start in
-            let found : (start + count) % size ≡ place = elim (wrap start count size within (omega arith)) [ inl a ↦ omega arith | inr a ↦ omega arith ] in
-            ap (λ n. get_or slots n None) (sym found) ∙ lie count (omega arith)
-        | no after ↦ let count : ℕ = place - start in
-            let found : (start + count) % size ≡ place = elim (wrap start count size within (omega arith)) [ inl a ↦ omega arith | inr a ↦ omega arith ] in
-            ap (λ n. get_or slots n None) (sym found) ∙ lie count (omega arith)
-      ]
+      let found = count_to ((other + k) % length slots) (mod-lt (other + k) (omega arith)) in
+      ap (λ n. get_or slots n None) (sym found.2) ∙ lie found.0 found.1
+
+  -- as many slots that hold the same from the same start are the same
+  pub SlotsHold-same : (others : List (Option X)) (xs : List X) → SlotsHold slots start xs → SlotsHold others start xs → length others ≡ length slots → slots ≡ others
+  SlotsHold-same others xs lie lie' same = ext_get_or None slots others (sym same) (λ j low.
+      let found = count_to j low in let there = rw same at (lie' found.0) in
+      ap (λ n. get_or slots n None) (sym found.2) ∙ lie found.0 found.1 ∙ sym (there found.1) ∙ ap (λ n. get_or others n None) found.2)
 
   -- a change of the slot at a count, to what another list has there that is the same elsewhere
   SlotsHold-set : (xs ys : List X) (k : ℕ) (slot : Option X) → SlotsHold slots start xs → k < length slots → slice_get ys k ≡ slot → ((j : ℕ) → j ≢ k → slice_get ys j ≡ slice_get xs j)

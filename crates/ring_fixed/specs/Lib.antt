@@ -2,3 +2,4 @@ pub mod Layout
 pub mod Somes
 pub mod View
 pub mod fixed
+pub mod slices

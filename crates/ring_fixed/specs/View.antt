@@ -1,5 +1,6 @@
 -- What a contract sees of a ring of a fixed capacity, and what each call makes of that.
-use Rattle.std.specs.Prelude.{ℕ, ◌+◌, ◌-◌, min, List, [], ◌∷◌, ◌++◌, drop, length, take, Some, slice_set}
+use Rattle.std.specs.List.{refill}
+use Rattle.std.specs.Prelude.{ℕ, ◌+◌, ◌-◌, ◌*◌, min, List, [], ◌∷◌, ◌++◌, drop, length, take, Some, slice_set}
 use Rattle.ring_core.specs.Contents.{keep_last}
 
 -- its items, oldest first, how many changes its slots have had, and how many items it holds at most
@@ -60,6 +61,10 @@ module _ {X : Type 0} where
   -- all items taken, and then these put
   abbrev pub after_fill : View X → List X → View X
   after_fill v xs = record v { items = xs; changes = v.changes + length v.items + length xs }
+
+  -- all items lent for writing, which counts as four changes of each
+  abbrev pub after_rewrite : View X → List X → View X
+  after_rewrite v xs = record v { items = refill (length v.items) v.items xs; changes = v.changes + 4 * length v.items }
 
   -- the item at an index written
   abbrev pub after_write : View X → ℕ → X → View X

@@ -1,5 +1,5 @@
 //! The calls of a ring of a fixed capacity that put or drop many items.
-ghost use Rattle.std.specs.Prelude.{◌≡◌, ◌+◌, ◌-◌, ◌%◌, ◌<◌, ◌≤◌, [], ◌++◌, All, IsOk, List, MatchResult, length};
+ghost use Rattle.std.specs.Prelude.{◌≡◌, ◌+◌, ◌-◌, ◌%◌, ◌<◌, ◌≤◌, [], ◌++◌, All, IsOk, List, MatchResult, length, take};
 ghost use Rattle.std.specs.Iterator.{Drains, IsFiniteIterable};
 ghost use Rattle.std.specs.List.{AllZip, FoldsTo};
 ghost use Rattle.ring_fixed.specs.View.{after_put, after_puts, after_takes, after_push, after_extend, after_extend_from_slice, after_truncate, after_keep_newest, after_clear, after_fill};
@@ -167,6 +167,25 @@ impl<T: Drop, S: RingSlots<T>> Fixed<T, S> {
         for i in 0..items.len() {
             Self::put_at(slots, start, len + i, place + i, items[i]);
         }
+    }
+
+    // Puts each of the first items after the last, as many as `count` says. Returns the start then.
+    pub(crate) fn turn(slots: &mut S, start: usize, len: usize, count: usize) -> usize
+        requires laid_out { IsLaidOut S.is_size (S.seen slots.old) start }
+        requires len { len ≡ length (view_from (S.seen slots.old) start).items }
+        requires count { count ≤ len }
+        ensures start { result ≡ (start + count) % length (S.seen slots.old).slots }
+        ensures after { LaysOut S.is_size (S.seen slots.old) (S.seen slots.new) result
+            (after_extend len (view_from (S.seen slots.old) start)
+            (take count (view_from (S.seen slots.old) start).items)) }
+    {
+        let mut first = start;
+        for _ in 0..count {
+            let (next, item) = Self::take_from(slots, first);
+            Self::put_after(slots, next, len - 1, item);
+            first = next;
+        }
+        first
     }
 
     // Drops the items from an index up to another, in two runs of slots: up to the last slot, and on from the first.

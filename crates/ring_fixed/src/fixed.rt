@@ -256,7 +256,7 @@ impl<T: Drop, S: RingSlots<T>> Fixed<T, S> {
 
     // Puts an item after the last.
     #[inline]
-    fn put_after(slots: &mut S, start: usize, len: usize, item: T)
+    pub(crate) fn put_after(slots: &mut S, start: usize, len: usize, item: T)
         requires laid_out { IsLaidOut S.is_size (S.seen slots.old) start }
         requires len { len ≡ length (view_from (S.seen slots.old) start).items }
         requires room { len < length (S.seen slots.old).slots }

@@ -1,5 +1,6 @@
 //! The items of a ring over heap slots as slices.
-ghost use Rattle.std.specs.Prelude.{◌≡◌, ◌↔◌, ◌+◌, ◌++◌, ◌<◌, drop, length, min, take};
+ghost use Rattle.std.specs.Prelude.{◌≡◌, ◌↔◌, ◌+◌, ◌*◌, ◌++◌, ◌<◌, ◌≤◌, drop, length, min, take};
+ghost use Rattle.std.specs.Borrow.{sem};
 ghost use Rattle.std.specs.Cmp.Lexicographic.{pointwise};
 ghost use Rattle.std.specs.Int.{IsPowerOfTwo};
 
@@ -8,6 +9,7 @@ use ring_slots::{HeapSlots, RingSlots};
 
 impl<T: Drop> Fixed<T, HeapSlots<T>> {
     ghost use Rattle.ring_fixed.specs.fixed.Sound.{view_of, IsSound};
+    ghost use Rattle.ring_fixed.specs.slices.Straight.{beside, lends_items, straight_start};
 
     /// The items in two slices: those up to the last slot, and those that go on at the first.
     #[inline]
@@ -21,6 +23,44 @@ impl<T: Drop> Fixed<T, HeapSlots<T>> {
             self.slots.run(self.start, first),
             self.slots.run(0, self.len - first),
         )
+    }
+
+    /// The items in one slice, for writing. It counts as four changes an item, two of which may bring it to its place.
+    pub fn make_contiguous(&mut self) -> &mut [T]
+        requires { IsSound (λ s. s) IsPowerOfTwo self.old }
+        ensures* writes_back { sem 𝓛 (lends_items T.row self.entry result) }
+        ensures value { result.now ≡ (view_of (λ s. s) self.old).items }
+    {
+        let len = self.len;
+        let changes = self
+            .slots
+            .changes()
+            .after(len)
+            .after(len)
+            .after(len)
+            .after(len);
+        self.straighten();
+        let start = self.start;
+        self.slots.run_mut(start, len, changes)
+    }
+
+    // Moves the items side by side, where they go on at the first slot.
+    fn straighten(&mut self)
+        requires { IsSound (λ s. s) IsPowerOfTwo self.old }
+        ensures start { self.new.start ≡ straight_start self.old }
+        ensures len { self.new.len ≡ self.old.len }
+        ensures straight { self.new.slots.slots ≡ beside (length self.old.slots.slots)
+            self.new.start (view_of (λ s. s) self.old).items }
+        ensures counted { self.new.slots.changes
+            ≤ self.old.slots.changes + 3 * self.old.len }
+    {
+        let (start, len) = (self.start, self.len);
+        let head = self.slots.size() - start;
+        if head < len {
+            let changes = self.slots.changes().after(len).after(len).after(len);
+            self.start = Self::turn(&mut self.slots, start, len, head);
+            self.slots.run_mut(0, len, changes).rotate_right(head);
+        }
     }
 }
 

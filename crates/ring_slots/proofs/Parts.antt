@@ -67,7 +67,7 @@ module _ (X : RattleType) where
   abbrev pub begun : Global → ℕ → ℕ → ℕ → Three.Denot
   begun a b o n =
       let p = block_ptr b o in
-      (p, record { mark = record {}; at = p; slots = replicate n None; changes = 0 }, record { mark = record {}; at = p; len = n; alloc = a })
+      (p, record { mark = record {}; at = p; slots = replicate n None }, record { mark = record {}; at = p; len = n; alloc = a })
 
   pub mark_made : {M : Type 1} {𝓤 : Ura M} (𝓛 : Logic 𝓤) → ent 𝓤 (emp 𝓤) (sem 𝓛 (Mark.own_val (tt, tt) (mark ∷ [])))
   mark_made 𝓛 = makes_shadow 𝓛 (Mark.own_val (tt, tt) (mark ∷ [])) (λ vss. (tt, ((λ uss. (tt, tt)), tt))) ((vstruct vnil ∷ [], tt), (refl, ((tt, (refl, tt)), tt)))

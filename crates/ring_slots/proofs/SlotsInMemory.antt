@@ -1,6 +1,8 @@
--- One slot of a row is taken out and put back, and a row is made of memory and gives it back.
-use Rattle.ring_slots.proofs.Walk.{◌≡◌, refl, sym, ap, ◌∙◌, Bool, true, false, List, [], ◌∷◌, ℕ, zero, suc, ◌+◌, ◌*◌, ◌^◌, ◌<◌, ◌≤◌, zero-mul, one-mul, suc-mul, mul-le-mul_right, arith, T, eqb, eqb→eq, length, get_or, set, replicate, Ura, full_share, SProp, ent, sep, assoc∗, Fml, Lft, ftrue, fsep, fat, froom, Ty, ty_array, Val, has_ty, WT, Logic, sem, fact, Item, Step, step, prop, suffices, ‵, ◌⊛◌, some, ◌$◌, ◌∵◌, !, qed, by, move, keep, drop, use1, use2, pick, split, rewrite, fsplit, fjoin, frame, done, Typed, part_at, layout, param, RattleType, nothing, says, capped_is, capped, part_out, Option, Some, None, IsSome, type_size, ◌++◌}
-use lib.ListN.{drop as cut, take-append-drop, length-take, length-drop}
+-- A run of slots of a row is taken out and put back, and a row is made of memory and gives it back.
+use Rattle.ring_slots.proofs.Walk.{◌≡◌, refl, sym, ap, ◌∙◌, Bool, true, false, List, [], ◌∷◌, ℕ, zero, suc, ◌+◌, ◌*◌, ◌^◌, ◌<◌, ◌≤◌, zero-mul, one-mul, suc-mul, mul-le-mul_right, arith, T, eqb, eqb→eq, length, get_or, set, replicate, Ura, full_share, SProp, ent, sep, emp, id⊢, assoc∗, Fml, Lft, fsep, fat, froom, Ty, ty_array, Val, has_ty, WT, Logic, sem, fact, Item, Step, step, prop, suffices, ‵, ◌⊛◌, some, ◌$◌, ◌∵◌, !, qed, by, move, keep, drop, use1, use2, pick, split, rewrite, fsplit, fjoin, frame, done, Typed, mem, cells, part_at, layout, param, RattleType, nothing, says, capped_is, capped, part_out, Option, Some, None, IsSome, type_size, ◌++◌}
+use lib.ListN.{drop as cut, take, take-append-drop, length-take, length-drop}
+use lib.Seq.{drop-cons, drop-drop, set_split}
+use base.Logic.{mono_r}
 use mathlib.Core.List.{map}
 use denote.Slice.{elements_shared}
 use Rattle.std.proofs.lemmas.List.{length-map}
@@ -78,37 +80,78 @@ module _ (X : RattleType) where
   next_at i o = omega (arith, suc-mul i bytes)
 
   module _ (b : ℕ) where
+    -- the slots but for a run of them
+    abbrev pub around : ℕ → List (Option X.Denot) → ℕ → ℕ → Fml
+    around o cs from len = fsep (row R b o (take from cs)) (row R b (len * bytes + (from * bytes + o)) (cut (from + len) cs))
+
     -- the slots but for the one at a place
     abbrev pub others : ℕ → List (Option X.Denot) → ℕ → Fml
-    others o [] i = ftrue
-    others o (c ∷ cs) zero = row R b (o + bytes) cs
-    others o (c ∷ cs) (suc i) = fsep (slot R b o c) (others (o + bytes) cs i)
+    others o cs i = around o cs i 1
 
     module _ {M : Type 1} {𝓤 : Ura M} (𝓛 : Logic 𝓤) where
+      -- a row is cut in two, and joined
+      cut_row : (n : ℕ) (cs : List (Option X.Denot)) (o : ℕ) → n ≤ length cs
+          → ent 𝓤 (sem 𝓛 (row R b o cs)) (sep 𝓤 (sem 𝓛 (row R b o (take n cs))) (sem 𝓛 (row R b (n * bytes + o) (cut n cs))))
+      cut_row zero cs o within = qed 𝓛 (‵ (row R b o cs) ∷ []) ∵
+          rewrite ! 0 (λ (k : ℕ). ‵ (row R b k cs)) (first_at o) refl $ nothing ! $ done !
+      cut_row (suc n) [] o within = absurd (omega arith)
+      cut_row (suc n) (c ∷ cs) o within =
+          let inner : n ≤ length cs = omega arith in
+          qed 𝓛 (‵ (row R b o (c ∷ cs)) ∷ []) ∵ fsplit ! $ move ! (1 ∷ []) $
+          use1 𝓛 (‵ (row R b (o + bytes) (take n cs)) ⊛ ‵ (row R b (n * bytes + (o + bytes)) (cut n cs))) (cut_row n cs (o + bytes) inner) $ split ! $ move ! (1 ∷ []) $
+          rewrite ! 0 (λ (k : ℕ). ‵ (row R b k (cut n cs))) (next_at n o) refl $ move ! (2 ∷ 1 ∷ []) $ fjoin ! $ done !
+
+      join_row : (new cs : List (Option X.Denot)) (o : ℕ)
+          → ent 𝓤 (sep 𝓤 (sem 𝓛 (row R b o new)) (sem 𝓛 (row R b (length new * bytes + o) cs))) (sem 𝓛 (row R b o (new ++ cs)))
+      join_row [] cs o = qed 𝓛 (‵ (row R b o []) ∷ ‵ (row R b (0 * bytes + o) cs) ∷ []) ∵ drop ! $
+          rewrite ! 0 (λ (k : ℕ). ‵ (row R b k cs)) (sym (first_at o)) refl $ done !
+      join_row (c ∷ new) cs o = qed 𝓛 (‵ (row R b o (c ∷ new)) ∷ ‵ (row R b (suc (length new) * bytes + o) cs) ∷ []) ∵ move ! (1 ∷ []) $
+          rewrite ! 0 (λ (k : ℕ). ‵ (row R b k cs)) (sym (next_at (length new) o)) refl $ move ! (1 ∷ []) $ fsplit ! $ move ! (1 ∷ 2 ∷ []) $
+          use2 𝓛 (‵ (row R b (o + bytes) (new ++ cs))) (join_row new cs (o + bytes)) $ move ! (1 ∷ 0 ∷ []) $ fjoin ! $ done !
+
+      -- a run of slots is taken out and put back
+      pub run_out : (cs : List (Option X.Denot)) (from len o : ℕ) → from + len ≤ length cs
+          → ent 𝓤 (sem 𝓛 (row R b o cs)) (sep 𝓤 (sem 𝓛 (row R b (from * bytes + o) (take len (cut from cs)))) (sem 𝓛 (around o cs from len)))
+      run_out cs from len o within =
+          let at = from * bytes + o in
+          let behind : len ≤ length (cut from cs) = omega (arith, length-drop from cs) in
+          qed 𝓛 (‵ (row R b o cs) ∷ []) ∵ use1 𝓛 (‵ (row R b o (take from cs)) ⊛ ‵ (row R b at (cut from cs))) (cut_row from cs o (omega arith)) $ split ! $ move ! (1 ∷ []) $
+          use1 𝓛 (‵ (row R b at (take len (cut from cs))) ⊛ ‵ (row R b (len * bytes + at) (cut len (cut from cs)))) (cut_row len (cut from cs) at behind) $ split ! $ move ! (1 ∷ []) $
+          rewrite ! 0 (λ (l : List (Option X.Denot)). ‵ (row R b (len * bytes + at) l)) (drop-drop len from cs) refl $ move ! (2 ∷ 0 ∷ []) $ fjoin ! $ move ! (1 ∷ 0 ∷ []) $ done !
+
+      pub run_in : (cs : List (Option X.Denot)) (from len o : ℕ) (new : List (Option X.Denot)) → from ≤ length cs → length new ≡ len
+          → ent 𝓤 (sep 𝓤 (sem 𝓛 (row R b (from * bytes + o) new)) (sem 𝓛 (around o cs from len))) (sem 𝓛 (row R b o (take from cs ++ (new ++ cut (from + len) cs))))
+      run_in cs from len o new within long =
+          let at = from * bytes + o in let behind = cut (from + len) cs in
+          qed 𝓛 (‵ (row R b at new) ∷ ‵ (around o cs from len) ∷ []) ∵ move ! (1 ∷ []) $ fsplit ! $ move ! (1 ∷ []) $
+          rewrite ! 0 (λ (k : ℕ). ‵ (row R b (k * bytes + at) behind)) (sym long) refl $ move ! (2 ∷ 0 ∷ []) $
+          use2 𝓛 (‵ (row R b at (new ++ behind))) (join_row new behind at) $
+          rewrite ! 0 (λ (k : ℕ). ‵ (row R b (k * bytes + o) (new ++ behind))) (omega (arith, length-take from cs)) refl $ move ! (1 ∷ 0 ∷ []) $ by ! (join_row (take from cs) (new ++ behind) o)
+
+      -- and so is one slot
       pub slot_out : (cs : List (Option X.Denot)) (i o : ℕ) → i < length cs
           → ent 𝓤 (sem 𝓛 (row R b o cs)) (sep 𝓤 (sem 𝓛 (slot R b (i * bytes + o) (get_or cs i None))) (sem 𝓛 (others o cs i)))
-      slot_out [] i o within = absurd (omega arith)
-      slot_out (c ∷ cs) zero o within = qed 𝓛 (‵ (row R b o (c ∷ cs)) ∷ []) ∵ fsplit ! $
-          rewrite ! 0 (λ (k : ℕ). ‵ (slot R b k c)) (first_at o) refl $ done !
-      slot_out (c ∷ cs) (suc i) o within =
-          let inner : i < length cs = omega arith in
-          let found = get_or cs i None in
-          qed 𝓛 (‵ (row R b o (c ∷ cs)) ∷ []) ∵ fsplit ! $ move ! (1 ∷ []) $
-          use1 𝓛 (‵ (slot R b (i * bytes + (o + bytes)) found) ⊛ ‵ (others (o + bytes) cs i)) (slot_out cs i (o + bytes) inner) $ split ! $
-          rewrite ! 0 (λ (k : ℕ). ‵ (slot R b k found)) (next_at i o) refl $
-          move ! (2 ∷ 1 ∷ []) $ fjoin ! $ move ! (1 ∷ 0 ∷ []) $ done !
+      slot_out cs i o within = qed 𝓛 (‵ (row R b o cs) ∷ []) ∵
+          use1 𝓛 (‵ (row R b (i * bytes + o) (take 1 (cut i cs))) ⊛ ‵ (others o cs i)) (run_out cs i 1 o (omega arith)) $ split ! $
+          rewrite ! 0 (λ (l : List (Option X.Denot)). ‵ (row R b (i * bytes + o) (take 1 l))) (drop-cons cs i None within) refl $ fsplit ! $ keep ! (0 ∷ 2 ∷ []) $ done !
 
       pub slot_in : (cs : List (Option X.Denot)) (i o : ℕ) (new : Option X.Denot) → i < length cs
           → ent 𝓤 (sep 𝓤 (sem 𝓛 (slot R b (i * bytes + o) new)) (sem 𝓛 (others o cs i))) (sem 𝓛 (row R b o (set cs i new)))
-      slot_in [] i o new within = absurd (omega arith)
-      slot_in (c ∷ cs) zero o new within = qed 𝓛 (‵ (slot R b (0 * bytes + o) new) ∷ ‵ (row R b (o + bytes) cs) ∷ []) ∵
-          rewrite ! 0 (λ (k : ℕ). ‵ (slot R b k new)) (sym (first_at o)) refl $ fjoin ! $ done !
-      slot_in (c ∷ cs) (suc i) o new within =
-          let inner : i < length cs = omega arith in
-          qed 𝓛 (‵ (slot R b (suc i * bytes + o) new) ∷ ‵ (others o (c ∷ cs) (suc i)) ∷ []) ∵
-          rewrite ! 0 (λ (k : ℕ). ‵ (slot R b k new)) (sym (next_at i o)) refl $
-          move ! (1 ∷ []) $ fsplit ! $ move ! (2 ∷ 1 ∷ []) $
-          use2 𝓛 (‵ (row R b (o + bytes) (set cs i new))) (slot_in cs i (o + bytes) new inner) $ move ! (1 ∷ 0 ∷ []) $ fjoin ! $ done !
+      slot_in cs i o new within =
+          let next : i + 1 ≡ suc i = omega arith in
+          qed 𝓛 (‵ (slot R b (i * bytes + o) new) ∷ ‵ (others o cs i) ∷ []) ∵ nothing ! $ move ! (1 ∷ 0 ∷ []) $ fjoin ! $
+          use2 𝓛 (‵ (row R b o (take i cs ++ new ∷ cut (i + 1) cs))) (run_in cs i 1 o (new ∷ []) (omega arith) refl) $
+          rewrite ! 0 (λ (k : ℕ). ‵ (row R b o (take i cs ++ new ∷ cut k cs))) next refl $
+          rewrite ! 0 (λ (l : List (Option X.Denot)). ‵ (row R b o l)) (sym (set_split cs i new within)) refl $ done !
+
+      -- full slots hold their items as a slice does
+      pub to_cells : (xs : List X.Denot) (o : ℕ) → ent 𝓤 (sem 𝓛 (row R b o (map Some xs))) (sem 𝓛 (cells (mem R) xs b o))
+      to_cells [] o = id⊢ 𝓤 (emp 𝓤)
+      to_cells (x ∷ xs) o = mono_r 𝓤 (sem 𝓛 (part_at R full_share x b o)) (to_cells xs (o + bytes))
+
+      pub of_cells : (xs : List X.Denot) (o : ℕ) → ent 𝓤 (sem 𝓛 (cells (mem R) xs b o)) (sem 𝓛 (row R b o (map Some xs)))
+      of_cells [] o = id⊢ 𝓤 (emp 𝓤)
+      of_cells (x ∷ xs) o = mono_r 𝓤 (sem 𝓛 (part_at R full_share x b o)) (of_cells xs (o + bytes))
 
       -- room for n items is a row of n empty slots
       pub of_room : (n o : ℕ) → ent 𝓤 (sem 𝓛 (froom (ty_array (layout X) n) b o)) (sem 𝓛 (row R b o (replicate n None)))

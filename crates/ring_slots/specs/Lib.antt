@@ -1,3 +1,4 @@
 pub mod Slots
 pub mod array
 pub mod block
+pub mod heap

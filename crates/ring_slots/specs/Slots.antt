@@ -1,5 +1,6 @@
 -- What a contract sees of the slots of a ring.
-use Rattle.std.specs.Prelude.{◌≡◌, ℕ, ◌+◌, ◌<◌, ◌≤◌, List, length, take, drop, map, slice_index_or, slice_set, Option, None, Some, IsSome}
+use Rattle.std.specs.List.{refill}
+use Rattle.std.specs.Prelude.{◌≡◌, ℕ, ◌+◌, ◌<◌, ◌≤◌, List, ◌++◌, length, take, drop, map, slice_index_or, slice_set, Option, None, Some, IsSome}
 
 -- what each slot holds, an item or nothing, and how many changes the slots have had
 pub record Slots (X : Type 0) : Type 0 where
@@ -26,6 +27,10 @@ module _ {X : Type 0} where
   -- there are so many slots from a place on, and each of them holds an item
   abbrev pub IsFullRun : List (Option X) → ℕ → ℕ → Type 0
   IsFullRun slots from len = (from + len ≤ length slots) × ((xs : List X) × HoldsRun slots from len xs)
+
+  -- the slots, with these items in so many of them from a place on
+  abbrev pub refilled : List (Option X) → ℕ → ℕ → List X → List (Option X)
+  refilled slots from len xs = take from slots ++ (refill len (take len (drop from slots)) (map Some xs) ++ drop (from + len) slots)
 
   -- the slots after one change: the slot at the place holds this now, every other slot what it held
   abbrev pub changed : Slots X → ℕ → Option X → Slots X

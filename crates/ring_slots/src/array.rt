@@ -86,7 +86,7 @@ impl<T: Drop, const CAP: usize> ArraySlots<T, CAP> {
         ensures* writes_back { sem 𝓛 (lends_slot T.row CAP.row self.entry place result) }
         ensures value { result.now ≡ slot_at self.old place }
     {
-        self.changes = self.changes.next();
+        self.changes = self.changes.after(1);
         self.cells.at_mut(place)
     }
 }

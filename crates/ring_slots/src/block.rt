@@ -20,7 +20,6 @@ pub(crate) struct Owner<T> {
     mark: PhantomData<*const T>,
     pub(crate) ghost at: { Ptr },
     pub(crate) ghost slots: { List (Option T) },
-    pub(crate) ghost changes: { ℕ },
 }
 
 impl<T> Model for Owner<T> {
@@ -45,7 +44,7 @@ impl<T> Model for Deed<T> {
 
 impl<T> Owner<T> {
     ghost use Rattle.ring_slots.specs.block.Block.{IsDeedOf, IsNewBlock};
-    ghost use Rattle.ring_slots.specs.block.Lends.{lends_slot, with_slot};
+    ghost use Rattle.ring_slots.specs.block.Lends.{lends_run, lends_slot, with_slot};
 
     /// Empty slots in a new block.
     pub(crate) fn allocate(
@@ -137,6 +136,16 @@ impl<T> Owner<T> {
         ensures { HoldsRun self.now.slots from len result.now }
     {
         unsafe { slice::from_raw_parts(ptr.add(from), len) }
+    }
+
+    /// The same items, for writing.
+    pub(crate) fn run_mut(&mut self, ptr: *mut T, from: usize, len: usize) -> &mut [T]
+        requires at { ptr ≡ self.old.at }
+        requires full { IsFullRun self.old.slots from len }
+        ensures* writes_back { sem 𝓛 (lends_run T.row self.entry from len result) }
+        ensures value { HoldsRun self.old.slots from len result.now }
+    {
+        unsafe { slice::from_raw_parts_mut(ptr.add(from), len) }
     }
 
     /// The item of a full slot, for writing.

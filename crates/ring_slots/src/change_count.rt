@@ -4,10 +4,10 @@ ghost use Rattle.std.specs.Borrow.{ftrue};
 
 use std::marker::Model;
 
-// It takes no bytes. A count comes from `new` or `next` alone.
+/// How many changes some slots have had, or are to have had. It takes no bytes.
 #[derive(Drop)]
-pub(crate) struct ChangeCount {
-    pub(crate) ghost count: { ℕ },
+pub struct ChangeCount {
+    pub ghost count: { ℕ },
 }
 
 impl Model for ChangeCount {
@@ -21,10 +21,10 @@ impl ChangeCount {
         ChangeCount {}
     }
 
-    // The count after one more change.
+    /// The count after so many changes more.
     #[inline]
-    pub(crate) fn next(&self) -> ChangeCount
-        ensures { result.count ≡ self.now.count + 1 }
+    pub fn after(&self, changes: usize) -> ChangeCount
+        ensures { result.count ≡ self.now.count + changes }
     {
         ChangeCount {}
     }

@@ -1,11 +1,13 @@
 //! Slots on the heap.
-ghost use Rattle.std.specs.Prelude.{◌≡◌, ◌+◌, ◌-◌, ◌%◌, ◌^◌, ◌↔◌, ℕ, min, length, replicate, None, Some, refl, IfOk, IsTrue};
+ghost use Rattle.std.specs.Prelude.{◌≡◌, ◌+◌, ◌-◌, ◌%◌, ◌^◌, ◌↔◌, ◌≤◌, ℕ, min, length, replicate, None, Some, refl, IfOk, IsTrue};
+ghost use Rattle.std.specs.Borrow.{sem};
 ghost use Rattle.std.specs.Int.{IsPowerOfTwo};
 ghost use Rattle.std.specs.Mem.{type_size};
 ghost use Rattle.std.specs.Vec.Ownership.{FitsInBlock};
 ghost use Rattle.ring_slots.specs.Slots.{HoldsRun, IsFullRun, changed};
 
 use crate::block::{Deed, Owner};
+use crate::change_count::ChangeCount;
 use crate::place::masked;
 use crate::slots::RingSlots;
 use std::alloc::{AllocError, Global};
@@ -29,6 +31,7 @@ pub struct HeapSlots<T> {
     owner: Owner<T>,
     deed: Deed<T>,
     alloc: Global,
+    changes: ChangeCount,
 }
 
 impl<T> Model for HeapSlots<T> {
@@ -38,13 +41,15 @@ impl<T> Model for HeapSlots<T> {
 
     ghost Value = { Slots T };
 
-    ghost view = { λ s. record { slots = s.owner.slots; changes = s.owner.changes } };
+    ghost view = { λ s. record { slots = s.owner.slots; changes = s.changes.count } };
 
     ghost invariant = { λ s. (length s.owner.slots ≡ (s.mask + 1) % 2 ^ 64)
         × IsDeedOf s.alloc s.ptr s.owner s.deed };
 }
 
 impl<T: Drop> HeapSlots<T> {
+    ghost use Rattle.ring_slots.specs.heap.Lends.{lends_run};
+
     /// Empty slots, as many as `size` says. An error says that the memory for them was refused.
     pub fn new(alloc: Global, size: usize) -> Result<HeapSlots<T>, AllocError>
         ensures { IfOk result (λ s. s ≡ record { slots = replicate size None; changes = 0 }) }
@@ -63,6 +68,7 @@ impl<T: Drop> HeapSlots<T> {
             owner,
             deed,
             alloc,
+            changes: ChangeCount::new(),
         })
     }
 
@@ -73,6 +79,27 @@ impl<T: Drop> HeapSlots<T> {
         ensures { HoldsRun self.now.slots from len result.now }
     {
         self.owner.run(self.ptr, from, len)
+    }
+
+    /// The same items, for writing. The slots have had as many changes then as `changes` says, at least one of each lent
+    /// slot more than before.
+    #[inline]
+    pub fn run_mut(&mut self, from: usize, len: usize, changes: ChangeCount) -> &mut [T]
+        requires full { IsFullRun self.old.slots from len }
+        requires counted { self.old.changes + len ≤ changes.count }
+        ensures* writes_back { sem 𝓛 (lends_run T.row self.entry from len changes.count result) }
+        ensures value { HoldsRun self.old.slots from len result.now }
+    {
+        self.changes = changes;
+        let ptr = self.ptr;
+        self.owner.run_mut(ptr, from, len)
+    }
+
+    /// How many changes the slots have had.
+    pub fn changes(&self) -> ChangeCount
+        ensures { result.count ≡ self.now.changes }
+    {
+        self.changes.after(0)
     }
 }
 
@@ -96,6 +123,7 @@ impl<T> HeapSlots<T> {
             owner,
             deed,
             alloc,
+            changes: _,
         } = self;
         if item_size::<T>() == 0 {
             Owner::let_go(owner, deed);
@@ -148,11 +176,13 @@ impl<T: Drop> RingSlots<T> for HeapSlots<T> {
 
     #[inline]
     fn put(&mut self, place: usize, item: T) {
+        self.changes = self.changes.after(1);
         self.owner.put(self.ptr, place, item);
     }
 
     #[inline]
     fn take(&mut self, place: usize) -> T {
+        self.changes = self.changes.after(1);
         self.owner.take(self.ptr, place)
     }
 
@@ -163,6 +193,7 @@ impl<T: Drop> RingSlots<T> for HeapSlots<T> {
 
     #[inline]
     fn get_mut(&mut self, place: usize) -> &mut T {
+        self.changes = self.changes.after(1);
         let ptr = self.ptr;
         self.owner.get_mut(ptr, place)
     }

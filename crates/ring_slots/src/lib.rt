@@ -11,5 +11,6 @@ mod slots;
 mod tests;
 
 pub use array::ArraySlots;
+pub use change_count::ChangeCount;
 pub use heap::HeapSlots;
 pub use slots::RingSlots;

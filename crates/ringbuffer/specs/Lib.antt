@@ -1,5 +1,6 @@
 pub mod Conversion
 pub mod grow
+pub mod heap
 pub use Rattle.ring_core.specs.Contents
 pub use Rattle.ring_core.specs.Extension
 pub use Rattle.ring_core.specs.History

@@ -343,6 +343,8 @@ impl<T: Drop> IndexMut<usize> for AllocRingBuffer<T> {
 }
 
 impl<T: Drop> AllocRingBuffer<T> {
+    ghost use Rattle.ringbuffer.specs.heap.Lends.{lends_items};
+
     /// The items in two slices, oldest first: those up to the end of the block, and those that go on at its beginning.
     /// The second is empty where the items don't reach the end.
     #[inline]
@@ -351,6 +353,15 @@ impl<T: Drop> AllocRingBuffer<T> {
         ensures first { (0 < length result.0.now) ↔ (0 < length self.now.items) }
     {
         self.ring.as_slices()
+    }
+
+    /// The items in one slice, oldest first, for writing. Items that go on at the beginning of the block are moved beside
+    /// the others first, which needs no memory. It counts as four changes an item, moved or not.
+    pub fn make_contiguous(&mut self) -> &mut [T]
+        ensures* writes_back { sem 𝓛 (lends_items T.row self.entry result) }
+        ensures value { result.now ≡ self.old.items }
+    {
+        self.ring.make_contiguous()
     }
 
     /// A walk over the items, oldest first, from either end.

@@ -69,7 +69,7 @@ allocate_spec 𝓤 𝓛 𝓜 𝓡 wired X L =
     three_made X ! alloc b o n fit.0 $
     use1 𝓛 (‵ (Out.own_val (Ok seen) (live 0 (vcons made vnil) ∷ []))) (ok_of 𝓛 (Three X) refusal.the_row seen made) $
     returns ! (look_at ! 0 refl) $ free_all ! refl $
-    suffices ! _ (ends_at 𝓛 ended stayed clauses y (live 0 (vcons made vnil)) (Ok seen) (tt, (tt, tt)) (tt, (tt, tt))) $ says ! (refl, refl, refl, refl, refl, refl) $
+    suffices ! _ (ends_at 𝓛 ended stayed clauses y (live 0 (vcons made vnil)) (Ok seen) (tt, (tt, tt)) (tt, (tt, tt))) $ says ! (refl, refl, refl, refl, refl) $
     move ! (1 ∷ []) $ nothing ! $ move ! (1 ∷ 0 ∷ []) $ join ! $ frame ! $ nothing ! $ nothing ! $ fjoin ! $ nothing ! $ fjoin ! $ frame ! $ done !)
     (λ answer.
     let none : Val = live 1 (vcons (vstruct vnil) vnil) in

@@ -44,5 +44,5 @@ without_memory_spec 𝓤 𝓛 𝓜 𝓡 wired X L =
     use1 𝓛 (‵ (froom (ty_array τ n) b 0) ⊛ raw (wand 𝓤 (𝓛.H.room (ty_array τ n) b 0) (𝓛.H.room (ty_array τ 0) b 0))) (𝓛.laws.room_as (ty_array τ 0) (ty_array τ n) b 0 same (dv_self (align τ))) $
     split ! $ use1 𝓛 (‵ (row (R X) b 0 (replicate n None))) (of_room X b 𝓛 n 0) $ keep ! (0 ∷ 2 ∷ 3 ∷ []) $
     three_made X ! alloc b 0 n (small_rows n (type_size (R X)) no_size) $
-    suffices ! _ (ends_at 𝓛 ended stayed clauses ((κs, qs, bounds, a, vss), tt) (three X b 0) seen (tt, (tt, tt)) (tt, (tt, tt))) $ says ! (refl, refl, refl, refl, refl, refl) $
+    suffices ! _ (ends_at 𝓛 ended stayed clauses ((κs, qs, bounds, a, vss), tt) (three X b 0) seen (tt, (tt, tt)) (tt, (tt, tt))) $ says ! (refl, refl, refl, refl, refl) $
     nothing ! $ nothing ! $ fjoin ! $ nothing ! $ fjoin ! $ move ! (2 ∷ 0 ∷ 1 ∷ []) $ frame ! $ frame ! $ done !)))

@@ -1,0 +1,10 @@
+-- What heap slots end as, where items of theirs are lent for writing.
+use Rattle.std.specs.Prelude.{ℕ, List}
+use Rattle.std.specs.Borrow.{Array, Lends, Fml, RattleType, MutBor}
+use Rattle.ring_slots.specs.Slots.{Slots, refilled}
+use Rattle.ring_slots.specs.contracts.heap.HeapSlots.{the_row}
+
+-- once the borrow r ends, so many slots from a place on hold the last items written through r, and there have been so many changes
+abbrev pub lends_run : (T : RattleType) → MutBor (Slots T.Denot) → ℕ → ℕ → ℕ → MutBor (List T.Denot) → Fml
+lends_run T s from len changes r =
+    Lends (the_row T) (Array T 0) s r (λ xs. record { slots = refilled s.now.slots from len xs; changes = changes })
