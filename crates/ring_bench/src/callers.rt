@@ -338,3 +338,11 @@ pub fn turn_round(ring: &mut GrowableAllocRingBuffer<u32>)
 {
     ring.make_contiguous().reverse();
 }
+
+/// Turns the items of a heap ring round.
+pub fn turn_round_on_heap(ring: &mut AllocRingBuffer<u32>)
+    ensures items { ring.new.items ≡ reverse ring.old.items }
+    ensures capacity { ring.new.capacity ≡ ring.old.capacity }
+{
+    ring.make_contiguous().reverse();
+}

@@ -126,8 +126,36 @@ fn items_are_copied_to_slices(rt: HostRuntime) -> Result<(), AllocError> {
     assert_copies(&rt, GrowableAllocRingBuffer::new(rt.alloc()))
 }
 
+/// As many items as a heap ring may hold, up to 8, from every start, in one slice. They are turned round there, and one
+/// more is pushed.
+fn assert_one_slice(rt: &impl Abort, mut ring: AllocRingBuffer<i64>) {
+    let capacity = ring.capacity();
+    for len in 0..=capacity.min(8) {
+        let (items, _) = [1, 2, 3, 4, 5, 6, 7, 8].split_at(len);
+        for start in STARTS {
+            lay(rt, &mut ring, start, items);
+            assert_eq!(rt; &*ring.make_contiguous(), items);
+            assert_holds(rt, &ring, items);
+            ring.make_contiguous().reverse();
+            push_all(rt, &mut ring, &[9]);
+            for item in items.iter().rev().skip(len + 1 - capacity.min(len + 1)) {
+                assert_eq!(rt; ring.dequeue(), Some(*item));
+            }
+            assert_gives(rt, &mut ring, &[9]);
+        }
+    }
+}
+
 #[test]
-fn items_are_made_one_slice(rt: HostRuntime) -> Result<(), AllocError> {
+fn items_of_a_heap_ring_are_made_one_slice(rt: HostRuntime) -> Result<(), AllocError> {
+    for capacity in [1, 2, 3, 5, 8] {
+        assert_one_slice(&rt, AllocRingBuffer::new(rt.alloc(), capacity)?);
+    }
+    Ok(())
+}
+
+#[test]
+fn items_of_a_growable_ring_are_made_one_slice(rt: HostRuntime) -> Result<(), AllocError> {
     let mut ring = GrowableAllocRingBuffer::with_capacity(rt.alloc(), 5)?;
     for start in STARTS {
         lay(&rt, &mut ring, start, &[1, 2, 3, 4, 5]);

@@ -170,6 +170,7 @@ fn slices_of_a_heap_ring_take_no_memory(rt: HostRuntime) -> Result<(), AllocErro
     let mut output = [0; 2];
     let drought = Drought::total(rt.alloc())?;
     ring.extend_from_slice(&[3, 4, 5, 6]);
+    ring.make_contiguous().sort();
     let count = ring.dequeue_into(&mut output);
     drop(drought);
     assert_eq!(rt; count, 2);

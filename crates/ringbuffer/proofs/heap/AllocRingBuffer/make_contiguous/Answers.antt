@@ -14,6 +14,7 @@ invariant_of-self-lent g c =
 -- The ring ends as the one with those items.
 pub returns : goal.returns
 returns g c =
-    let cap = c.self.inside.capacity in
-    ((refl, λ w. ap (λ (v : View _). record v { capacity = cap }) (rewritten c.self.inside.ring c.self.invariant.0 w).shows ∙ ap (λ v. after_rewrite v w) c.self.view_is),
-    record { writes_back = tt; value = c.make_contiguous.ensures.value ∙ ap (λ (v : View _). v.items) c.self.view_is })
+    let cap = c.self.inside.capacity in (
+      (refl, λ w. ap (λ (v : View _). record v { capacity = cap }) (rewritten c.self.inside.ring c.self.invariant.0 w).shows ∙ ap (λ v. after_rewrite v w) c.self.view_is),
+      record { writes_back = tt; value = c.make_contiguous.ensures.value ∙ ap (λ (v : View _). v.items) c.self.view_is },
+    )
