@@ -1,13 +1,6 @@
 -- A run of slots of a row is taken out and put back, and a row is made of memory and gives it back.
-use Rattle.ring_slots.proofs.Walk.{◌≡◌, refl, sym, ap, ◌∙◌, Bool, true, false, List, [], ◌∷◌, ℕ, zero, suc, ◌+◌, ◌*◌, ◌^◌, ◌<◌, ◌≤◌, zero-mul, one-mul, suc-mul, mul-le-mul_right, arith, T, eqb, eqb→eq, length, get_or, set, replicate, Ura, full_share, SProp, ent, sep, emp, id⊢, assoc∗, Fml, Lft, fsep, fat, froom, Ty, ty_array, Val, has_ty, WT, Logic, sem, fact, Item, Step, step, prop, suffices, ‵, ◌⊛◌, some, ◌$◌, ◌∵◌, !, qed, by, move, keep, drop, use1, use2, pick, split, rewrite, fsplit, fjoin, frame, done, Typed, mem, cells, part_at, layout, param, RattleType, nothing, says, capped_is, capped, part_out, Option, Some, None, IsSome, type_size, ◌++◌}
-use lib.ListN.{drop as cut, take, take-append-drop, length-take, length-drop}
-use lib.Seq.{drop-cons, drop-drop, set_split}
+use Rattle.ring_slots.proofs.Walk.{◌≡◌, refl, sym, ap, ◌∙◌, Bool, true, false, List, [], ◌∷◌, ℕ, zero, suc, ◌+◌, ◌*◌, ◌^◌, ◌<◌, ◌≤◌, zero-mul, one-mul, suc-mul, mul-le-mul_right, arith, T, eqb, eqb→eq, length, get_or, set, replicate, Ura, full_share, SProp, ent, sep, emp, id⊢, assoc∗, Fml, Lft, fsep, fat, froom, Ty, ty_array, Val, has_ty, WT, Logic, sem, fact, Item, Step, step, prop, suffices, ‵, ◌⊛◌, some, ◌$◌, ◌∵◌, !, qed, by, move, keep, drop, use1, use2, pick, split, rewrite, fsplit, fjoin, frame, done, Typed, mem, cells, part_at, layout, param, RattleType, nothing, says, capped_is, capped, part_out, Option, Some, None, IsSome, type_size, ◌++◌, cut, take, take-append-drop, length-take, length-drop, drop-cons, drop-drop, set_split, map, elements_shared, length-map, HoldsRun, IsFullRun, slot, row, row_shown}
 use base.Logic.{mono_r}
-use mathlib.Core.List.{map}
-use denote.Slice.{elements_shared}
-use Rattle.std.proofs.lemmas.List.{length-map}
-use Rattle.ring_slots.specs.Slots.{HoldsRun, IsFullRun}
-use Rattle.ring_slots.specs.block.Memory.{slot, row, row_shown}
 
 -- the item of a full slot
 pub item_of : {A : Type 0} (c : Option A) → IsSome c → (x : A) × (c ≡ Some x)

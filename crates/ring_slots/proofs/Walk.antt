@@ -27,12 +27,12 @@ pub use denote.Triple.Entry.{Vals, alive, on_entry}
 pub use denote.Triple.Table.{framed}
 pub use denote.Triple.Walked.{Goes-dropped, Goes-none_ref, Goes-ref, Goes-spent_ref, Stays, ends_at, says, stay_dropped, stay_none_ref, stay_ref, walk_of}
 pub use lib.Dec.{T, eqb, eqb→eq, lit<}
-pub use lib.ListN.{get_or, length, length-replicate, length-set, replicate, set}
+pub use lib.ListN.{drop as cut, get_or, length, length-append, length-drop, length-replicate, length-set, length-take, replicate, set, take, take-append-drop}
 pub use mathlib.Core.Bool.{Bool, false, true}
-pub use mathlib.Core.List.{List, [], ◌++◌, ◌∷◌}
+pub use mathlib.Core.List.{List, [], map, ◌++◌, ◌∷◌}
 pub use mathlib.Core.Path.{ap, refl, subst, sym, ◌∙◌, ◌≡◌}
 pub use mir.MapTy.{inst_fn}
-pub use mir.Syntax.{Args, Dict, Fn, Ty, a_number, a_type, dcons, dnil, named, ty_array, ty_unit, w64}
+pub use mir.Syntax.{Args, Body, Dict, Fn, Ty, a_number, a_type, dcons, dnil, given as no_methods, named, ty_array, ty_ptr, ty_unit, w64}
 pub use mir.Val.{Val, WT, has_ty, of_list, vcons, vint, vnil, vptr, vstruct, vunit}
 pub use native.Mathlib.Nat.{mul-le-mul_right, mul-zero, one-mul, suc-mul, zero-mul}
 pub use native.Mathlib.Omega.{arith}
@@ -57,3 +57,11 @@ pub use Rattle.std.proofs.raw_atomic.Walks.{proved, proved_at}
 pub use Rattle.std.specs.Mem.{type_size}
 pub use Rattle.std.specs.Prelude.{Err, IsSome, None, Ok, Option, Some}
 pub use Rattle.std.specs.declared.alloc.Global.{Global}
+pub use Rattle.ring_slots.specs.block.Memory.{lent, right, right_if, row, row_shown, slot, slot_shown, small}
+pub use lib.Seq.{drop-cons, drop-drop, set_split, take_at as take_front}
+pub use denote.Slice.{MutSlice, elements_shared, slice_val}
+pub use Rattle.std.proofs.lemmas.List.{get_or_default, length-map}
+pub use Rattle.ring_slots.specs.Slots.{HoldsRun, IsFullRun, refilled}
+pub use denote.Array.{Array}
+pub use Rattle.ring_slots.specs.block.Lends.{with_slot}
+pub use Rattle.std.specs.List.{refill}

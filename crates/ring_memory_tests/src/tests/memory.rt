@@ -170,12 +170,12 @@ fn slices_of_a_heap_ring_take_no_memory(rt: HostRuntime) -> Result<(), AllocErro
     let mut output = [0; 2];
     let drought = Drought::total(rt.alloc())?;
     ring.extend_from_slice(&[3, 4, 5, 6]);
-    ring.make_contiguous().sort();
+    ring.make_contiguous().reverse();
     let count = ring.dequeue_into(&mut output);
     drop(drought);
     assert_eq!(rt; count, 2);
-    assert_eq!(rt; output, [4, 5]);
-    assert_holds(&rt, &ring, &[6]);
+    assert_eq!(rt; output, [6, 5]);
+    assert_holds(&rt, &ring, &[4]);
     Ok(())
 }
 

@@ -1,9 +1,7 @@
 -- An element of the array is lent to the caller, which the borrow checker does not follow through an array. The struct
 -- lies where its one field does, so the element is taken out of memory with a way back at any value, and then lent.
-use Rattle.ring_slots.proofs.Walk.{◌≡◌, refl, sym, ap, ◌∙◌, List, [], ◌∷◌, ℕ, zero, ◌+◌, ◌*◌, ◌^◌, ◌<◌, ◌≤◌, mul-le-mul_right, arith, length, get_or, set, length-set, Ura, Args, a_type, a_number, ty_array, named, w64, inst_fn, Val, vptr, vint, SProp, ent, sep, ex, guard, all, wand, all_e, apply∗, full_share, Fml, Lft, GName, Share, ftrue, fsep, feq, flft, size, align, up, Logic, sem, cells, Item, ‵, raw, ◌⊛◌, some, given, later, ◌$◌, ◌∵◌, !, qed, by, move, keep, drop, split, split3, join, learn, check, each, assume, fsplit, fsplit3, fjoin, feq_l, feq_i, use1, use2, await, pick, suffices, frame, group, rewrite, updating, show, now, done, ◌⊑◌, stop, fld, addr, bin, size_word, returns, enter, alloc_all, pass_all, free_all, look_at, get, through, sets, is, RefMutOf, usize, yes, no, follows, lends_Part, Part, mem, part_at, param, number, layout, layouts, ArrayAt, Laws, param_laws, number_array_laws, uint_vals, uint_Tells, RattleType, MutRef, mut_vals, mut_Tells, plain, nothing, Struct, says, Stays, stay_dropped, Goes-dropped, Goes-spent_ref, ends_at, proved}
-use Rattle.std.proofs.lemmas.List.{get_or_default}
+use Rattle.ring_slots.proofs.Walk.{◌≡◌, refl, sym, ap, ◌∙◌, List, [], ◌∷◌, ℕ, zero, ◌+◌, ◌*◌, ◌^◌, ◌<◌, ◌≤◌, mul-le-mul_right, arith, length, get_or, set, length-set, Ura, Args, a_type, a_number, ty_array, named, w64, inst_fn, vptr, vint, SProp, ent, sep, ex, guard, all, wand, all_e, apply∗, full_share, Fml, GName, ftrue, fsep, feq, flft, size, align, up, Logic, sem, cells, ‵, raw, ◌⊛◌, some, given, later, ◌$◌, ◌∵◌, !, qed, move, keep, drop, split, split3, join, learn, check, fsplit, fsplit3, fjoin, feq_l, feq_i, use1, use2, await, pick, suffices, frame, group, rewrite, show, done, ◌⊑◌, stop, fld, addr, bin, size_word, returns, enter, alloc_all, pass_all, free_all, look_at, get, through, sets, is, RefMutOf, usize, yes, no, follows, lends_Part, mem, part_at, param, number, layout, layouts, ArrayAt, Laws, param_laws, number_array_laws, uint_vals, uint_Tells, RattleType, MutRef, mut_vals, mut_Tells, plain, nothing, Struct, says, Stays, stay_dropped, Goes-dropped, Goes-spent_ref, ends_at, proved, get_or_default, Array}
 use types.Mut.{open_ref}
-use denote.Array.{Array}
 use denote.ArrayMemory.{Array-apart, Array-whole}
 use denote.Index.{row, whole_in, whole_out}
 use denote.Struct.CellSteps.{only_out, first_at, BackTo}
@@ -52,66 +50,52 @@ module _ (X : RattleType) (n : ℕ) where
     abbrev with : X.Denot → Cells.Denot
     with x = record { xs = set d.xs m x }
 
-    -- the struct in memory, but for the element: from the element at any value back to the struct
-    abbrev Back : SProp 𝓤
-    Back = all 𝓤 (λ (x : X.Denot). wand 𝓤 (sem 𝓛 ((mem Element).own_at x b spot)) (sem 𝓛 ((mem Cells).own_at (with x) b o)))
+    abbrev name : List ℕ
+    name = (shape (the_type Element Count)).name
 
-    back : (x : X.Denot) → ent 𝓤 (sep 𝓤 (sem 𝓛 ((mem Element).own_at x b spot)) Back) (sem 𝓛 ((mem Cells).own_at (with x) b o))
-    back x =
-        let way : X.Denot → SProp 𝓤 = λ y. wand 𝓤 (sem 𝓛 ((mem Element).own_at y b spot)) (sem 𝓛 ((mem Cells).own_at (with y) b o)) in
-        qed 𝓛 (‵ ((mem Element).own_at x b spot) ∷ raw Back ∷ []) ∵ move ! (1 ∷ []) $
-        use1 𝓛 (raw (way x)) (all_e 𝓤 way x) $ move ! (1 ∷ 0 ∷ []) $
-        by ! (apply∗ 𝓤 (sem 𝓛 ((mem Element).own_at x b spot)) (sem 𝓛 ((mem Cells).own_at (with x) b o)))
+    -- the way from the array back to the struct, and from the element at any value back to the array
+    abbrev To : List X.Denot → SProp 𝓤
+    To ys = sem 𝓛 (part_at Tuple full_share (ys, tt) b o)
+
+    abbrev struct_back : List X.Denot → SProp 𝓤
+    struct_back ys = wand 𝓤 (sem 𝓛 (part_at (Array Element n) full_share ys b o)) (To ys)
+
+    abbrev array_back : X.Denot → SProp 𝓤
+    array_back x = wand 𝓤 (sem 𝓛 ((mem Element).own_at x b spot)) (sem 𝓛 (cells (mem Element) (set d.xs m x) b o))
+
+    -- the struct in memory, but for the element
+    abbrev Rest : SProp 𝓤
+    Rest = sep 𝓤 (all 𝓤 array_back) (BackTo 𝓛 name [] [] field To b o)
+
+    back : length d.xs ≡ n → (x : X.Denot) → ent 𝓤 (sep 𝓤 (sem 𝓛 ((mem Element).own_at x b spot)) Rest) (sem 𝓛 ((mem Cells).own_at (with x) b o))
+    back long x =
+        let written : List X.Denot = set d.xs m x in
+        qed 𝓛 (‵ ((mem Element).own_at x b spot) ∷ (raw (all 𝓤 array_back) ⊛ raw (BackTo 𝓛 name [] [] field To b o)) ∷ []) ∵ move ! (1 ∷ []) $ split ! $
+        use1 𝓛 (raw (array_back x)) (all_e 𝓤 array_back x) $ move ! (2 ∷ 0 ∷ []) $
+        use2 𝓛 (‵ (cells (mem Element) written b o)) (apply∗ 𝓤 (sem 𝓛 ((mem Element).own_at x b spot)) (sem 𝓛 (cells (mem Element) written b o))) $
+        use1 𝓛 (‵ (row Element full_share written b o)) (whole_out 𝓛 Element written b o) $ feq_i ! ℕ (length written) n (length-set d.xs m x ∙ long) $ fjoin ! $
+        use1 𝓛 (‵ (part_at (Array Element n) full_share written b o)) (Array-whole 𝓛 Element full_share n written b o) $
+        move ! (1 ∷ []) $ use1 𝓛 (raw (struct_back written)) (all_e 𝓤 struct_back written) $ move ! (1 ∷ 0 ∷ []) $
+        use2 𝓛 (‵ (part_at Tuple full_share (written, tt) b o)) (apply∗ 𝓤 (sem 𝓛 (part_at (Array Element n) full_share written b o)) (To written)) $
+        rewrite ! 0 (λ (f : Fml). ‵ f) (sym (lies_as_tuple (with x) b o)) refl $ done !
 
     -- the element is x, and lies apart from the rest
     abbrev Apart : X.Denot → SProp 𝓤
-    Apart x = guard 𝓤 (x ≡ get_or d.xs m x) (sep 𝓤 (sem 𝓛 ((mem Element).own_at x b spot)) Back)
+    Apart x = guard 𝓤 ((x ≡ get_or d.xs m x) × (length d.xs ≡ n)) (sep 𝓤 (sem 𝓛 ((mem Element).own_at x b spot)) Rest)
 
     element_out : m < n → ent 𝓤 (sem 𝓛 ((mem Cells).own_at d b o)) (ex 𝓤 Apart)
     element_out within =
         let lawful = (number_array_laws Element (param_laws 0 X L) Count refl).lawful 𝓛 in
-        let name = (shape (the_type Element Count)).name in
-        let To = λ (ys : List X.Denot). sem 𝓛 (part_at Tuple full_share (ys, tt) b o) in
-        let struct_back = λ (ys : List X.Denot). wand 𝓤 (sem 𝓛 (part_at (Array Element n) full_share ys b o)) (To ys) in
-        let array_back = λ (x : X.Denot). wand 𝓤 (sem 𝓛 ((mem Element).own_at x b spot)) (sem 𝓛 (cells (mem Element) (set d.xs m x) b o)) in
         qed 𝓛 (‵ (part_at Cells full_share d b o) ∷ []) ∵ rewrite ! 0 (λ (f : Fml). ‵ f) (lies_as_tuple d b o) refl $
         use1 𝓛 (‵ (part_at (Array Element n) full_share d.xs b o) ⊛ raw (BackTo 𝓛 name [] [] field To b o)) (only_out 𝓛 name [] [] field lawful b o d.xs) $ split ! $
         use1 𝓛 (‵ (fsep (feq ℕ (length d.xs) n) (row Element full_share d.xs b o))) (Array-apart 𝓛 Element full_share tt n d.xs b o) $
         fsplit ! $ feq_l ! (λ long.
         let is_there : m < length d.xs = omega arith in
         let any : X.Denot = some_element d.xs m is_there in let read : X.Denot = get_or d.xs m any in
-        show ! Apart read $ check ! (get_or_default d.xs m any read is_there) $
+        show ! Apart read $ check ! (get_or_default d.xs m any read is_there, long) $
         use1 𝓛 (‵ (cells (mem Element) d.xs b o)) (whole_in 𝓛 Element d.xs b o) $
         use1 𝓛 (‵ ((mem Element).own_at read b spot) ⊛ raw (all 𝓤 array_back)) (focus_any 𝓛 (mem Element) any m d.xs b o is_there) $
-        split ! $ frame ! $ each ! (λ (x : X.Denot). wand 𝓤 (sem 𝓛 ((mem Element).own_at x b spot)) (sem 𝓛 ((mem Cells).own_at (with x) b o))) (λ x.
-        let written : List X.Denot = set d.xs m x in
-        assume ! (‵ ((mem Element).own_at x b spot)) $ move ! (1 ∷ []) $ use1 𝓛 (raw (array_back x)) (all_e 𝓤 array_back x) $ move ! (1 ∷ 0 ∷ []) $
-        use2 𝓛 (‵ (cells (mem Element) written b o)) (apply∗ 𝓤 (sem 𝓛 ((mem Element).own_at x b spot)) (sem 𝓛 (cells (mem Element) written b o))) $
-        use1 𝓛 (‵ (row Element full_share written b o)) (whole_out 𝓛 Element written b o) $ feq_i ! ℕ (length written) n (length-set d.xs m x ∙ long) $ fjoin ! $
-        use1 𝓛 (‵ (part_at (Array Element n) full_share written b o)) (Array-whole 𝓛 Element full_share n written b o) $
-        move ! (1 ∷ []) $ use1 𝓛 (raw (struct_back written)) (all_e 𝓤 struct_back written) $ move ! (1 ∷ 0 ∷ []) $
-        use2 𝓛 (‵ (part_at Tuple full_share (written, tt) b o)) (apply∗ 𝓤 (sem 𝓛 (part_at (Array Element n) full_share written b o)) (To written)) $
-        rewrite ! 0 (λ (f : Fml). ‵ f) (sym (lies_as_tuple (with x) b o)) refl $ done !))
-
-    module _ (κ : Lft) (q : Share) (γ : GName) where
-      -- a reference to the element, under a name that the struct's last value follows
-      abbrev Lent : X.Denot → SProp 𝓤
-      Lent x = guard 𝓤 (x ≡ get_or d.xs m x) (ex 𝓤 (Part 𝓛 Cells Element with (named 0) κ q b o b spot γ Back back x))
-
-      abbrev lent : X.Denot → Item 𝓤
-      lent x = given (x ≡ get_or d.xs m x) (some (λ (δ : GName).
-          ‵ ((MutRef (named 0) κ Element).own_val (record { ref_ptr = (b, spot); ghost_name = δ; now = x }) (vptr b spot ∷ [])) ⊛ ‵ (flft κ q) ⊛ ‵ (follows Cells Element γ δ with)))
-
-      lends : m < n → (vs : List Val) → ent 𝓤 (sep 𝓤 (sem 𝓛 ((MutRef (named 0) κ Cells).own_val (record { ref_ptr = (b, o); ghost_name = γ; now = d }) vs)) (A.lft κ q)) (H.⇛ (ex 𝓤 Lent))
-      lends within vs =
-          let code_of = Cells.coded.code d in
-          qed 𝓛 (‵ ((MutRef (named 0) κ Cells).own_val (record { ref_ptr = (b, o); ghost_name = γ; now = d }) vs) ∷ ‵ (flft κ q) ∷ []) ∵
-          updating ! $ fsplit3 ! $ drop ! $ open_ref ! tt (mem Cells) {b = b} {o = o} $
-          use1 𝓛 (some (λ (x : X.Denot). given (x ≡ get_or d.xs m x) (‵ ((mem Element).own_at x b spot) ⊛ raw Back))) (element_out within) $
-          pick ! (λ x. learn ! (λ read. split ! $ move ! (2 ∷ 3 ∷ 4 ∷ 0 ∷ 1 ∷ []) $ group ! 5 $
-          use1 𝓛 (later (raw (ex 𝓤 (Part 𝓛 Cells Element with (named 0) κ q b o b spot γ Back back x))))
-          (lends_Part 𝓛 Cells Element with (named 0) κ q b o b spot γ Back back code_of code_of x) $ await ! tt $
-          now ! $ show ! Lent x $ check ! read $ done !))
+        split ! $ frame ! $ done !)
 
 module _ (X : RattleType) (n : ℕ) where
   abbrev ended : Ended
@@ -146,10 +130,15 @@ at_mut_spec 𝓤 𝓛 𝓜 𝓡 wired X n L fits =
     sets ! (addr ! (through ! refl (fld ! refl (stop !)))) refl (tt, tt) $
     sets ! (is ! (bin ! (get ! refl) (get ! refl) tt) (ap (vptr b) spot_is)) refl (tt, tt) $
     sets ! (addr ! (through ! refl (stop !))) refl (tt, tt) $
-    use2 𝓛 (later (some (λ (x : X.Denot). lent X n L 𝓛 b o m d κs.0 qs.0 γ x))) (lends X n L 𝓛 b o m d κs.0 qs.0 γ within self) $
-    await ! tt $ pick ! (λ x. learn ! (λ read. pick ! (λ δ. split3 ! $ returns ! (look_at ! 0 refl) $ free_all ! refl $
+    let with_element = with X n L 𝓛 b o m d in let spot = at o bytes m in let was = S.coded.code d in
+    fsplit3 ! $ drop ! $ open_ref ! tt (mem S) {b = b} {o = o} $
+    use1 𝓛 (some (λ (x : X.Denot). given ((x ≡ get_or d.xs m x) × (length d.xs ≡ n)) (‵ ((mem (Element X n)).own_at x b spot) ⊛ raw (Rest X n L 𝓛 b o m d)))) (element_out X n L 𝓛 b o m d within) $
+    pick ! (λ x. learn ! (λ found. split ! $ move ! (2 ∷ 3 ∷ 4 ∷ 0 ∷ 1 ∷ []) $ group ! 5 $
+    use1 𝓛 (later (some (λ (δ : GName). ‵ ((MutRef (named 0) κs.0 (Element X n)).own_val (record { ref_ptr = (b, spot); ghost_name = δ; now = x }) (vptr b spot ∷ [])) ⊛ ‵ (flft κs.0 qs.0) ⊛ ‵ (follows S (Element X n) γ δ with_element))))
+    (lends_Part 𝓛 S (Element X n) with_element (named 0) κs.0 qs.0 b o b spot γ (Rest X n L 𝓛 b o m d) (back X n L 𝓛 b o m d found.1) was was x) $
+    await ! tt $ pick ! (λ δ. split3 ! $ returns ! (look_at ! 0 refl) $ free_all ! refl $
     -- [the reference; the token of its lifetime; what the struct ends as; the other tokens]
     suffices ! _ (ends_at 𝓛 (ended X n) (stayed X n) clauses ((κs, qs, bounds, a, (self, (place, tt))), tt) (vptr b (at o bytes m))
     (record { ref_ptr = (b, at o bytes m); ghost_name = δ; now = x }) (tt, (tt, tt)) (tt, (tt, tt))) $
     move ! (1 ∷ 3 ∷ []) $ join ! $ nothing ! $ nothing ! $ join ! $ nothing ! $ join ! $ move ! (1 ∷ 0 ∷ []) $
-    group ! 3 $ frame ! $ says ! read $ done !)))))))
+    group ! 3 $ frame ! $ says ! found.0 $ done !)))))))

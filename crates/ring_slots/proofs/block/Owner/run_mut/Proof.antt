@@ -1,16 +1,7 @@
 -- The run is lent apart from the rest, which closes round any items that are written.
-use Rattle.ring_slots.proofs.Walk.{◌≡◌, refl, sym, ap, subst, ◌∙◌, List, [], ◌∷◌, ◌++◌, ℕ, ◌+◌, ◌*◌, ◌^◌, ◌<◌, ◌≤◌, length, arith, Fn, a_type, named, inst_fn, Val, vint, w64, Ura, full_share, SProp, ent, sep, Fml, GName, ftrue, fsep, fat, flft, WpFn, Logic, sem, ‵, raw, ◌⊛◌, some, later, prop, at_ret, ◌$◌, ◌∵◌, !, qed, move, keep, drop, use1, use2, pick, split, split3, join, fsplit, fsplit3, fjoin, fjoin3, fpack, feq_l, flt_i, flt_l, rewrite, regoal, suffices, frame, group, await, done, of_opd, bin, agg, and_then, no_more, is, size_word, first, blocks, exec, returns, enter, alloc_all, pass_all, free_all, look_at, get, sets, sets_last, take_at, give_at, env, ◌⊑◌, fact, tables, usize, yes, no, follows, mem, cell_at, cells, part_of, layouts, RattleType, Ptr, RawPtr, block_ptr, ptr_val, MutRef, plain, mut_ref_to, nothing, heard, says, Stays, stay_dropped, Goes-dropped, Goes-spent_ref, walk_of, ends_at, Some, type_size, after, proved_at}
-use mir.Syntax.{ty_ptr}
-use lib.ListN.{take, drop as cut, length-append, length-take, length-drop}
-use lib.Seq.{take_at as take_front}
-use mathlib.Core.List.{map}
-use denote.Array.{Array}
-use denote.Slice.{MutSlice, slice_val}
+use Rattle.ring_slots.proofs.Walk.{◌≡◌, refl, sym, ap, subst, ◌∙◌, List, [], ◌∷◌, ◌++◌, ℕ, ◌+◌, ◌*◌, ◌^◌, ◌<◌, ◌≤◌, length, arith, Fn, a_type, named, inst_fn, Val, vint, w64, Ura, full_share, SProp, ent, sep, Fml, GName, ftrue, fsep, fat, flft, WpFn, Logic, sem, ‵, raw, ◌⊛◌, some, later, prop, at_ret, ◌$◌, ◌∵◌, !, qed, move, keep, drop, use1, use2, pick, split, split3, join, fsplit, fsplit3, fjoin, fjoin3, fpack, feq_l, flt_i, flt_l, rewrite, regoal, suffices, frame, group, await, done, of_opd, bin, agg, and_then, no_more, is, size_word, first, blocks, exec, returns, enter, alloc_all, pass_all, free_all, look_at, get, sets, sets_last, take_at, give_at, env, ◌⊑◌, fact, tables, usize, yes, no, follows, mem, cell_at, cells, part_of, layouts, RattleType, Ptr, RawPtr, block_ptr, ptr_val, MutRef, plain, mut_ref_to, nothing, heard, says, Stays, stay_dropped, Goes-dropped, Goes-spent_ref, walk_of, ends_at, Some, type_size, after, proved_at, ty_ptr, take, cut, length-append, length-take, length-drop, take_front, map, Array, MutSlice, slice_val, refill, length-map, IsFullRun, refilled, row}
 use denote.FollowSlice.{lends_Elements}
-use Rattle.std.specs.List.{refill}
-use Rattle.std.proofs.lemmas.List.{length-map}
-use Rattle.ring_slots.specs.Slots.{IsFullRun, refilled}
-use Rattle.ring_slots.specs.block.Memory.{row, owned}
+use Rattle.ring_slots.specs.block.Memory.{owned}
 use Rattle.ring_slots.proofs.SlotsInMemory.{around, of_cells, product_is, run_fits, run_in, run_long, run_out, to_cells}
 use Rattle.ring_slots.proofs.Parts.{R, Seen, Mark, AreSmall, pointer_good, slots_opened}
 use Rattle.ring_slots.specs.contracts.block.Owner.run_mut as contract
