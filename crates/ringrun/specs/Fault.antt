@@ -1,5 +1,5 @@
 -- How the program ends.
-use Rattle.std.specs.Prelude.{◌≡◌, ℕ, ◌<◌, Result, MatchResult}
+use Rattle.std.specs.Prelude.{◌≡◌, ℕ, ◌<◌, ◌⊎◌, Result, MatchResult}
 use Rattle.ringrun.specs.declared.fault.Fault.{Fault}
 use Rattle.ringrun.specs.declared.fault.Fault.TheVariants.{NotACommand, BadArguments, NoMemory, InputOrOutput}
 
@@ -17,6 +17,17 @@ IsInScript BadArguments = ⊥
 IsInScript NoMemory = Unit {0}
 IsInScript InputOrOutput = ⊥
 
+-- a line of the script, counted from 1
+abbrev pub NamesALine : Fault → Type 0
+NamesALine (NotACommand line) = 0 < line
+NamesALine BadArguments = ⊥
+NamesALine NoMemory = ⊥
+NamesALine InputOrOutput = ⊥
+
 -- P where the program did its work or names a line: so where it got past its reading
 abbrev pub IfLinesRead : {T : Type 0} → Result T Fault → Type 0 → Type 0
 IfLinesRead result P = MatchResult result (λ _. P) (λ fault. status_of fault ≡ 1 → P)
+
+-- P unless a line is named
+abbrev pub UnlessALine : {T : Type 0} → Result T Fault → Type 0 → Type 0
+UnlessALine result P = MatchResult result (λ _. P) (λ fault. status_of fault ≡ 1 ⊎ P)

@@ -1,19 +1,7 @@
 //! What the program prints.
 
 use ringbuffer::{Reply, RingBuffer, RingBufferIterator};
-use std::alloc::{AllocError, Global};
-
-// The room that the text has at first for each line that replies to a command.
-const USUAL_LINE: usize = b"extended\n".len();
-
-/// An empty text, with room for the replies to so many commands.
-///
-/// # Errors
-///
-/// Where memory was refused.
-pub fn text_for(alloc: Global, commands: usize) -> Result<String, AllocError> {
-    String::with_capacity(alloc, commands.saturating_mul(USUAL_LINE))
-}
+use std::alloc::AllocError;
 
 /// Puts a line for each reply at the text's end.
 ///

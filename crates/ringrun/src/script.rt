@@ -2,165 +2,217 @@
 //!
 //! It is read byte by byte. A line that isn't UTF-8 has a word that is no command's name and no number.
 
-ghost use Rattle.std.specs.Prelude.{◌≡◌, ◌<◌, ◌≤◌, IfErr, IfOk, IfSome, length};
-ghost use Rattle.ringrun.specs.Fault.{IsInScript};
-ghost use Rattle.ringrun.specs.Script.{name_of, name_of_line};
+ghost use Rattle.std.specs.Prelude.{◌≡◌, ◌-◌, ◌<◌, ◌≤◌, IfErr, IfOk, IfSome, IsOk, IsSome, OnOk, false, length};
+ghost use Rattle.std.specs.Io.{StartsWith};
+ghost use Rattle.ringrun.specs.Fault.{IsInScript, NamesALine};
+ghost use Rattle.ringrun.specs.Script.{name_of};
 
 use crate::fault::Fault;
 use ringbuffer::Command;
 use std::alloc::{AllocError, Global};
 
+// How many commands are made at a time.
+const BATCH: usize = 1024;
+
 // Any number of so many digits is below 2^64.
 const SAFE_DIGITS: usize = 19;
 
-/// The commands that the lines of a script write, in order, in half the memory of a vector of `Command`s or less.
-#[derive(Drop)]
-pub struct Script {
-    pub lines: Vec<Line>,
-    /// The items of all extensions, in order.
-    pub items: Vec<i64>,
-}
-
-/// A line's command.
+/// A script that is read from its front, line by line.
 #[derive(Clone, Copy)]
-pub enum Line {
-    Push(i64),
-    /// An extension by so many of the script's items.
-    Extend(usize),
-    Dequeue,
-    Skip,
-    Clear,
+pub struct Script<'a> {
+    pub text: &'a [u8],
+    /// The lines that are left to read.
+    pub rest: &'a [u8],
 }
 
-impl Script {
-    /// Reads the lines of a text. A line without words writes no command.
+impl<'a> Script<'a> {
+    /// Makes a script of the lines of a text.
+    pub fn new(text: &'a [u8]) -> Script<'a> {
+        Script { text, rest: text }
+    }
+
+    /// Reads the next lines, and returns the commands that they write. A line without words writes none.
     ///
     /// # Errors
     ///
     /// `NotACommand` for the first line whose words are no command or whose bytes are no text, and `NoMemory` where memory
-    /// was refused before such a line.
-    pub fn parse(alloc: Global, text: &[u8]) -> Result<Script, Fault>
-        ensures { IfErr result IsInScript }
+    /// was refused before such a line. The line is then left to read.
+    pub fn read_batch(&mut self, alloc: Global) -> Result<Vec<Command<i64>>, Fault>
+        ensures faults { IfErr result IsInScript }
+        ensures shorter { OnOk result (0 < length self.old.rest.now
+            → length self.new.rest.now < length self.old.rest.now) }
     {
-        let mut script = Script {
-            lines: Vec::new(alloc),
-            items: Vec::new(alloc),
-        };
-        let mut rest = text;
-        // A line takes a byte at least.
-        for line in 1..=text.len() {
-            if rest.is_empty() {
-                break;
+        // A command takes a byte at least.
+        let mut commands = Vec::with_capacity(alloc, BATCH.min(self.rest.len()))?;
+        while commands.len() < BATCH && !self.rest.is_empty() {
+            if let Some(command) = self.read_line(alloc, true)? {
+                commands.push(command)?;
             }
-            let Some(after) = script.read_line(rest)? else {
-                return Err(Fault::NotACommand { line });
-            };
-            rest = after;
         }
-        Ok(script)
+        Ok(commands)
     }
 
-    /// Reads the first line of a text, and returns what follows it if its words are a command or none.
-    fn read_line<'a>(&mut self, text: &'a [u8]) -> Result<Option<&'a [u8]>, AllocError> {
-        let (name, rest) = split_word(text);
-        if name.is_empty() {
-            return Ok(after_line(rest));
+    /// Reads all lines that are left, and keeps nothing of them. It takes no memory.
+    ///
+    /// # Errors
+    ///
+    /// `NotACommand` for the first line that is none.
+    pub fn check(&mut self, alloc: Global) -> Result<(), Fault>
+        ensures fault { IfErr result NamesALine }
+        ensures read { OnOk result (length self.new.rest.now ≡ 0) }
+    {
+        while !self.rest.is_empty() {
+            let _ = self.read_line(alloc, false)?;
         }
-        let Some((line, rest)) = read_command(&mut self.items, name, rest)? else {
-            return Ok(None);
+        Ok(())
+    }
+
+    /// Reads the next line, and returns the command that it writes if it has words. Where items aren't kept, an extension
+    /// has none and takes no memory.
+    #[inline(always)]
+    fn read_line(&mut self, alloc: Global, keeps_items: bool) -> Result<Option<Command<i64>>, Fault>
+        ensures faults { IfErr result IsInScript }
+        ensures no_memory { keeps_items ≡ false → IfErr result NamesALine }
+        ensures shorter { OnOk result (0 < length self.old.rest.now
+            → length self.new.rest.now < length self.old.rest.now) }
+    {
+        let words = skip_blanks(self.rest);
+        let (command, rest) = match read_command(alloc, keeps_items, words)? {
+            Some((command, rest)) => (Some(command), rest),
+            None => (None, words),
         };
-        self.lines.push(line)?;
-        Ok(after_line(rest))
+        let Some(rest) = after_line(rest) else {
+            return Err(self.not_a_command());
+        };
+        self.rest = rest;
+        Ok(command)
+    }
+
+    /// The fault of the first line that is left.
+    fn not_a_command(&self) -> Fault
+        ensures { NamesALine result }
+    {
+        let read = self.text.len().saturating_sub(self.rest.len());
+        let before = self.text[..read]
+            .iter()
+            .filter(|byte| **byte == b'\n')
+            .count();
+        Fault::NotACommand { line: before + 1 }
     }
 }
 
-/// The command that a name begins, if it begins one, and what follows the words that belong to it.
-fn read_command<'a>(
-    items: &mut Vec<i64>,
-    name: &[u8],
-    rest: &'a [u8],
-) -> Result<Option<(Line, &'a [u8])>, AllocError>
-    ensures { IfOk result (λ found. IfSome found (λ read. name.now ≡ name_of_line read.0)) }
+/// The command that begins a text, if one does, and what follows the words that belong to it.
+#[inline(always)]
+fn read_command(
+    alloc: Global,
+    keeps_items: bool,
+    text: &[u8],
+) -> Result<Option<(Command<i64>, &[u8])>, AllocError>
+    ensures name { IfOk result (λ found. IfSome found
+        (λ read. StartsWith text.now (name_of read.0))) }
+    ensures no_memory { keeps_items ≡ false → IsOk result }
+    ensures rest { IfOk result (λ found. IfSome found
+        (λ read. length read.1.now ≤ length text.now)) }
 {
-    Ok(if name == b"dequeue".as_slice() {
-        Some((Line::Dequeue, rest))
-    } else if name == b"skip".as_slice() {
-        Some((Line::Skip, rest))
-    } else if name == b"clear".as_slice() {
-        Some((Line::Clear, rest))
-    } else if name == b"push".as_slice() {
-        split_number(rest).map(|(number, rest)| (Line::Push(number), rest))
-    } else if name == b"extend".as_slice() {
-        let (count, rest) = take_numbers(items, rest)?;
-        Some((Line::Extend(count), rest))
+    Ok(if let Some(rest) = text.strip_prefix(b"push") {
+        split_number(rest).map(|(number, rest)| (Command::Push(number), rest))
+    } else if let Some(rest) = text.strip_prefix(b"extend") {
+        let (items, rest) = read_numbers(alloc, keeps_items, rest)?;
+        Some((Command::Extend(items), rest))
+    } else if let Some(rest) = text.strip_prefix(b"dequeue") {
+        Some((Command::Dequeue, rest))
+    } else if let Some(rest) = text.strip_prefix(b"skip") {
+        Some((Command::Skip, rest))
+    } else if let Some(rest) = text.strip_prefix(b"clear") {
+        Some((Command::Clear, rest))
     } else {
         None
     })
 }
 
-/// Puts the numbers at the front of a text last among the items, and returns how many they are and what follows them.
-fn take_numbers<'a>(items: &mut Vec<i64>, text: &'a [u8]) -> Result<(usize, &'a [u8]), AllocError> {
-    let before = items.len();
+/// The numbers at the front of a text, or none of them where they aren't kept, and what follows them.
+fn read_numbers(alloc: Global, keeps: bool, text: &[u8]) -> Result<(Vec<i64>, &[u8]), AllocError>
+    ensures no_memory { keeps ≡ false → IsOk result }
+    ensures rest { IfOk result (λ read. length read.1.now ≤ length text.now) }
+{
+    let mut numbers = Vec::new(alloc);
     let mut rest = text;
     while let Some((number, after)) = split_number(rest) {
-        items.push(number)?;
+        if keeps {
+            numbers.push(number)?;
+        }
         rest = after;
     }
-    Ok((items.len() - before, rest))
+    Ok((numbers, rest))
 }
 
-/// The number that is the first word of a line, and what follows it.
-#[inline]
+/// The number that follows the white space at the front of a text, and what follows it.
 fn split_number(text: &[u8]) -> Option<(i64, &[u8])>
     ensures { IfSome result (λ found. length found.1.now < length text.now) }
 {
-    let text = skip_blanks(text);
-    let (is_negative, digits) = match text {
-        [b'-', digits @ ..] => (true, digits),
-        [b'+', digits @ ..] => (false, digits),
-        _ => (false, text),
+    let word = skip_blanks(text);
+    if word.len() == text.len() {
+        return None;
+    }
+    let [first, ..] = word else {
+        return None;
+    };
+    // Signs are hard to foretell, so no branch hangs on them.
+    let is_negative = *first == b'-';
+    let is_signed = is_negative | (*first == b'+');
+    let digits = &word[usize::from(is_signed)..];
+    let (mut size, start) = match first_eight(digits) {
+        Some(size) => (size, 8),
+        None => (0, 0),
     };
     let mut end = digits.len();
-    let mut size = 0u64;
-    for at in 0..digits.len() {
-        let digit = digits[at].wrapping_sub(b'0');
+    for at in start..digits.len() {
+        let digit = u64::from(digits[at]).wrapping_sub(u64::from(b'0'));
         if digit > 9 {
-            if !digits[at].is_ascii_whitespace() {
-                return None;
-            }
             end = at;
             break;
         }
         // It wraps only in a number that is refused below.
-        size = size.wrapping_mul(10).wrapping_add(u64::from(digit));
+        size = size.wrapping_mul(10).wrapping_add(digit);
     }
     if end == 0 || end > SAFE_DIGITS && !is_zeros(&digits[..end - SAFE_DIGITS]) {
         return None;
     }
+    if size > i64::MAX.unsigned_abs() + u64::from(is_negative) {
+        return None;
+    }
     let number = if is_negative {
-        0i64.checked_sub_unsigned(size)?
+        size.wrapping_neg()
     } else {
-        i64::try_from(size).ok()?
+        size
     };
-    Some((number, &digits[end..]))
+    Some((number.cast_signed(), &digits[end..]))
+}
+
+/// The number that the first eight bytes write, if all are digits. They are read together: as bytes, then in pairs, in fours.
+fn first_eight(digits: &[u8]) -> Option<u64>
+    ensures { IsSome result → 8 ≤ length digits.now }
+{
+    let (eight, _) = digits.split_first_chunk::<8>()?;
+    let bytes = u64::from_le_bytes(*eight) ^ 0x3030_3030_3030_3030;
+    // A byte above 9 has its highest bit set, or gets it here.
+    if (bytes | bytes.wrapping_add(0x7676_7676_7676_7676)) & 0x8080_8080_8080_8080 != 0 {
+        return None;
+    }
+    let pairs = bytes.wrapping_mul(10).wrapping_add(bytes >> 8);
+    let low = (pairs & 0x0000_00ff_0000_00ff).wrapping_mul(100 + (1_000_000 << 32));
+    let high = (pairs >> 16 & 0x0000_00ff_0000_00ff).wrapping_mul(1 + (10_000 << 32));
+    Some(low.wrapping_add(high) >> 32)
 }
 
 fn is_zeros(digits: &[u8]) -> bool {
     digits.iter().all(|digit| *digit == b'0')
 }
 
-/// The first word of a line, which is empty if it has none, and what follows it.
-fn split_word(text: &[u8]) -> (&[u8], &[u8]) {
-    let text = skip_blanks(text);
-    let end = text
-        .iter()
-        .position(|byte| byte.is_ascii_whitespace())
-        .unwrap_or(text.len());
-    text.split_at(end)
-}
-
 /// What follows a line's end, if nothing but white space comes before it.
-fn after_line(text: &[u8]) -> Option<&[u8]> {
+fn after_line(text: &[u8]) -> Option<&[u8]>
+    ensures { IfSome result (λ rest. length rest.now ≤ length text.now - 1) }
+{
     // Most lines end where their last word does.
     if let [b'\n', rest @ ..] = text {
         return Some(rest);
@@ -186,39 +238,4 @@ fn skip_blanks(text: &[u8]) -> &[u8]
 fn is_blank(byte: u8) -> bool {
     // Most bytes are above them all, and are told by one comparison.
     byte <= b' ' && matches!(byte, b' ' | b'\t' | b'\x0c' | b'\r')
-}
-
-/// The commands of some lines, and the items that are left. Those that extend take theirs off the front.
-///
-/// # Errors
-///
-/// Where memory was refused.
-pub fn commands<'a>(
-    alloc: Global,
-    lines: &[Line],
-    items: &'a [i64],
-) -> Result<(Vec<Command<i64>>, &'a [i64]), AllocError> {
-    let mut commands = Vec::with_capacity(alloc, lines.len())?;
-    let mut left = items;
-    for line in lines {
-        let (command, after) = command(alloc, *line, left)?;
-        commands.push(command)?;
-        left = after;
-    }
-    Ok((commands, left))
-}
-
-fn command(alloc: Global, line: Line, items: &[i64]) -> Result<(Command<i64>, &[i64]), AllocError>
-    ensures { IfOk result (λ made. name_of made.0 ≡ name_of_line line) }
-{
-    Ok(match line {
-        Line::Push(number) => (Command::Push(number), items),
-        Line::Extend(count) => {
-            let (taken, left) = items.split_at(count.min(items.len()));
-            (Command::Extend(Vec::from_slice(alloc, taken)?), left)
-        }
-        Line::Dequeue => (Command::Dequeue, items),
-        Line::Skip => (Command::Skip, items),
-        Line::Clear => (Command::Clear, items),
-    })
 }

@@ -1,28 +1,25 @@
 //! The program's work, over any reader and writers.
 
-ghost use Rattle.std.specs.Prelude.{◌≡◌, ◌≢◌, ◌^◌, ◌<◌, ◌≤◌, ◌↔◌, IfErr, IsErrOf, OnOk, map, string_bytes};
+ghost use Rattle.std.specs.Prelude.{◌≡◌, ◌≢◌, ◌^◌, ◌<◌, ◌≤◌, ◌↔◌, IfErr, IsErrOf, OnOk, length, map, string_bytes};
 ghost use Rattle.std.specs.Io.KnownBytes.{Appends, IsAtEnd};
 ghost use Rattle.ringrun.specs.Arguments.{AsksTooMuch, IsOffered, NamesRing};
-ghost use Rattle.ringrun.specs.Fault.{IfLinesRead, status_of};
+ghost use Rattle.ringrun.specs.Fault.{IfLinesRead, IsInScript, UnlessALine, status_of};
 
 use crate::arguments::{Arguments, Kind};
 use crate::fault::Fault;
+use crate::report;
 use crate::script::Script;
-use crate::{report, script};
 use ringbuffer::{
     AllocRingBuffer, ConstGenericRingBuffer, GrowableAllocRingBuffer, RingBuffer, run,
 };
 use std::alloc::Global;
 use std::io::{Read, Write};
 
-// How many commands run at a time.
-const BATCH: usize = 1024;
-
 /// Does what `words`, the program's arguments after its name, ask for, and returns the status to end with.
 ///
-/// It checks the arguments, makes the ring, reads the whole input, reads its lines as commands and runs them. Then it
-/// prints what they returned, in one text that is complete before its first byte is written. Each status but 0 comes
-/// with a line on `errors`, where that takes one.
+/// It checks the arguments, makes the ring, reads the whole input, and runs its lines as commands. Then it prints what they
+/// returned, in one text that is complete before its first byte is written. A line that is no command comes before want of
+/// memory to run the lines. Each status but 0 comes with a line on `errors`, where that takes one.
 pub fn serve<I: Read, O: Write, E: Write>(
     alloc: Global,
     words: &[String],
@@ -138,24 +135,36 @@ fn answer_by<R: RingBuffer<i64>, I: Read>(
     ensures faults { IfErr result (λ fault. fault ≢ Fault.BadArguments) }
     ensures whole_input { IfLinesRead result (IsAtEnd (I.remaining input.new)) }
 {
-    let script = read_script(alloc, input)?;
-    run_script(ring, alloc, &script)
+    let bytes = read_all(alloc, input)?;
+    answer_script(ring, alloc, &mut Script::new(bytes.as_slice()))
 }
 
-/// The text that this ring's replies to a script make. The script is run in batches, so that commands and replies take
-/// little memory.
+/// The text that this ring's replies to a script make. Want of memory is its fault only once all lines are read.
+fn answer_script<R: RingBuffer<i64>>(
+    ring: &mut R,
+    alloc: Global,
+    script: &mut Script<'_>,
+) -> Result<String, Fault>
+    ensures faults { IfErr result IsInScript }
+    ensures all_read { UnlessALine result (length script.new.rest.now ≡ 0) }
+{
+    let answer = run_script(ring, alloc, script);
+    // Where memory was refused, a line that is left may be no command.
+    script.check(alloc)?;
+    answer
+}
+
+/// The text that this ring's replies to a script make. It is run in batches, so that commands and replies take little memory.
 fn run_script<R: RingBuffer<i64>>(
     ring: &mut R,
     alloc: Global,
-    script: &Script,
+    script: &mut Script<'_>,
 ) -> Result<String, Fault>
-    ensures { IfErr result (λ fault. fault ≡ Fault.NoMemory) }
+    ensures { IfErr result IsInScript }
 {
-    let mut text = report::text_for(alloc, script.lines.len())?;
-    let mut items = script.items.as_slice();
-    for lines in script.lines.chunks(BATCH) {
-        let (commands, left) = script::commands(alloc, lines, items)?;
-        items = left;
+    let mut text = String::new(alloc);
+    while !script.rest.is_empty() {
+        let commands = script.read_batch(alloc)?;
         let replies = run(alloc, ring, commands)?;
         report::push_replies(&mut text, replies.as_slice())?;
     }
@@ -163,7 +172,8 @@ fn run_script<R: RingBuffer<i64>>(
     Ok(text)
 }
 
-fn read_script<I: Read>(alloc: Global, input: &mut I) -> Result<Script, Fault>
+/// The whole input.
+fn read_all<I: Read>(alloc: Global, input: &mut I) -> Result<Vec<u8>, Fault>
     ensures faults { IfErr result (λ fault. fault ≢ Fault.BadArguments) }
     ensures whole_input { IfLinesRead result (IsAtEnd (I.remaining input.new)) }
 {
@@ -171,7 +181,7 @@ fn read_script<I: Read>(alloc: Global, input: &mut I) -> Result<Script, Fault>
     if let Err(error) = input.read_to_end(&mut bytes) {
         return Err(Fault::from_error(&error, Fault::InputOrOutput));
     }
-    Script::parse(alloc, bytes.as_slice())
+    Ok(bytes)
 }
 
 fn print<O: Write>(text: &str, output: &mut O) -> Result<(), Fault>

@@ -89,7 +89,7 @@ fn repeated(alloc: Global, line: &[u8], count: usize) -> Result<Vec<u8>, AllocEr
 #[test]
 fn prints_what_the_commands_answer(rt: HostRuntime) -> Result<(), Fail> {
     let eleven = b"extend 1 2 3 4 5 6 7 8 9 10 11";
-    let cases: [(&str, &[u8], &str); 24] = [
+    let cases: [(&str, &[u8], &str); 26] = [
         ("2", SCRIPT, ANSWER),
         ("02", SCRIPT, ANSWER),
         ("2", b"", "items\n"),
@@ -146,6 +146,16 @@ fn prints_what_the_commands_answer(rt: HostRuntime) -> Result<(), Fail> {
             "2",
             b"extend -0000000000000000000009223372036854775808 +0009223372036854775807",
             "extended\nitems -9223372036854775808 9223372036854775807\n",
+        ),
+        (
+            "4",
+            b"extend 7654321 87654321 -98765432 +1098765432",
+            "extended\nitems 7654321 87654321 -98765432 1098765432\n",
+        ),
+        (
+            "4",
+            b"extend 12345678 0000000012345678 1234567812345678 -999999999999999999",
+            "extended\nitems 12345678 12345678 1234567812345678 -999999999999999999\n",
         ),
         // what stands between words, and lines without words
         ("3", b"extend\x0c1\x0c\t 2\r3", "extended\nitems 1 2 3\n"),
@@ -245,7 +255,7 @@ fn reads_to_the_end_before_it_names_a_line(rt: HostRuntime) -> Result<(), Fail> 
 
 #[test]
 fn names_the_first_line_that_is_no_command(rt: HostRuntime) -> Result<(), Fail> {
-    let first: [&[u8]; 44] = [
+    let first: [&[u8]; 52] = [
         b"push",
         b"push 1 2",
         b"push x",
@@ -290,6 +300,14 @@ fn names_the_first_line_that_is_no_command(rt: HostRuntime) -> Result<(), Fail> 
         b"\x0b",
         b"push\xc2\xa01",
         b"skip\x00",
+        b"push5",
+        b"push-5",
+        b"extend5",
+        b"skip5",
+        b"extendpush 1",
+        b"push 1234567:",
+        b"push /1234567",
+        b"extend 12345678 1234\xb5678",
     ];
     for script in first {
         let outcome = run_script(rt.alloc(), "3", script)?;
@@ -297,12 +315,13 @@ fn names_the_first_line_that_is_no_command(rt: HostRuntime) -> Result<(), Fail> 
         assert_eq!(rt; outcome.output.text()?, "");
         assert_eq!(rt; outcome.errors.text()?, "ringrun: line 1: not a command\n");
     }
-    let later: [(&[u8], &str); 6] = [
+    let later: [(&[u8], &str); 7] = [
         (b"push 1\npush x", "ringrun: line 2: not a command\n"),
         (b"\n\npush x", "ringrun: line 3: not a command\n"),
         (b"push 1\n\xff\n", "ringrun: line 2: not a command\n"),
         (b"skip\n\xc3\n\xa9\n", "ringrun: line 2: not a command\n"),
         (b"skip\npush\nx\n\xff", "ringrun: line 2: not a command\n"),
+        (b"push\n1\n", "ringrun: line 1: not a command\n"),
         (
             b"\n\n\n\n\n\n\n\n\n\n\nx\n",
             "ringrun: line 12: not a command\n",
@@ -491,6 +510,21 @@ struct Ending<'a> {
     errors: &'a str,
 }
 
+/// A run that has no memory but one block of so many bytes.
+fn run_in_drought(
+    alloc: Global,
+    arguments: &[&str],
+    script: &[u8],
+    room: usize,
+) -> Result<Outcome, AllocError> {
+    let words = strings(alloc, arguments)?;
+    let (output, errors) = (Sink::new(alloc)?, Sink::new(alloc)?);
+    let drought = Drought::but_for(alloc, room)?;
+    let outcome = serve_words(alloc, words.as_slice(), Source::of(script), output, errors);
+    drop(drought);
+    Ok(outcome)
+}
+
 /// How often runs were refused memory before one ended so. All that a run can have is one block, of no bytes at first, which
 /// grows by a step. Where the step is below any request, they are refused one after the other; a drought takes a while.
 fn refusals(
@@ -500,13 +534,8 @@ fn refusals(
     step: usize,
     ending: Ending<'_>,
 ) -> Result<usize, Fail> {
-    let words = strings(rt.alloc(), arguments)?;
     for refused in 0..400 {
-        let (output, errors) = (Sink::new(rt.alloc())?, Sink::new(rt.alloc())?);
-        let input = Source::of(script);
-        let drought = Drought::but_for(rt.alloc(), step.saturating_mul(refused))?;
-        let outcome = serve_words(rt.alloc(), words.as_slice(), input, output, errors);
-        drop(drought);
+        let outcome = run_in_drought(rt.alloc(), arguments, script, step.saturating_mul(refused))?;
         if outcome.status == ending.status {
             assert!(rt; outcome.output.text()?.as_bytes() == ending.output);
             assert_eq!(rt; outcome.errors.text()?, ending.errors);
@@ -533,7 +562,7 @@ fn says_where_memory_was_refused(rt: HostRuntime) -> Result<(), Fail> {
     Ok(())
 }
 
-// The two scripts are answered alike, and differ in the memory that the items of an extension take.
+// The two scripts are as long and answered alike, and differ in the memory that the items of an extension take.
 #[test]
 fn is_refused_an_extension(rt: HostRuntime) -> Result<(), Fail> {
     let run = |script| {
@@ -545,7 +574,7 @@ fn is_refused_an_extension(rt: HostRuntime) -> Result<(), Fail> {
         refusals(&rt, &["heap", "2"], script, 32, ending)
     };
     let with_items = run(b"extend 1 2 3\n\nextend\nclear\ndequeue\n")?;
-    let without_items = run(b"extend\n\nextend\nclear\ndequeue\n")?;
+    let without_items = run(b"extend      \n\nextend\nclear\ndequeue\n")?;
     assert!(rt; with_items > without_items);
     Ok(())
 }
@@ -590,5 +619,37 @@ fn reads_all_lines_before_it_runs_one(rt: HostRuntime) -> Result<(), Fail> {
     };
     let named = refusals(&rt, &["grow", "0"], script.as_slice(), 256, ending)?;
     assert!(rt; named < run);
+    Ok(())
+}
+
+// With room for the input, refusals come one after the other: for commands, replies, the ring and the text, of one batch and
+// the next. The line that is no command is behind them all.
+#[test]
+fn names_a_line_behind_what_is_refused(rt: HostRuntime) -> Result<(), Fail> {
+    let lines = repeated(rt.alloc(), b"push 7\n\n", 3000)?;
+    let mut script = repeated(rt.alloc(), lines.as_slice(), 1)?;
+    script.extend_from_slice(b"extend 1 2 x\n")?;
+    let mut named = 0usize;
+    let mut refused = 0usize;
+    for step in 0..100usize {
+        let room = step.saturating_mul(4096);
+        let outcome = run_in_drought(rt.alloc(), &["grow", "0"], script.as_slice(), room)?;
+        assert_eq!(rt; outcome.output.text()?, "");
+        if named == 0 && outcome.status == 3 {
+            assert_eq!(rt; outcome.errors.text()?, NO_MEMORY);
+            continue;
+        }
+        named = named.saturating_add(1);
+        assert_eq!(rt; outcome.status, 1, "with {room} bytes");
+        assert_eq!(rt;
+            outcome.errors.text()?,
+            "ringrun: line 6001: not a command\n"
+        );
+        let outcome = run_in_drought(rt.alloc(), &["grow", "0"], lines.as_slice(), room)?;
+        if outcome.status == 3 {
+            refused = refused.saturating_add(1);
+        }
+    }
+    assert!(rt; refused > 10, "{refused} of {named} were refused");
     Ok(())
 }

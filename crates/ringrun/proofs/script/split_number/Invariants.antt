@@ -1,4 +1,4 @@
--- Until a white space ends it, the number reaches to the text's end.
+-- Until another byte ends it, the number reaches to the text's end.
 use Rattle.std.proofs.Common.{◌≡◌, length}
 use Rattle.ringrun.proofs.script.split_number.Given as goal
 

@@ -1,10 +1,9 @@
--- No item is lost, and each number takes a byte at least.
+-- Each number takes a byte at least.
 use Rattle.std.proofs.Common.{◌≤◌, length}
-use Rattle.std.specs.Prelude.{vec_len}
-use Rattle.ringrun.proofs.script.take_numbers.Given as goal
+use Rattle.ringrun.proofs.script.read_numbers.Given as goal
 
 abbrev pub invariant-loop-number : goal.invariant-loop-number
-invariant-loop-number l = l.before ≤ vec_len l.items
+invariant-loop-number l = length l.rest ≤ length l.text
 
 abbrev pub decreases-loop-number : goal.decreases-loop-number
 decreases-loop-number l = length l.rest
