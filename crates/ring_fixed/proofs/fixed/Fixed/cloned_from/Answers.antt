@@ -34,11 +34,6 @@ put_clones-len-requires-2-clause-len g c =
     let all = LaysOut-then (after_puts ys) (begun _ _ c.requires.sound.0 c.requires.empty) lays_out in
     omega (arith, counted, ap (λ (v : View _). length v.items) all.shows, length-append (items_from (g.S.RingSlots.seen c.args.self.slots).slots c.args.self.start) ys, ap (λ (l : List _). length l) c.requires.empty)
 
-pub put_clones-len-requires-2-clause-room : goal.put_clones-len-requires-2-clause-room
-put_clones-len-requires-2-clause-room g c =
-    let (ys, of, counted, few, lays_out) = c.put_clones-len.ensures in
-    omega (arith, counted, few, lays_out.same_size, c.requires.room)
-
 pub returns : goal.returns
 returns g c =
     let (ys, of, counted, few, lays_out) = c.put_clones-len.ensures in
