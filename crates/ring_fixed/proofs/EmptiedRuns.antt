@@ -1,5 +1,5 @@
 -- Items dropped from an index up to another: their slots are two runs that become empty.
-use Rattle.std.proofs.Common.{◌≡◌, ℕ, ◌+◌, ◌-◌, ◌%◌, ◌<◌, ◌≤◌, ◌⊎◌, inl, inr, List, None, length, take, drop, get_or, sym, ap, ◌∙◌, arith, length-take, length-drop}
+use Rattle.std.proofs.Common.{◌≡◌, ℕ, ◌+◌, ◌-◌, ◌%◌, ◌<◌, ◌≤◌, ◌⊎◌, inl, inr, List, None, length, take, drop, get_or, refl, sym, ap, ◌∙◌, arith, length-take, length-drop}
 use Rattle.std.proofs.Math.Decide.{dec_lt}
 use Rattle.std.proofs.Math.Nat.{mod-eq-sub-mod, mod-lt}
 use Rattle.std.proofs.lemmas.Option.{slice_get_past}
@@ -9,15 +9,7 @@ use Rattle.ring_slots.specs.Slots.{Slots, IsFullAt, slot_at}
 use Rattle.ring_fixed.specs.View.{after_takes, after_truncate}
 use Rattle.ring_fixed.specs.Layout.{AreFull, Empties, SlotsHold, items_from, view_from, IsLaidOut, LaysOut}
 use Rattle.ring_fixed.proofs.LaysOut.{LaysOut-items, slice_get_some}
-use Rattle.ring_fixed.proofs.SlotsHold.{wrap}
-
--- a count from a later place is so many more from this one
-from_count : (start k j size : ℕ) → start < size → k ≤ size → ((start + k) % size + j) % size ≡ (start + (k + j)) % size
-from_count start k j size within low =
-    elim (wrap start k size within low) [
-      | inl a ↦ ap (λ n. (n + j) % size) a.1 ∙ ap (λ n. n % size) {x = start + k + j} {y = start + (k + j)} (omega arith)
-      | inr a ↦ ap (λ n. (n + j) % size) a.1 ∙ ap (λ n. n % size) {x = start + k - size + j} {y = start + (k + j) - size} (omega arith) ∙ sym (mod-eq-sub-mod (omega arith))
-    ]
+use Rattle.ring_fixed.proofs.SlotsHold.{count_on, wrap}
 
 module _ {X : Type 0} {P : ℕ → Type 0} (s : Slots X) (start : ℕ) (laid_out : IsLaidOut P s start) (from to room : ℕ)
     (order : from ≤ to) (within : to ≤ length (items_from s.slots start)) (left : room ≡ length s.slots - start) where
@@ -92,7 +84,7 @@ module _ {X : Type 0} {P : ℕ → Type 0} (s : Slots X) (start : ℕ) (laid_out
       behind none j low =
           let low' : j < size = rw same_size at low in
           let fit = laid_out.fit in
-          let here = ap (λ p. slot_at new p) (from_count start to j size laid_out.start_within (omega arith)) in
+          let here = ap (λ p. slot_at new p) (count_on start to j (to + j) size refl) in
           rw same_size (here ∙ elim (dec_lt (to + j) size) [
             | yes more ↦ kept_at (to + j) more (inr (omega arith)) ∙ sym (slice_get-drop to j items)
             | no round ↦ let far : (start + (to + j)) % size ≡ (start + (to + j - size)) % size =

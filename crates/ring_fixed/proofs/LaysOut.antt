@@ -9,7 +9,7 @@ use Rattle.std.proofs.lemmas.Option.{slice_get_cases, slice_get_past}
 use Rattle.ring_slots.specs.Slots.{Slots, slot_at, IsEmptyAt, IsFullAt, changed}
 use Rattle.ring_fixed.specs.View.{View, after_pop, after_put, after_take, after_write}
 use Rattle.ring_fixed.specs.Layout.{SlotsHold, items_from, view_from, IsLaidOut, LaysOut}
-use Rattle.ring_fixed.proofs.SlotsHold.{items_from-SlotsHold, SlotsHold-pop, SlotsHold-put, SlotsHold-take, SlotsHold-write, SlotsHold-none, from_next}
+use Rattle.ring_fixed.proofs.SlotsHold.{items_from-SlotsHold, SlotsHold-pop, SlotsHold-put, SlotsHold-take, SlotsHold-write, SlotsHold-none, count_on}
 
 -- there is an item at an index below the length
 pub slice_get_some : {A : Type 0} (xs : List A) (k : ℕ) → k < length xs → IsSome (slice_get xs k)
@@ -85,8 +85,7 @@ module _ {X : Type 0} {P : ℕ → Type 0} (s : Slots X) (start : ℕ) (laid_out
 
   -- the place after the last, seen from the start or from the next
   pub same_place : (len : ℕ) → 0 < len → len ≤ length s.slots → (start + len) % length s.slots ≡ ((start + 1) % length s.slots + (len - 1)) % length s.slots
-  same_place len some fit =
-      ap (λ n. (start + n) % length s.slots) {x = len} {y = suc (len - 1)} (omega arith) ∙ sym (from_next start (len - 1) (length s.slots) laid_out.start_within (omega arith))
+  same_place len some fit = sym (count_on start 1 (len - 1) len (length s.slots) (omega arith))
 
   -- past the last item the slots are empty
   pub past_empty : (place : ℕ) → length (items_from s.slots start) < length s.slots → place ≡ (start + length (items_from s.slots start)) % length s.slots → IsEmptyAt s place

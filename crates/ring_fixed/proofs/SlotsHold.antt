@@ -1,7 +1,7 @@
 -- What a change of one slot does to the items that lie in the slots.
 use Rattle.std.proofs.Common.{◌≡◌, ◌≢◌, ℕ, zero, suc, ◌+◌, ◌-◌, ◌%◌, ◌<◌, ◌≤◌, ◌⊎◌, inl, inr, List, [], ◌∷◌, ◌++◌, length, take, get_or, ext_get_or, Option, None, Some, refl, sym, ap, ◌∙◌, arith, length-set, get_or-set_same, get_or-set_other}
 use Rattle.std.proofs.Math.ListN.{set}
-use Rattle.std.proofs.Math.Nat.{mod-eq_of_lt, mod-eq-sub-mod, mod-lt}
+use Rattle.std.proofs.Math.Nat.{mod-add-mod, mod-eq_of_lt, mod-eq-sub-mod, mod-lt}
 use Rattle.std.proofs.Math.Decide.{dec_lt, ℕ_discrete}
 use Rattle.std.proofs.lemmas.Grind.{common_steps}
 use Rattle.std.proofs.lemmas.Option.{slice_get_cases, slice_get_past}
@@ -26,14 +26,9 @@ same_count start j k size within low low' same =
       | inr a ↦ elim (wrap start k size within (omega arith)) [ inl b ↦ omega arith | inr b ↦ omega arith ]
     ]
 
--- a count from the next place is one more from this one
-pub from_next : (start k size : ℕ) → start < size → k < size → ((start + 1) % size + k) % size ≡ (start + suc k) % size
-from_next start k size within low =
-    elim (wrap start 1 size within (omega arith)) [
-      | inl a ↦ ap (λ n. (n + k) % size) a.1 ∙ ap (λ n. n % size) {x = start + 1 + k} {y = start + suc k} (omega arith)
-      | inr a ↦ let back : ((start + 1) % size + k) % size ≡ (start + 1) % size + k = mod-eq_of_lt (omega arith) in
-          elim (wrap start (suc k) size within (omega arith)) [ inl b ↦ omega arith | inr b ↦ omega arith ]
-    ]
+-- a count from a later place is so many more from this one
+pub count_on : (start k j n size : ℕ) → k + j ≡ n → ((start + k) % size + j) % size ≡ (start + n) % size
+count_on start k j n size sum = mod-add-mod (start + k) size j ∙ ap (λ p. p % size) {x = start + k + j} {y = start + n} (omega arith)
 
 module _ {X : Type 0} (slots : List (Option X)) (start : ℕ) (within : start < length slots) where
   -- no place after the start is the start ..
@@ -97,24 +92,22 @@ module _ {X : Type 0} (slots : List (Option X)) (start : ℕ) (within : start < 
       → SlotsHold (set slots start None) ((start + 1) % length slots) xs
   SlotsHold-take x xs lie fit k low =
       let low' : k < length slots = rw (length-set slots start None) at low in
-      let turned = ap (λ place. get_or (set slots start None) place None) (from_next start k (length slots) within low') in
+      let turned = ap (λ place. get_or (set slots start None) place None) (count_on start 1 k (suc k) (length slots) (omega arith)) in
       rw (length-set slots start None) (turned ∙ elim (dec_lt (suc k) (length slots)) [
         | yes more ↦ get_or-set_other slots start ((start + suc k) % length slots) None None (apart k more) ∙ lie (suc k) more
         | no last ↦ rw (last_place k low' last) (get_or-set_same slots start None None within ∙ sym (slice_get_past xs k (omega arith)))
       ])
 
 -- reading once round gives the items that lie there
-items_until : {X : Type 0} (f : ℕ → Option X) (xs : List X) (from count : ℕ) → length xs ≤ count → ((k : ℕ) → k < count → f (from + k) ≡ slice_get xs k)
+items_until : {X : Type 0} (f : ℕ → Option X) (xs : List X) (from count : ℕ) → length xs ≤ count → ((k place : ℕ) → from + k ≡ place → k < count → f place ≡ slice_get xs k)
     → filter_map f (range_with_len from count) ≡ xs
 items_until f [] from zero fit reads = refl
 items_until f (x ∷ xs) from zero fit reads = absurd (omega arith)
 items_until f [] from (suc count) fit reads =
-    let later = λ (k : ℕ) (low : k < count). ap f {x = from + 1 + k} {y = from + suc k} (omega arith) ∙ reads (suc k) (omega arith) in
-    rw (ap f {x = from} {y = from + 0} (omega arith) ∙ reads 0 (omega arith)) (items_until f [] (from + 1) count (omega arith) later)
+    rw (reads 0 from (omega arith) (omega arith)) (items_until f [] (from + 1) count (omega arith) (λ k place at low. reads (suc k) place (omega arith) (omega arith)))
 items_until f (x ∷ xs) from (suc count) fit reads =
-    let later = λ (k : ℕ) (low : k < count). ap f {x = from + 1 + k} {y = from + suc k} (omega arith) ∙ reads (suc k) (omega arith) in
-    rw (ap f {x = from} {y = from + 0} (omega arith) ∙ reads 0 (omega arith)) (ap (λ ys. x ∷ ys) (items_until f xs (from + 1) count (omega arith) later))
+    rw (reads 0 from (omega arith) (omega arith)) (ap (λ ys. x ∷ ys) (items_until f xs (from + 1) count (omega arith) (λ k place at low. reads (suc k) place (omega arith) (omega arith))))
 
 pub items_from-SlotsHold : {X : Type 0} (slots : List (Option X)) (start : ℕ) (xs : List X) → SlotsHold slots start xs → length xs ≤ length slots → items_from slots start ≡ xs
 unfolding items_from
-items_from-SlotsHold slots start xs lie fit = items_until (slot_after slots start) xs 0 (length slots) fit (λ k low. ap (slot_after slots start) {y = k} (omega arith) ∙ lie k low)
+items_from-SlotsHold slots start xs lie fit = items_until (slot_after slots start) xs 0 (length slots) fit (λ k place at low. ap (slot_after slots start) {x = place} {y = k} (omega arith) ∙ lie k low)
