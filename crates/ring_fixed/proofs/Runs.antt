@@ -10,7 +10,7 @@ use Rattle.ring_fixed.specs.Somes.{somes}
 use Rattle.ring_fixed.proofs.SlotsHold.{wrap}
 
 module _ {X : Type 0} where
-  get_or-map_some : (xs : List X) (k : ℕ) → get_or (map Some xs) k None ≡ slice_get xs k
+  pub get_or-map_some : (xs : List X) (k : ℕ) → get_or (map Some xs) k None ≡ slice_get xs k
   get_or-map_some [] k = refl
   get_or-map_some (x ∷ xs) zero = refl
   get_or-map_some (x ∷ xs) (suc k) = get_or-map_some xs k

@@ -5,8 +5,8 @@ use Rattle.std.specs.List.{length_refill, refill}
 use Rattle.std.proofs.Math.ListN.{get_or-append}
 use Rattle.std.proofs.Math.Seq.{drop-append-add, drop-append_seam, take-append_seam}
 use Rattle.std.proofs.lemmas.Grind.{common_steps}
-use Rattle.std.proofs.lemmas.List.{drop-append-le, drop-map, get_or-append_right, length-map, length-replicate, map-append, take-append-drop, take-map, take_at}
-use Rattle.std.proofs.lemmas.Option.{slice_get_past}
+use Rattle.std.proofs.lemmas.List.{drop-drop, drop-append-le, drop-map, get_or_append_left, get_or-append_right, get_or-replicate, get_or_past, length-map, length-replicate, map-append, take-append-drop, take-map, take_at}
+use Rattle.std.proofs.lemmas.Option.{slice_get_cases, slice_get_past}
 use Rattle.std.proofs.Math.Nat.{mod_self}
 use Rattle.ring_slots.specs.Slots.{Slots, HoldsRun, IsFullRun, refilled}
 use Rattle.ring_fixed.specs.View.{View, after_extend, after_rewrite}
@@ -15,7 +15,7 @@ use Rattle.ring_fixed.specs.declared.fixed.Fixed.{Fixed}
 use Rattle.ring_fixed.specs.fixed.Sound.{view_of, IsSound}
 use Rattle.ring_fixed.specs.slices.Straight.{beside, straight_start, straightened}
 use Rattle.ring_fixed.proofs.LaysOut.{LaysOut-items}
-use Rattle.ring_fixed.proofs.Runs.{run_is}
+use Rattle.ring_fixed.proofs.Runs.{get_or-map_some, run_is}
 use Rattle.ring_fixed.proofs.SlotsHold.{SlotsHold-same, wrap}
 
 abbrev nothing : {X : Type 0} → Option X
@@ -43,36 +43,30 @@ module _ {X : Type 0} (size start : ℕ) (xs : List X) (fit : start + length xs 
   row = beside size start xs
 
   pub length-beside : length row ≡ size
-  length-beside = omega (arith, length-append before (map Some xs ++ behind), length-append (map Some xs) behind, length-replicate start (nothing {X = X}), length-replicate (size - (start + length xs)) (nothing {X = X}), length-map xs Some)
+  length-beside = simp (length-append, length-map, length-replicate) (omega arith)
 
   pub SlotsHold-beside : start < size → SlotsHold row start xs
   SlotsHold-beside within k low =
       let long = length-beside in
       elim (wrap start k size within (omega arith)) [
-        | inl a ↦ rw (long, a.1) (get_or-append_right before (map Some xs ++ behind) start (start + k) None (length-replicate start None) (omega arith)
-            ∙ ap (λ n. get_or (map Some xs ++ behind) n None) {x = start + k - start} {y = k} (omega arith) ∙ items_then_none xs (size - (start + length xs)) k)
-        | inr a ↦ rw (long, a.1) (get_or-append before (map Some xs ++ behind) None (start + k - size) (omega (arith, length-replicate start (nothing {X = X})))
-            ∙ none_at start (start + k - size) ∙ sym (slice_get_past xs k (omega arith)))
+        | inl a ↦ rw (long, a.1) (grind (arith, get_or_append_left, get_or-append_right, get_or-replicate, get_or_past, get_or-map_some, length-append, length-map, length-replicate, slice_get_past))
+        | inr a ↦ rw (long, a.1) (grind (arith, common_steps, slice_get_cases))
       ]
 
   from_start : drop start row ≡ map Some xs ++ behind
-  from_start = ap (λ n. drop n row) (sym (length-replicate start (nothing {X = X}))) ∙ drop-append_seam before (map Some xs ++ behind)
-
-  to_end : take (length xs) (map Some xs ++ behind) ≡ map Some xs
-  to_end = ap (λ n. take n (map Some xs ++ behind)) (sym (length-map xs Some)) ∙ take-append_seam (map Some xs) behind
+  from_start = grind (arith, common_steps)
 
   -- they are a run
   pub beside-run : HoldsRun row start (length xs) xs
-  beside-run = rw (from_start, to_end) refl
+  beside-run = rw from_start (grind (arith, common_steps))
 
   -- and with others in their place, as many, they are these side by side
   pub beside-refilled : (ys : List X) → refilled row start (length xs) ys ≡ beside size start (refill (length xs) xs ys)
   beside-refilled ys =
       let n = length xs in let zs = refill n xs ys in
-      let first : take start row ≡ before = ap (λ k. take k row) (sym (length-replicate start (nothing {X = X}))) ∙ take-append_seam before (map Some xs ++ behind) in
-      let last : drop (start + n) row ≡ behind = ap (λ k. drop (k + n) row) (sym (length-replicate start (nothing {X = X}))) ∙ drop-append-add before (map Some xs ++ behind) n
-      ∙ ap (λ k. drop k (map Some xs ++ behind)) (sym (length-map xs Some)) ∙ drop-append_seam (map Some xs) behind in
-      let middle : refill n (map Some xs) (map Some ys) ≡ map Some zs = rw (length-map ys Some, drop-map Some (length ys) xs, sym (map-append Some ys (drop (length ys) xs))) (take-map Some n (ys ++ drop (length ys) xs)) in
+      let first : take start row ≡ before = grind (arith, common_steps) in
+      let last : drop (start + n) row ≡ behind = rw (← drop-drop, from_start) (grind (arith, common_steps)) in
+      let middle : refill n (map Some xs) (map Some ys) ≡ map Some zs = grind (arith, common_steps, drop-map, take-map) in
       rw (first, beside-run, last, middle, sym (length_refill n xs ys refl)) refl
 
 -- a ring whose items reach no further than the last slot has them side by side
@@ -85,8 +79,7 @@ straight_is s start laid_out fit =
 -- items that were turned by so many, turned back
 turned_back : {X : Type 0} (xs : List X) (k : ℕ) → k ≤ length xs → let ys = drop k xs ++ take k xs in drop (length ys - k) ys ++ take (length ys - k) ys ≡ xs
 turned_back xs k low =
-    let last : length (drop k xs ++ take k xs) - k ≡ length (drop k xs) = omega (arith, length-append (drop k xs) (take k xs), length-drop k xs, length-take k xs) in
-    rw (last, drop-append_seam (drop k xs) (take k xs), take-append_seam (drop k xs) (take k xs)) (take-append-drop k xs)
+    grind (arith, common_steps)
 
 -- a ring whose items reached beyond the last slot, once those up to it were pushed again
 module _ {X : Type 0} {P : ℕ → Type 0} (old new : Slots X) (start at : ℕ) (laid_out : IsLaidOut P old start) where
