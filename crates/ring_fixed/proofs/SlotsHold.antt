@@ -20,25 +20,13 @@ wrap start k size within low =
 
 -- two counts below the size that reach the same place are the same
 same_count : (start j k size : ℕ) → start < size → j < size → k < size → (start + j) % size ≡ (start + k) % size → j ≡ k
-same_count start j k size within low low' same =
-    elim (wrap start j size within (omega arith)) [
-      | inl a ↦ elim (wrap start k size within (omega arith)) [ inl b ↦ omega arith | inr b ↦ omega arith ]
-      | inr a ↦ elim (wrap start k size within (omega arith)) [ inl b ↦ omega arith | inr b ↦ omega arith ]
-    ]
+same_count start j k size within low low' same = grind (arith, wrap start j size within, wrap start k size within)
 
 -- a count from a later place is so many more from this one
 pub count_on : (start k j n size : ℕ) → k + j ≡ n → ((start + k) % size + j) % size ≡ (start + n) % size
 count_on start k j n size sum = mod-add-mod (start + k) size j ∙ ap (λ p. p % size) {x = start + k + j} {y = start + n} (omega arith)
 
 module _ {X : Type 0} (slots : List (Option X)) (start : ℕ) (within : start < length slots) where
-  -- no place after the start is the start ..
-  apart : (k : ℕ) → suc k < length slots → (start + suc k) % length slots ≢ start
-  apart k more e = elim (wrap start (suc k) (length slots) within (omega arith)) [ inl a ↦ omega arith | inr a ↦ omega arith ]
-
-  -- .. until the count is once round
-  last_place : (k : ℕ) → k < length slots → (suc k < length slots → ⊥) → (start + suc k) % length slots ≡ start
-  last_place k low last = elim (wrap start (suc k) (length slots) within (omega arith)) [ inl a ↦ omega arith | inr a ↦ omega arith ]
-
   -- each place is counted to from the start
   count_to : (place : ℕ) → place < length slots → (k : ℕ) × (k < length slots) × ((start + k) % length slots ≡ place)
   count_to place here =
@@ -93,10 +81,8 @@ module _ {X : Type 0} (slots : List (Option X)) (start : ℕ) (within : start < 
   SlotsHold-take x xs lie fit k low =
       let low' : k < length slots = rw (length-set slots start None) at low in
       let turned = ap (λ place. get_or (set slots start None) place None) (count_on start 1 k (suc k) (length slots) (omega arith)) in
-      rw (length-set slots start None) (turned ∙ elim (dec_lt (suc k) (length slots)) [
-        | yes more ↦ get_or-set_other slots start ((start + suc k) % length slots) None None (apart k more) ∙ lie (suc k) more
-        | no last ↦ rw (last_place k low' last) (get_or-set_same slots start None None within ∙ sym (slice_get_past xs k (omega arith)))
-      ])
+      let held = lie (suc k) in let round = wrap start (suc k) (length slots) within low' in
+      rw (length-set slots start None) (turned ∙ grind (arith, held, round, get_or-set_other, get_or-set_same, slice_get_past))
 
 -- reading once round gives the items that lie there
 items_until : {X : Type 0} (f : ℕ → Option X) (xs : List X) (from count : ℕ) → length xs ≤ count → ((k place : ℕ) → from + k ≡ place → k < count → f place ≡ slice_get xs k)
