@@ -1,12 +1,13 @@
 -- What a change of one slot does to the items that lie in the slots.
-use Rattle.std.proofs.Common.{◌≡◌, ◌≢◌, ℕ, zero, suc, ◌+◌, ◌-◌, ◌%◌, ◌<◌, ◌≤◌, ◌⊎◌, inl, inr, List, [], ◌∷◌, ◌++◌, length, take, get_or, ext_get_or, Option, None, Some, refl, sym, ap, ◌∙◌, arith, length-set, get_or-set_same, get_or-set_other}
+use Rattle.std.proofs.Common.{◌≡◌, ◌≢◌, ℕ, zero, suc, ◌+◌, ◌-◌, ◌%◌, ◌<◌, ◌≤◌, ◌⊎◌, inl, inr, List, [], ◌∷◌, ◌++◌, length, take, drop, get_or, ext_get_or, Option, None, Some, refl, sym, ap, ◌∙◌, arith, length-set, get_or-set_same, get_or-set_other}
 use Rattle.std.proofs.Math.ListN.{set}
-use Rattle.std.proofs.Math.Nat.{mod-add-mod, mod-eq_of_lt, mod-eq-sub-mod, mod-lt}
-use Rattle.std.proofs.Math.Decide.{dec_lt, ℕ_discrete}
+use Rattle.std.proofs.Math.Nat.{add-mod-mod, add-mod_right, mod-add-mod, mod-eq_of_lt, mod-eq-sub-mod, mod-lt}
+use Rattle.std.proofs.Math.Decide.{dec_lt}
 use Rattle.std.proofs.lemmas.Grind.{common_steps}
 use Rattle.std.proofs.lemmas.Option.{slice_get_cases, slice_get_past}
 use Rattle.std.specs.Prelude.{slice_get}
 use Rattle.std.specs.List.{filter_map, range_with_len}
+use Rattle.ring_core.proofs.Items.{slice_get-drop}
 use Rattle.ring_fixed.specs.Layout.{slot_after, SlotsHold, items_from}
 
 -- a place counted round is the sum, less the size where the sum reaches it
@@ -31,10 +32,8 @@ module _ {X : Type 0} (slots : List (Option X)) (start : ℕ) (within : start < 
   count_to : (place : ℕ) → place < length slots → (k : ℕ) × (k < length slots) × ((start + k) % length slots ≡ place)
   count_to place here =
       let size = length slots in
-      elim (dec_lt place start) [
-        | yes before ↦ let k : ℕ = place + size - start in (k, omega arith, elim (wrap start k size within (omega arith)) [ inl a ↦ omega arith | inr a ↦ omega arith ])
-        | no after ↦ let k : ℕ = place - start in (k, omega arith, elim (wrap start k size within (omega arith)) [ inl a ↦ omega arith | inr a ↦ omega arith ])
-      ]
+      let far : ℕ = place + (size - start) in
+      (far % size, mod-lt far (omega arith), add-mod-mod start far size ∙ ap (λ n. n % size) {x = start + far} {y = place + size} (omega arith) ∙ add-mod_right place size ∙ mod-eq_of_lt here)
 
   -- where no item lies from one start, none lies from another
   pub SlotsHold-none : SlotsHold slots start [] → (other : ℕ) → SlotsHold slots other []
@@ -53,12 +52,8 @@ module _ {X : Type 0} (slots : List (Option X)) (start : ℕ) (within : start < 
       → SlotsHold (set slots ((start + k) % length slots) slot) start ys
   SlotsHold-set xs ys k slot hold low here others j within' =
       let low' : j < length slots = rw (length-set slots ((start + k) % length slots) slot) at within' in
-      let place = (start + k) % length slots in
-      elim (ℕ_discrete j k) [
-        | yes same ↦ rw (same, length-set slots place slot) (get_or-set_same slots place slot None (mod-lt (start + k) (omega arith)) ∙ sym here)
-        | no other ↦ rw (length-set slots place slot)
-            (get_or-set_other slots place ((start + j) % length slots) slot None (λ e. other (same_count start j k (length slots) within low' low e)) ∙ hold j low' ∙ sym (others j other))
-      ]
+      let held = hold j low' in let same = same_count start j k (length slots) within low' low in let other = others j in
+      rw (length-set slots ((start + k) % length slots) slot) (grind (arith, held, same, other, here, get_or-set_same, get_or-set_other, mod-lt))
 
   -- an item put after the last
   pub SlotsHold-put : (xs : List X) (x : X) → SlotsHold slots start xs → length xs < length slots
@@ -75,14 +70,13 @@ module _ {X : Type 0} (slots : List (Option X)) (start : ℕ) (within : start < 
       → SlotsHold (set slots ((start + last) % length slots) None) start (take last xs)
   SlotsHold-pop xs last hold counted fit = SlotsHold-set xs (take last xs) last None hold (omega arith) (grind (arith, common_steps, slice_get_cases)) (λ j other. grind (arith, common_steps, slice_get_cases))
 
-  -- the first item taken
-  pub SlotsHold-take : (x : X) (xs : List X) → SlotsHold slots start (x ∷ xs) → length xs < length slots
-      → SlotsHold (set slots start None) ((start + 1) % length slots) xs
-  SlotsHold-take x xs lie fit k low =
+  -- the first item taken: no place after the start is the start until the count is once round
+  pub SlotsHold-take : (xs : List X) → SlotsHold slots start xs → length xs ≤ length slots → SlotsHold (set slots start None) ((start + 1) % length slots) (drop 1 xs)
+  SlotsHold-take xs lie fit k low =
       let low' : k < length slots = rw (length-set slots start None) at low in
       let turned = ap (λ place. get_or (set slots start None) place None) (count_on start 1 k (suc k) (length slots) (omega arith)) in
       let held = lie (suc k) in let round = wrap start (suc k) (length slots) within low' in
-      rw (length-set slots start None) (turned ∙ grind (arith, held, round, get_or-set_other, get_or-set_same, slice_get_past))
+      rw (length-set slots start None) (turned ∙ grind (arith, held, round, get_or-set_other, get_or-set_same, slice_get-drop 1 k xs, slice_get_past))
 
 -- reading once round gives the items that lie there
 items_until : {X : Type 0} (f : ℕ → Option X) (xs : List X) (from count : ℕ) → length xs ≤ count → ((k place : ℕ) → from + k ≡ place → k < count → f place ≡ slice_get xs k)
