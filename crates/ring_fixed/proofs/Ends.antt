@@ -6,7 +6,7 @@ use Rattle.ring_fixed.specs.View.{View, after_put, after_take}
 use Rattle.ring_fixed.specs.Layout.{items_from, view_from, view_before, start_before, IsLaidOut, LaysOut, EndsBefore, LaysOutBefore}
 use Rattle.ring_fixed.proofs.LaysOut.{LaysOut-then, LaysOut-put, past_empty}
 use Rattle.ring_fixed.proofs.SlotsHold.{count_on}
-use Rattle.ring_fixed.proofs.PutOver.{HasTaken, over_empty, over_lays_out}
+use Rattle.ring_fixed.proofs.PutOver.{over_empty, over_lays_out}
 
 module _ {X : Type 0} {P : ℕ → Type 0} (s : Slots X) (end len : ℕ) (ends : EndsBefore P s end len) where
   abbrev size : ℕ
@@ -38,16 +38,13 @@ module _ {X : Type 0} {P : ℕ → Type 0} (s : Slots X) (end len : ℕ) (ends :
 
   -- as many items that end one further begin one further
   module _ (taken : Slots X) (turned : ℕ) (some : 0 < len) (turns : turned ≡ (start + 1) % size) (after : LaysOut P s taken turned (after_take (view_before s end len))) where
-    took : HasTaken P s taken start turned end len
-    took = record { laid_out = ends.laid_out; counted = ends.counted; some = some; found = end_again; turned = turns; after = after }
-
     pub full_empty : IsEmptyAt taken end
-    full_empty = over_empty took
+    full_empty = over_empty ends.laid_out ends.counted some end_again turns after
 
     pub full_ends : (new : Slots X) (next : ℕ) (x : X) → next ≡ (end + 1) % size → new ≡ changed taken end (Some x)
         → LaysOutBefore P s new next len (after_put (after_take (view_before s end len)) x)
     full_ends new next x found is =
-        let over = over_lays_out took new x is in let low = ends.end_within in let fit = fits in
+        let over = over_lays_out ends.laid_out ends.counted some end_again turns after new x is in let low = ends.end_within in let fit = fits in
         let same : start_before new next len ≡ turned = rw (over.same_size, found) (count_on end 1 (size - len) (size - len + 1) size (omega arith) ∙ sym (count_on end (size - len) 1 (size - len + 1) size refl) ∙ sym turns) in
         record { lays_out = rw same over; end_within = rw (over.same_size, found) (mod-lt (end + 1) (omega arith)); counted = omega (arith, ends.counted, length-append (drop 1 (items_from s.slots start)) (x ∷ []), length-drop 1 (items_from s.slots start)) }
 

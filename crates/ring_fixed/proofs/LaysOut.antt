@@ -36,8 +36,7 @@ module _ {X : Type 0} {P : ℕ → Type 0} (s : Slots X) (start : ℕ) (laid_out
   pub first_held : slot_at s start ≡ slice_get (items_from s.slots start) 0
   first_held =
       let within = laid_out.start_within in
-      let here : (start + 0) % length s.slots ≡ start = ap (λ n. n % length s.slots) {x = start + 0} {y = start} (omega arith) ∙ mod-eq_of_lt within in
-      sym (ap (λ place. slot_at s place) here) ∙ laid_out.layout 0 (omega arith)
+      let held = laid_out.layout 0 in grind (arith, held, mod-eq_of_lt)
 
   -- where there is an item, the start holds one
   pub first_full : 0 < length (items_from s.slots start) → IsFullAt s start
