@@ -59,8 +59,7 @@ straight_is s start laid_out fit =
 
 -- items that were turned by so many, turned back
 turned_back : {X : Type 0} (xs : List X) (k : ℕ) → k ≤ length xs → let ys = drop k xs ++ take k xs in drop (length ys - k) ys ++ take (length ys - k) ys ≡ xs
-turned_back xs k low =
-    grind (arith, common_steps)
+turned_back xs k low = grind (arith, common_steps)
 
 -- a ring whose items reached beyond the last slot, once those up to it were pushed again
 module _ {X : Type 0} {P : ℕ → Type 0} (old new : Slots X) (start at : ℕ) (laid_out : IsLaidOut P old start) where
