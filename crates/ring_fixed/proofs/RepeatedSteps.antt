@@ -52,8 +52,7 @@ module _ {X : Type 0} where
   pub after_extend-more : (capacity : ℕ) (v : View X) (ys : List X) (y : X) → after_push capacity (after_extend capacity v ys) y ≡ after_extend capacity v (ys ++ y ∷ [])
   after_extend-more capacity v ys y =
       let all = v.items ++ ys in
-      let items : keep_last (Some capacity) (keep_last (Some capacity) all ++ y ∷ []) ≡ keep_last (Some capacity) (v.items ++ (ys ++ y ∷ [])) =
-      keep_last-keep_last (Some capacity) all (y ∷ []) ∙ ap (keep_last (Some capacity)) (append_assoc v.items ys (y ∷ [])) in
+      let items = keep_last-keep_last (Some capacity) all (y ∷ []) ∙ ap (keep_last (Some capacity)) (append_assoc v.items ys (y ∷ [])) in
       let changes : (after_push capacity (after_extend capacity v ys) y).changes ≡ (after_extend capacity v (ys ++ y ∷ [])).changes =
       omega (arith, length-drop (length all - capacity) all, length-append v.items ys, length-append ys (y ∷ [])) in
       λ i. record { items = items i; changes = changes i; capacity = v.capacity }
