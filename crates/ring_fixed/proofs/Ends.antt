@@ -57,10 +57,6 @@ ends_at s start len end laid_out counted found =
     let same : start_before s end len ≡ start = rw found (count_on start len (size - len) size size (omega arith) ∙ add-mod_right start size ∙ mod-eq_of_lt within) in
     record { lays_out = rw same (record { laid_out = laid_out; same_size = refl; shows = refl }); end_within = rw found (mod-lt (start + len) (omega arith)); counted = counted }
 
--- what a call left ends before the place that it names
-pub ends_again : {X : Type 0} {P : ℕ → Type 0} (old new : Slots X) (end len : ℕ) (v : View X) → LaysOutBefore P old new end len v → EndsBefore P new end len
-ends_again old new end len v b = record { laid_out = b.lays_out.laid_out; end_within = b.end_within; counted = b.counted ∙ sym (ap (λ (w : View _). length w.items) b.lays_out.shows) }
-
 -- one step, and then another that works on what the first one shows
 pub ends_then : {X : Type 0} {P : ℕ → Type 0} (a b c : Slots X) (end len next more : ℕ) (v : View X) (step : View X → View X)
     → LaysOutBefore P a b end len v → LaysOutBefore P b c next more (step (view_before b end len)) → LaysOutBefore P a c next more (step v)
