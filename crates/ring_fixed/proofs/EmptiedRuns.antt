@@ -1,7 +1,7 @@
 -- Items dropped from an index up to another: their slots are two runs that become empty.
-use Rattle.std.proofs.Common.{◌≡◌, ℕ, ◌+◌, ◌-◌, ◌%◌, ◌<◌, ◌≤◌, ◌⊎◌, inl, inr, List, None, length, take, drop, get_or, sym, ap, ◌∙◌, arith, length-take, length-drop}
+use Rattle.std.proofs.Common.{◌≡◌, ℕ, ◌+◌, ◌-◌, ◌%◌, ◌<◌, ◌≤◌, ◌⊎◌, inl, inr, List, None, length, take, drop, get_or, refl, sym, ap, ◌∙◌, arith, length-take, length-drop}
 use Rattle.std.proofs.Math.Decide.{dec_lt}
-use Rattle.std.proofs.Math.Nat.{mod-eq-sub-mod, mod-lt}
+use Rattle.std.proofs.Math.Nat.{add-mod_right, mod-eq_of_lt, mod-lt}
 use Rattle.std.proofs.lemmas.Option.{slice_get_past}
 use Rattle.std.specs.Prelude.{min, slice_get}
 use Rattle.ring_core.proofs.Items.{slice_get-drop, slice_get-take}
@@ -9,15 +9,7 @@ use Rattle.ring_slots.specs.Slots.{Slots, IsFullAt, slot_at}
 use Rattle.ring_fixed.specs.View.{after_takes, after_truncate}
 use Rattle.ring_fixed.specs.Layout.{AreFull, Empties, SlotsHold, items_from, view_from, IsLaidOut, LaysOut}
 use Rattle.ring_fixed.proofs.LaysOut.{LaysOut-items, slice_get_some}
-use Rattle.ring_fixed.proofs.SlotsHold.{wrap}
-
--- a count from a later place is so many more from this one
-from_count : (start k j size : ℕ) → start < size → k ≤ size → ((start + k) % size + j) % size ≡ (start + (k + j)) % size
-from_count start k j size within low =
-    elim (wrap start k size within low) [
-      | inl a ↦ ap (λ n. (n + j) % size) a.1 ∙ ap (λ n. n % size) {x = start + k + j} {y = start + (k + j)} (omega arith)
-      | inr a ↦ ap (λ n. (n + j) % size) a.1 ∙ ap (λ n. n % size) {x = start + k - size + j} {y = start + (k + j) - size} (omega arith) ∙ sym (mod-eq-sub-mod (omega arith))
-    ]
+use Rattle.ring_fixed.proofs.SlotsHold.{count_on, wrap}
 
 module _ {X : Type 0} {P : ℕ → Type 0} (s : Slots X) (start : ℕ) (laid_out : IsLaidOut P s start) (from to room : ℕ)
     (order : from ≤ to) (within : to ≤ length (items_from s.slots start)) (left : room ≡ length s.slots - start) where
@@ -60,27 +52,17 @@ module _ {X : Type 0} {P : ℕ → Type 0} (s : Slots X) (start : ℕ) (laid_out
 
       -- and every other slot is as it was
       kept_at : (j : ℕ) → j < size → (j < from) ⊎ (to ≤ j) → slot_at new ((start + j) % size) ≡ slice_get items j
-      kept_at j low (inl early) =
+      kept_at j low other =
           let starts = laid_out.start_within in let place = (start + j) % size in
-          elim (wrap start j size starts (omega arith)) [ inl a ↦ second.behind place (omega arith) ∙ first.before place (omega arith) | inr a ↦ second.before place (omega arith) ∙ first.before place (omega arith) ]
-          ∙ laid_out.layout j low
-      kept_at j low (inr late) =
-          let starts = laid_out.start_within in let place = (start + j) % size in
-          elim (wrap start j size starts (omega arith)) [ inl a ↦ second.behind place (omega arith) ∙ first.behind place (omega arith) | inr a ↦ second.behind place (omega arith) ∙ first.before place (omega arith) ]
-          ∙ laid_out.layout j low
+          let same : slot_at new place ≡ slot_at s place = elim (wrap start j size starts (omega arith)) [ inl a ↦ grind (arith, first.before, first.behind, second.behind) | inr a ↦ grind (arith, first.before, second.before, second.behind) ] in
+          same ∙ laid_out.layout j low
 
       -- the items before the index stay, where those up to the last are dropped
       kept : to ≡ length items → SlotsHold new.slots start (take from items)
       kept all j low =
           let low' : j < size = rw same_size at low in
-          let past : from ≤ j → slice_get (take from items) j ≡ None = λ after. slice_get_past (take from items) j (omega (arith, length-take from items)) in
-          rw same_size (elim (dec_lt j from) [
-            | yes low ↦ kept_at j low' (inl low) ∙ sym (slice_get-take from j items low)
-            | no after ↦ elim (dec_lt j to) [
-              | yes low ↦ emptied_at j low' (omega arith) low ∙ sym (past (omega arith))
-              | no above ↦ kept_at j low' (inr (omega arith)) ∙ slice_get_past items j (omega arith) ∙ sym (past (omega arith))
-            ]
-          ])
+          let early = λ (low : j < from). kept_at j low' (inl low) in let late = λ (above : to ≤ j). kept_at j low' (inr above) in
+          rw same_size (grind (arith, early, late, emptied_at j, slice_get-take, slice_get_past, length-take))
 
       pub LaysOut-truncate : to ≡ length items → LaysOut P s new start (after_truncate from (view_from s start))
       LaysOut-truncate all =
@@ -92,14 +74,11 @@ module _ {X : Type 0} {P : ℕ → Type 0} (s : Slots X) (start : ℕ) (laid_out
       behind none j low =
           let low' : j < size = rw same_size at low in
           let fit = laid_out.fit in
-          let here = ap (λ p. slot_at new p) (from_count start to j size laid_out.start_within (omega arith)) in
+          let here = ap (λ p. slot_at new p) (count_on start to j (to + j) size refl) in
           rw same_size (here ∙ elim (dec_lt (to + j) size) [
             | yes more ↦ kept_at (to + j) more (inr (omega arith)) ∙ sym (slice_get-drop to j items)
-            | no round ↦ let far : (start + (to + j)) % size ≡ (start + (to + j - size)) % size =
-                mod-eq-sub-mod (omega arith) ∙ ap (λ n. n % size) {x = start + (to + j) - size} {y = start + (to + j - size)} (omega arith) in
-                ap (λ p. slot_at new p) far
-                ∙ emptied_at (to + j - size) (omega arith) (omega arith) (omega arith)
-                ∙ sym (slice_get_past (drop to items) j (omega (arith, length-drop to items)))
+            | no round ↦ let far = count_on start size (to + j - size) (to + j) size (omega arith) in let once = ap (λ n. (n + (to + j - size)) % size) (add-mod_right start size) in
+                grind (arith, far, once, mod-eq_of_lt, emptied_at (to + j - size), slice_get_past, length-drop)
           ])
 
       pub LaysOut-takes : from ≡ 0 → LaysOut P s new ((start + to) % size) (after_takes to (view_from s start))

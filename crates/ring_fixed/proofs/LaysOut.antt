@@ -1,15 +1,15 @@
 -- What the inner steps of a ring do to what it shows.
-use Rattle.std.proofs.Common.{◌≡◌, ℕ, suc, ◌+◌, ◌-◌, ◌%◌, ◌<◌, ◌≤◌, List, [], ◌∷◌, ◌++◌, drop, length, take, Option, None, Some, refl, sym, ap, ◌∙◌, arith, get_or, replicate, ext_get_or, length-set, length-append}
+use Rattle.std.proofs.Common.{◌≡◌, ℕ, ◌+◌, ◌-◌, ◌%◌, ◌<◌, ◌≤◌, List, [], ◌∷◌, ◌++◌, drop, length, take, Option, None, Some, refl, sym, ap, ◌∙◌, arith, get_or, replicate, length-set, length-append}
 use Rattle.std.specs.Prelude.{slice_get, min, IsSome}
 use Rattle.std.proofs.Math.ListN.{set}
 use Rattle.std.proofs.Math.Nat.{mod-eq_of_lt, mod-lt}
 use Rattle.std.proofs.lemmas.Grind.{common_steps}
-use Rattle.std.proofs.lemmas.List.{get_or-replicate, length-replicate, length-take}
+use Rattle.std.proofs.lemmas.List.{get_or-replicate, length-drop, length-replicate, length-take}
 use Rattle.std.proofs.lemmas.Option.{slice_get_cases, slice_get_past}
 use Rattle.ring_slots.specs.Slots.{Slots, slot_at, IsEmptyAt, IsFullAt, changed}
 use Rattle.ring_fixed.specs.View.{View, after_pop, after_put, after_take, after_write}
 use Rattle.ring_fixed.specs.Layout.{SlotsHold, items_from, view_from, IsLaidOut, LaysOut}
-use Rattle.ring_fixed.proofs.SlotsHold.{items_from-SlotsHold, SlotsHold-pop, SlotsHold-put, SlotsHold-take, SlotsHold-write, SlotsHold-none, from_next}
+use Rattle.ring_fixed.proofs.SlotsHold.{items_from-SlotsHold, SlotsHold-pop, SlotsHold-put, SlotsHold-take, SlotsHold-write, SlotsHold-none, SlotsHold-same, count_on}
 
 -- there is an item at an index below the length
 pub slice_get_some : {A : Type 0} (xs : List A) (k : ℕ) → k < length xs → IsSome (slice_get xs k)
@@ -36,8 +36,7 @@ module _ {X : Type 0} {P : ℕ → Type 0} (s : Slots X) (start : ℕ) (laid_out
   pub first_held : slot_at s start ≡ slice_get (items_from s.slots start) 0
   first_held =
       let within = laid_out.start_within in
-      let here : (start + 0) % length s.slots ≡ start = ap (λ n. n % length s.slots) {x = start + 0} {y = start} (omega arith) ∙ mod-eq_of_lt within in
-      sym (ap (λ place. slot_at s place) here) ∙ laid_out.layout 0 (omega arith)
+      let held = laid_out.layout 0 in grind (arith, held, mod-eq_of_lt)
 
   -- where there is an item, the start holds one
   pub first_full : 0 < length (items_from s.slots start) → IsFullAt s start
@@ -70,23 +69,17 @@ module _ {X : Type 0} {P : ℕ → Type 0} (s : Slots X) (start : ℕ) (laid_out
       let before : length items - 1 ≡ last = omega arith in let one : s.changes + min (length items) 1 ≡ s.changes + 1 = omega arith in
       rw (is, found, before, one) (LaysOut-items (changed s ((start + last) % length s.slots) None) start (take last items) (length-set s.slots _ None) laid_out.start_within (omega (arith, length-take last items)) lie)
 
-  -- the first of some items is taken
-  first_taken : (xs : List X) → SlotsHold s.slots start xs → length xs ≤ length s.slots → 0 < length xs
-      → LaysOut P s (changed s start None) ((start + 1) % length s.slots) (record { items = drop 1 xs; changes = s.changes + min (length xs) 1; capacity = length s.slots })
-  first_taken [] lie fit some = absurd (omega arith)
-  first_taken (x ∷ xs) lie fit some =
-      let one : s.changes + 1 ≡ s.changes + min (length (x ∷ xs)) 1 = omega arith in
-      rw (sym one) (LaysOut-items (changed s start None) ((start + 1) % length s.slots) xs (length-set s.slots start None) (mod-lt (start + 1) (omega arith)) (omega arith)
-      (SlotsHold-take s.slots start laid_out.start_within x xs lie (omega arith)))
-
+  -- the first item is taken
   pub LaysOut-take : (new : Slots X) (next : ℕ) → 0 < length (items_from s.slots start) → next ≡ (start + 1) % length s.slots → new ≡ changed s start None
       → LaysOut P s new next (after_take (view_from s start))
-  LaysOut-take new next some found is = rw (is, found) (first_taken (items_from s.slots start) laid_out.layout laid_out.fit some)
+  LaysOut-take new next some found is =
+      let items = items_from s.slots start in let fit = laid_out.fit in let one : s.changes + min (length items) 1 ≡ s.changes + 1 = omega arith in
+      let lie = SlotsHold-take s.slots start laid_out.start_within items laid_out.layout fit in
+      rw (is, found, one) (LaysOut-items (changed s start None) ((start + 1) % length s.slots) (drop 1 items) (length-set s.slots start None) (mod-lt (start + 1) (omega arith)) (omega (arith, length-drop 1 items)) lie)
 
   -- the place after the last, seen from the start or from the next
   pub same_place : (len : ℕ) → 0 < len → len ≤ length s.slots → (start + len) % length s.slots ≡ ((start + 1) % length s.slots + (len - 1)) % length s.slots
-  same_place len some fit =
-      ap (λ n. (start + n) % length s.slots) {x = len} {y = suc (len - 1)} (omega arith) ∙ sym (from_next start (len - 1) (length s.slots) laid_out.start_within (omega arith))
+  same_place len some fit = sym (count_on start 1 (len - 1) len (length s.slots) (omega arith))
 
   -- past the last item the slots are empty
   pub past_empty : (place : ℕ) → length (items_from s.slots start) < length s.slots → place ≡ (start + length (items_from s.slots start)) % length s.slots → IsEmptyAt s place
@@ -123,6 +116,5 @@ restart old new start v b none =
 pub all_empty : {X : Type 0} {P : ℕ → Type 0} (s : Slots X) (start : ℕ) → IsLaidOut P s start → items_from s.slots start ≡ [] → s.slots ≡ replicate (length s.slots) None
 all_empty s start laid_out none =
     let size = length s.slots in
-    let first = SlotsHold-none s.slots start laid_out.start_within (rw none at laid_out.layout) 0 in
-    ext_get_or None s.slots (replicate size None) (sym (length-replicate size None)) λ k low.
-    ap (λ place. get_or s.slots place None) {x = k} {y = (0 + k) % size} (sym (ap (λ n. n % size) {x = 0 + k} {y = k} (omega arith) ∙ mod-eq_of_lt low)) ∙ first k low ∙ sym (get_or-replicate size k None None low)
+    let long = length-replicate size None in
+    SlotsHold-same s.slots start laid_out.start_within (replicate size None) [] (rw none at laid_out.layout) (none_held (replicate size None) start (rw long refl)) long

@@ -1,5 +1,5 @@
 -- What steps repeated come to.
-use Rattle.std.proofs.Common.{◌≡◌, ℕ, suc, ◌+◌, ◌-◌, ◌<◌, ◌≤◌, List, Some, ap, sym, ◌∙◌, [], ◌∷◌, ◌++◌, length, take, drop, refl, arith, append_assoc, append-nil, length-append, length-drop}
+use Rattle.std.proofs.Common.{◌≡◌, ℕ, suc, ◌+◌, ◌-◌, ◌<◌, ◌≤◌, List, Some, ap, sym, ◌∙◌, [], ◌∷◌, ◌++◌, length, take, refl, arith, append_assoc, append-nil, length-append, length-drop}
 use Rattle.std.specs.Prelude.{min, option_to_list, slice_get}
 use Rattle.std.proofs.Math.Decide.{dec_lt}
 use Rattle.std.proofs.Math.Seq.{drop-append-add, drop-length}
@@ -32,15 +32,11 @@ module _ {X : Type 0} where
       let one : v.changes + 1 + (length v.items + 1 - capacity) ≡ v.changes + 1 = omega arith in
       rw (none, one) refl
 
-  first_dropped : (xs : List X) (x : X) → 0 < length xs → drop 1 (xs ++ x ∷ []) ≡ drop 1 xs ++ x ∷ []
-  first_dropped [] x some = absurd (omega arith)
-  first_dropped (y ∷ ys) x some = refl
-
   pub after_push-full : (capacity : ℕ) (v : View X) (x : X) → length v.items ≡ capacity → 0 < capacity → after_push capacity v x ≡ after_put (after_take v) x
   after_push-full capacity v x full some =
       let one : length (v.items ++ x ∷ []) - capacity ≡ 1 = omega (arith, length-append v.items (x ∷ [])) in
       let twice : v.changes + 1 + (length v.items + 1 - capacity) ≡ v.changes + min (length v.items) 1 + 1 = omega arith in
-      rw (one, twice, first_dropped v.items x (omega arith)) refl
+      rw (one, twice, drop-append-le 1 v.items (x ∷ []) (omega arith)) refl
 
   pub after_push-within : (capacity : ℕ) (v : View X) (x : X) → length (after_push capacity v x).items ≤ capacity
   after_push-within capacity v x = omega (arith, length-drop (length (v.items ++ x ∷ []) - capacity) (v.items ++ x ∷ []))
@@ -56,8 +52,7 @@ module _ {X : Type 0} where
   pub after_extend-more : (capacity : ℕ) (v : View X) (ys : List X) (y : X) → after_push capacity (after_extend capacity v ys) y ≡ after_extend capacity v (ys ++ y ∷ [])
   after_extend-more capacity v ys y =
       let all = v.items ++ ys in
-      let items : keep_last (Some capacity) (keep_last (Some capacity) all ++ y ∷ []) ≡ keep_last (Some capacity) (v.items ++ (ys ++ y ∷ [])) =
-      keep_last-keep_last (Some capacity) all (y ∷ []) ∙ ap (keep_last (Some capacity)) (append_assoc v.items ys (y ∷ [])) in
+      let items = keep_last-keep_last (Some capacity) all (y ∷ []) ∙ ap (keep_last (Some capacity)) (append_assoc v.items ys (y ∷ [])) in
       let changes : (after_push capacity (after_extend capacity v ys) y).changes ≡ (after_extend capacity v (ys ++ y ∷ [])).changes =
       omega (arith, length-drop (length all - capacity) all, length-append v.items ys, length-append ys (y ∷ [])) in
       λ i. record { items = items i; changes = changes i; capacity = v.capacity }

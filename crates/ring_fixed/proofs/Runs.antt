@@ -1,5 +1,5 @@
 -- The items of a ring are two runs of full slots: those up to the last slot, and those that go on at the first.
-use Rattle.std.proofs.Common.{◌≡◌, ℕ, zero, suc, ◌+◌, ◌-◌, ◌%◌, ◌<◌, ◌≤◌, List, [], ◌∷◌, ◌++◌, length, map, take, drop, get_or, Option, None, Some, inl, inr, refl, sym, ap, ◌∙◌, arith}
+use Rattle.std.proofs.Common.{◌≡◌, ℕ, zero, suc, ◌+◌, ◌-◌, ◌<◌, ◌≤◌, List, [], ◌∷◌, ◌++◌, length, map, take, drop, get_or, Option, None, Some, refl, sym, ap, ◌∙◌, arith}
 use Rattle.std.specs.Prelude.{slice_get, min}
 use Rattle.std.proofs.Math.Nat.{mod-eq_of_lt}
 use Rattle.std.proofs.lemmas.List.{ext_get_or, get_or-take, get_or-drop, length-map, length-take, length-drop, take-append-drop}
@@ -10,7 +10,7 @@ use Rattle.ring_fixed.specs.Somes.{somes}
 use Rattle.ring_fixed.proofs.SlotsHold.{wrap}
 
 module _ {X : Type 0} where
-  get_or-map_some : (xs : List X) (k : ℕ) → get_or (map Some xs) k None ≡ slice_get xs k
+  pub get_or-map_some : (xs : List X) (k : ℕ) → get_or (map Some xs) k None ≡ slice_get xs k
   get_or-map_some [] k = refl
   get_or-map_some (x ∷ xs) zero = refl
   get_or-map_some (x ∷ xs) (suc k) = get_or-map_some xs k
@@ -19,11 +19,8 @@ module _ {X : Type 0} where
   run_of : (cs : List (Option X)) (from : ℕ) (xs : List X) → from + length xs ≤ length cs → ((k : ℕ) → k < length xs → get_or cs (from + k) None ≡ slice_get xs k)
       → take (length xs) (drop from cs) ≡ map Some xs
   run_of cs from xs fit reads =
-      let n = length xs in
-      let part = take n (drop from cs) in
-      let long : length part ≡ n = omega (arith, length-take n (drop from cs), length-drop from cs) in
-      ext_get_or None part (map Some xs) (omega (arith, length-map xs Some)) (λ k low.
-      get_or-take n (drop from cs) k None (omega arith) ∙ get_or-drop from cs k None ∙ reads k (omega arith) ∙ sym (get_or-map_some xs k))
+      let part = take (length xs) (drop from cs) in let long : length part ≡ length xs = omega (arith, length-take (length xs) (drop from cs), length-drop from cs) in
+      ext_get_or None part (map Some xs) (omega (arith, length-map xs Some)) (λ k low. grind (arith, reads k, get_or-take, get_or-drop, get_or-map_some))
 
   somes-map : (xs : List X) → somes (map Some xs) ≡ xs
   somes-map [] = refl
@@ -43,20 +40,15 @@ module _ {X : Type 0} {P : ℕ → Type 0} (s : Slots X) (start : ℕ) (laid_out
       let within = laid_out.start_within in
       let xs = take first items in
       let long : length xs ≡ first = omega (arith, length-take first items) in
-      let reads = λ (k : ℕ) (low : k < length xs).
-      let near : start + k < length s.slots = omega arith in
-      ap (λ place. get_or s.slots place None) (sym (mod-eq_of_lt near)) ∙ laid_out.layout k (omega arith) ∙ sym (slice_get-take first k items (omega arith)) in
-      (omega arith, (xs, rw long at (run_of s.slots start xs (omega arith) reads)))
+      (omega arith, (xs, rw long at (run_of s.slots start xs (omega arith) (λ k low. grind (arith, laid_out.layout k, mod-eq_of_lt, slice_get-take)))))
 
   pub second_run : IsFullRun s.slots 0 (len - first)
   second_run =
       let within = laid_out.start_within in let fit = laid_out.fit in
       let xs = drop first items in
       let long : length xs ≡ len - first = omega (arith, length-drop first items) in
-      let reads = λ (k : ℕ) (low : k < length xs).
-      let round : (start + (first + k)) % length s.slots ≡ 0 + k = elim (wrap start (first + k) (length s.slots) within (omega arith)) [ inl a ↦ omega arith | inr a ↦ omega arith ] in
-      ap (λ place. get_or s.slots place None) (sym round) ∙ laid_out.layout (first + k) (omega arith) ∙ sym (slice_get-drop first k items) in
-      (omega arith, (xs, rw long at (run_of s.slots 0 xs (omega arith) reads)))
+      let round = λ (k : ℕ). wrap start (first + k) (length s.slots) within in
+      (omega arith, (xs, rw long at (run_of s.slots 0 xs (omega arith) (λ k low. grind (arith, laid_out.layout (first + k), round k, slice_get-drop)))))
 
   pub both_runs : (xs ys : List X) → HoldsRun s.slots start first xs → HoldsRun s.slots 0 (len - first) ys → xs ++ ys ≡ items
   unfolding first_run second_run

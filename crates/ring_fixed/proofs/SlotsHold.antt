@@ -1,12 +1,13 @@
 -- What a change of one slot does to the items that lie in the slots.
-use Rattle.std.proofs.Common.{◌≡◌, ◌≢◌, ℕ, zero, suc, ◌+◌, ◌-◌, ◌%◌, ◌<◌, ◌≤◌, ◌⊎◌, inl, inr, List, [], ◌∷◌, ◌++◌, length, take, get_or, ext_get_or, Option, None, Some, refl, sym, ap, ◌∙◌, arith, length-set, get_or-set_same, get_or-set_other}
+use Rattle.std.proofs.Common.{◌≡◌, ◌≢◌, ℕ, zero, suc, ◌+◌, ◌-◌, ◌%◌, ◌<◌, ◌≤◌, ◌⊎◌, inl, inr, List, [], ◌∷◌, ◌++◌, length, take, drop, get_or, ext_get_or, Option, None, Some, refl, sym, ap, ◌∙◌, arith, length-set, get_or-set_same, get_or-set_other}
 use Rattle.std.proofs.Math.ListN.{set}
-use Rattle.std.proofs.Math.Nat.{mod-eq_of_lt, mod-eq-sub-mod, mod-lt}
-use Rattle.std.proofs.Math.Decide.{dec_lt, ℕ_discrete}
+use Rattle.std.proofs.Math.Nat.{add-mod-mod, add-mod_right, mod-add-mod, mod-eq_of_lt, mod-eq-sub-mod, mod-lt}
+use Rattle.std.proofs.Math.Decide.{dec_lt}
 use Rattle.std.proofs.lemmas.Grind.{common_steps}
 use Rattle.std.proofs.lemmas.Option.{slice_get_cases, slice_get_past}
 use Rattle.std.specs.Prelude.{slice_get}
 use Rattle.std.specs.List.{filter_map, range_with_len}
+use Rattle.ring_core.proofs.Items.{slice_get-drop}
 use Rattle.ring_fixed.specs.Layout.{slot_after, SlotsHold, items_from}
 
 -- a place counted round is the sum, less the size where the sum reaches it
@@ -20,38 +21,19 @@ wrap start k size within low =
 
 -- two counts below the size that reach the same place are the same
 same_count : (start j k size : ℕ) → start < size → j < size → k < size → (start + j) % size ≡ (start + k) % size → j ≡ k
-same_count start j k size within low low' same =
-    elim (wrap start j size within (omega arith)) [
-      | inl a ↦ elim (wrap start k size within (omega arith)) [ inl b ↦ omega arith | inr b ↦ omega arith ]
-      | inr a ↦ elim (wrap start k size within (omega arith)) [ inl b ↦ omega arith | inr b ↦ omega arith ]
-    ]
+same_count start j k size within low low' same = grind (arith, wrap start j size within, wrap start k size within)
 
--- a count from the next place is one more from this one
-pub from_next : (start k size : ℕ) → start < size → k < size → ((start + 1) % size + k) % size ≡ (start + suc k) % size
-from_next start k size within low =
-    elim (wrap start 1 size within (omega arith)) [
-      | inl a ↦ ap (λ n. (n + k) % size) a.1 ∙ ap (λ n. n % size) {x = start + 1 + k} {y = start + suc k} (omega arith)
-      | inr a ↦ let back : ((start + 1) % size + k) % size ≡ (start + 1) % size + k = mod-eq_of_lt (omega arith) in
-          elim (wrap start (suc k) size within (omega arith)) [ inl b ↦ omega arith | inr b ↦ omega arith ]
-    ]
+-- a count from a later place is so many more from this one
+pub count_on : (start k j n size : ℕ) → k + j ≡ n → ((start + k) % size + j) % size ≡ (start + n) % size
+count_on start k j n size sum = mod-add-mod (start + k) size j ∙ ap (λ p. p % size) {x = start + k + j} {y = start + n} (omega arith)
 
 module _ {X : Type 0} (slots : List (Option X)) (start : ℕ) (within : start < length slots) where
-  -- no place after the start is the start ..
-  apart : (k : ℕ) → suc k < length slots → (start + suc k) % length slots ≢ start
-  apart k more e = elim (wrap start (suc k) (length slots) within (omega arith)) [ inl a ↦ omega arith | inr a ↦ omega arith ]
-
-  -- .. until the count is once round
-  last_place : (k : ℕ) → k < length slots → (suc k < length slots → ⊥) → (start + suc k) % length slots ≡ start
-  last_place k low last = elim (wrap start (suc k) (length slots) within (omega arith)) [ inl a ↦ omega arith | inr a ↦ omega arith ]
-
   -- each place is counted to from the start
   count_to : (place : ℕ) → place < length slots → (k : ℕ) × (k < length slots) × ((start + k) % length slots ≡ place)
   count_to place here =
       let size = length slots in
-      elim (dec_lt place start) [
-        | yes before ↦ let k : ℕ = place + size - start in (k, omega arith, elim (wrap start k size within (omega arith)) [ inl a ↦ omega arith | inr a ↦ omega arith ])
-        | no after ↦ let k : ℕ = place - start in (k, omega arith, elim (wrap start k size within (omega arith)) [ inl a ↦ omega arith | inr a ↦ omega arith ])
-      ]
+      let far : ℕ = place + (size - start) in
+      (far % size, mod-lt far (omega arith), add-mod-mod start far size ∙ ap (λ n. n % size) {x = start + far} {y = place + size} (omega arith) ∙ add-mod_right place size ∙ mod-eq_of_lt here)
 
   -- where no item lies from one start, none lies from another
   pub SlotsHold-none : SlotsHold slots start [] → (other : ℕ) → SlotsHold slots other []
@@ -70,12 +52,8 @@ module _ {X : Type 0} (slots : List (Option X)) (start : ℕ) (within : start < 
       → SlotsHold (set slots ((start + k) % length slots) slot) start ys
   SlotsHold-set xs ys k slot hold low here others j within' =
       let low' : j < length slots = rw (length-set slots ((start + k) % length slots) slot) at within' in
-      let place = (start + k) % length slots in
-      elim (ℕ_discrete j k) [
-        | yes same ↦ rw (same, length-set slots place slot) (get_or-set_same slots place slot None (mod-lt (start + k) (omega arith)) ∙ sym here)
-        | no other ↦ rw (length-set slots place slot)
-            (get_or-set_other slots place ((start + j) % length slots) slot None (λ e. other (same_count start j k (length slots) within low' low e)) ∙ hold j low' ∙ sym (others j other))
-      ]
+      let held = hold j low' in let same = same_count start j k (length slots) within low' low in let other = others j in
+      rw (length-set slots ((start + k) % length slots) slot) (grind (arith, held, same, other, here, get_or-set_same, get_or-set_other, mod-lt))
 
   -- an item put after the last
   pub SlotsHold-put : (xs : List X) (x : X) → SlotsHold slots start xs → length xs < length slots
@@ -92,29 +70,24 @@ module _ {X : Type 0} (slots : List (Option X)) (start : ℕ) (within : start < 
       → SlotsHold (set slots ((start + last) % length slots) None) start (take last xs)
   SlotsHold-pop xs last hold counted fit = SlotsHold-set xs (take last xs) last None hold (omega arith) (grind (arith, common_steps, slice_get_cases)) (λ j other. grind (arith, common_steps, slice_get_cases))
 
-  -- the first item taken
-  pub SlotsHold-take : (x : X) (xs : List X) → SlotsHold slots start (x ∷ xs) → length xs < length slots
-      → SlotsHold (set slots start None) ((start + 1) % length slots) xs
-  SlotsHold-take x xs lie fit k low =
+  -- the first item taken: no place after the start is the start until the count is once round
+  pub SlotsHold-take : (xs : List X) → SlotsHold slots start xs → length xs ≤ length slots → SlotsHold (set slots start None) ((start + 1) % length slots) (drop 1 xs)
+  SlotsHold-take xs lie fit k low =
       let low' : k < length slots = rw (length-set slots start None) at low in
-      let turned = ap (λ place. get_or (set slots start None) place None) (from_next start k (length slots) within low') in
-      rw (length-set slots start None) (turned ∙ elim (dec_lt (suc k) (length slots)) [
-        | yes more ↦ get_or-set_other slots start ((start + suc k) % length slots) None None (apart k more) ∙ lie (suc k) more
-        | no last ↦ rw (last_place k low' last) (get_or-set_same slots start None None within ∙ sym (slice_get_past xs k (omega arith)))
-      ])
+      let turned = ap (λ place. get_or (set slots start None) place None) (count_on start 1 k (suc k) (length slots) (omega arith)) in
+      let held = lie (suc k) in let round = wrap start (suc k) (length slots) within low' in
+      rw (length-set slots start None) (turned ∙ grind (arith, held, round, get_or-set_other, get_or-set_same, slice_get-drop 1 k xs, slice_get_past))
 
 -- reading once round gives the items that lie there
-items_until : {X : Type 0} (f : ℕ → Option X) (xs : List X) (from count : ℕ) → length xs ≤ count → ((k : ℕ) → k < count → f (from + k) ≡ slice_get xs k)
+items_until : {X : Type 0} (f : ℕ → Option X) (xs : List X) (from count : ℕ) → length xs ≤ count → ((k place : ℕ) → from + k ≡ place → k < count → f place ≡ slice_get xs k)
     → filter_map f (range_with_len from count) ≡ xs
 items_until f [] from zero fit reads = refl
 items_until f (x ∷ xs) from zero fit reads = absurd (omega arith)
 items_until f [] from (suc count) fit reads =
-    let later = λ (k : ℕ) (low : k < count). ap f {x = from + 1 + k} {y = from + suc k} (omega arith) ∙ reads (suc k) (omega arith) in
-    rw (ap f {x = from} {y = from + 0} (omega arith) ∙ reads 0 (omega arith)) (items_until f [] (from + 1) count (omega arith) later)
+    rw (reads 0 from (omega arith) (omega arith)) (items_until f [] (from + 1) count (omega arith) (λ k place at low. reads (suc k) place (omega arith) (omega arith)))
 items_until f (x ∷ xs) from (suc count) fit reads =
-    let later = λ (k : ℕ) (low : k < count). ap f {x = from + 1 + k} {y = from + suc k} (omega arith) ∙ reads (suc k) (omega arith) in
-    rw (ap f {x = from} {y = from + 0} (omega arith) ∙ reads 0 (omega arith)) (ap (λ ys. x ∷ ys) (items_until f xs (from + 1) count (omega arith) later))
+    rw (reads 0 from (omega arith) (omega arith)) (ap (λ ys. x ∷ ys) (items_until f xs (from + 1) count (omega arith) (λ k place at low. reads (suc k) place (omega arith) (omega arith))))
 
 pub items_from-SlotsHold : {X : Type 0} (slots : List (Option X)) (start : ℕ) (xs : List X) → SlotsHold slots start xs → length xs ≤ length slots → items_from slots start ≡ xs
 unfolding items_from
-items_from-SlotsHold slots start xs lie fit = items_until (slot_after slots start) xs 0 (length slots) fit (λ k low. ap (slot_after slots start) {y = k} (omega arith) ∙ lie k low)
+items_from-SlotsHold slots start xs lie fit = items_until (slot_after slots start) xs 0 (length slots) fit (λ k place at low. ap (slot_after slots start) {x = place} {y = k} (omega arith) ∙ lie k low)

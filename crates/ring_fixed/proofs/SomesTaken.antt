@@ -1,5 +1,5 @@
 -- What was pushed out of an array of options.
-use Rattle.std.proofs.Common.{◌≡◌, ℕ, ◌+◌, ◌<◌, List, [], ◌∷◌, ◌++◌, drop, get_or, length, take, Option, None, Some, MatchOption, sym, ap, ◌∙◌, refl, add-one, add-zero, append-nil, append_assoc, arith, length-drop}
+use Rattle.std.proofs.Common.{◌≡◌, ℕ, ◌+◌, ◌<◌, List, [], ◌∷◌, ◌++◌, drop, get_or, length, take, Option, None, Some, MatchOption, ap, ◌∙◌, refl, add-one, append-nil, append_assoc, arith, length-drop}
 use Rattle.std.proofs.lemmas.List.{get_or-drop}
 use Rattle.std.proofs.lemmas.List.Elements.{filter_map-append}
 use Rattle.std.proofs.Math.Seq.{take-suc}
@@ -14,13 +14,10 @@ pub somes_turn : {A : Type 0} (limit : Option ℕ) (old now next : List A) (whol
     → next ≡ keep_last limit (old ++ somes (take (i + 1) whole))
 somes_turn {A = A} limit old now next whole left i o so_far same within at moved =
     let long : i < length whole = omega (arith, ap length same, length-drop i left, length-drop i whole) in
-    let there : get_or whole i o ≡ o = at_start whole ∙ ap (λ l. get_or l 0 o) (sym same) ∙ sym (at_start left) ∙ sym at in
+    let before = get_or-drop i whole 0 o in let now_left = get_or-drop i left 0 o in let there : get_or whole i o ≡ o = grind (arith, before, now_left) in
     let one_more : somes (take (i + 1) whole) ≡ somes (take i whole) ++ somes (o ∷ []) = rw (add-one, take-suc whole i o long, there, filter_map-append) refl in
     rw one_more (turned o moved)
   where
-    at_start : (xs : List (Option A)) → get_or xs i o ≡ get_or (drop i xs) 0 o
-    at_start xs = sym (get_or-drop i xs 0 o ∙ ap (λ k. get_or xs k o) (add-zero i))
-
     turned : (p : Option A) → MatchOption p (next ≡ now) (λ x. next ≡ keep_last limit (now ++ x ∷ [])) → next ≡ keep_last limit (old ++ (somes (take i whole) ++ somes (p ∷ [])))
     turned None stays = rw append-nil (stays ∙ so_far)
     turned (Some x) pushed = pushed ∙ rw (so_far, keep_last-keep_last, append_assoc) refl

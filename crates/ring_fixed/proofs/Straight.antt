@@ -1,12 +1,10 @@
 -- Items that lie side by side in the slots of a ring.
-use Rattle.std.proofs.Common.{◌≡◌, ℕ, zero, suc, ◌+◌, ◌-◌, ◌%◌, ◌<◌, ◌≤◌, List, [], ◌∷◌, ◌++◌, length, map, take, drop, get_or, Option, None, Some, inl, inr, refl, sym, ap, ◌∙◌, arith, length-append, length-drop, length-take, replicate}
-use Rattle.std.specs.Prelude.{nat_le, slice_get, if◌then◌else◌}
+use Rattle.std.proofs.Common.{◌≡◌, ℕ, ◌+◌, ◌-◌, ◌%◌, ◌<◌, ◌≤◌, List, ◌++◌, length, map, take, drop, Option, None, Some, inl, inr, refl, sym, ap, ◌∙◌, arith, length-append, length-drop, length-take, replicate}
+use Rattle.std.specs.Prelude.{nat_le, if◌then◌else◌}
 use Rattle.std.specs.List.{length_refill, refill}
-use Rattle.std.proofs.Math.ListN.{get_or-append}
-use Rattle.std.proofs.Math.Seq.{drop-append-add, drop-append_seam, take-append_seam}
 use Rattle.std.proofs.lemmas.Grind.{common_steps}
-use Rattle.std.proofs.lemmas.List.{drop-append-le, drop-map, get_or-append_right, length-map, length-replicate, map-append, take-append-drop, take-map, take_at}
-use Rattle.std.proofs.lemmas.Option.{slice_get_past}
+use Rattle.std.proofs.lemmas.List.{drop-drop, drop-map, get_or_append_left, get_or-append_right, get_or-replicate, get_or_past, length-map, length-replicate, take-map}
+use Rattle.std.proofs.lemmas.Option.{slice_get_cases, slice_get_past}
 use Rattle.std.proofs.Math.Nat.{mod_self}
 use Rattle.ring_slots.specs.Slots.{Slots, HoldsRun, IsFullRun, refilled}
 use Rattle.ring_fixed.specs.View.{View, after_extend, after_rewrite}
@@ -15,27 +13,10 @@ use Rattle.ring_fixed.specs.declared.fixed.Fixed.{Fixed}
 use Rattle.ring_fixed.specs.fixed.Sound.{view_of, IsSound}
 use Rattle.ring_fixed.specs.slices.Straight.{beside, straight_start, straightened}
 use Rattle.ring_fixed.proofs.LaysOut.{LaysOut-items}
-use Rattle.ring_fixed.proofs.Runs.{run_is}
+use Rattle.ring_fixed.proofs.Runs.{get_or-map_some, run_is}
 use Rattle.ring_fixed.proofs.SlotsHold.{SlotsHold-same, wrap}
 
-abbrev nothing : {X : Type 0} → Option X
-nothing = None
-
-module _ {X : Type 0} where
-  none_at : (n k : ℕ) → get_or (replicate n (nothing {X = X})) k None ≡ None
-  none_at zero k = refl
-  none_at (suc n) zero = refl
-  none_at (suc n) (suc k) = none_at n k
-
-  items_then_none : (xs : List X) (n k : ℕ) → get_or (map Some xs ++ replicate n None) k None ≡ slice_get xs k
-  items_then_none [] n k = none_at n k
-  items_then_none (x ∷ xs) n zero = refl
-  items_then_none (x ∷ xs) n (suc k) = items_then_none xs n k
-
 module _ {X : Type 0} (size start : ℕ) (xs : List X) (fit : start + length xs ≤ size) where
-  abbrev before : List (Option X)
-  before = replicate start None
-
   abbrev behind : List (Option X)
   behind = replicate (size - (start + length xs)) None
 
@@ -43,36 +24,30 @@ module _ {X : Type 0} (size start : ℕ) (xs : List X) (fit : start + length xs 
   row = beside size start xs
 
   pub length-beside : length row ≡ size
-  length-beside = omega (arith, length-append before (map Some xs ++ behind), length-append (map Some xs) behind, length-replicate start (nothing {X = X}), length-replicate (size - (start + length xs)) (nothing {X = X}), length-map xs Some)
+  length-beside = simp (length-append, length-map, length-replicate) (omega arith)
 
   pub SlotsHold-beside : start < size → SlotsHold row start xs
   SlotsHold-beside within k low =
       let long = length-beside in
       elim (wrap start k size within (omega arith)) [
-        | inl a ↦ rw (long, a.1) (get_or-append_right before (map Some xs ++ behind) start (start + k) None (length-replicate start None) (omega arith)
-            ∙ ap (λ n. get_or (map Some xs ++ behind) n None) {x = start + k - start} {y = k} (omega arith) ∙ items_then_none xs (size - (start + length xs)) k)
-        | inr a ↦ rw (long, a.1) (get_or-append before (map Some xs ++ behind) None (start + k - size) (omega (arith, length-replicate start (nothing {X = X})))
-            ∙ none_at start (start + k - size) ∙ sym (slice_get_past xs k (omega arith)))
+        | inl a ↦ rw (long, a.1) (grind (arith, get_or_append_left, get_or-append_right, get_or-replicate, get_or_past, get_or-map_some, length-append, length-map, length-replicate, slice_get_past))
+        | inr a ↦ rw (long, a.1) (grind (arith, common_steps, slice_get_cases))
       ]
 
   from_start : drop start row ≡ map Some xs ++ behind
-  from_start = ap (λ n. drop n row) (sym (length-replicate start (nothing {X = X}))) ∙ drop-append_seam before (map Some xs ++ behind)
-
-  to_end : take (length xs) (map Some xs ++ behind) ≡ map Some xs
-  to_end = ap (λ n. take n (map Some xs ++ behind)) (sym (length-map xs Some)) ∙ take-append_seam (map Some xs) behind
+  from_start = grind (arith, common_steps)
 
   -- they are a run
   pub beside-run : HoldsRun row start (length xs) xs
-  beside-run = rw (from_start, to_end) refl
+  beside-run = rw from_start (grind (arith, common_steps))
 
   -- and with others in their place, as many, they are these side by side
   pub beside-refilled : (ys : List X) → refilled row start (length xs) ys ≡ beside size start (refill (length xs) xs ys)
   beside-refilled ys =
       let n = length xs in let zs = refill n xs ys in
-      let first : take start row ≡ before = ap (λ k. take k row) (sym (length-replicate start (nothing {X = X}))) ∙ take-append_seam before (map Some xs ++ behind) in
-      let last : drop (start + n) row ≡ behind = ap (λ k. drop (k + n) row) (sym (length-replicate start (nothing {X = X}))) ∙ drop-append-add before (map Some xs ++ behind) n
-      ∙ ap (λ k. drop k (map Some xs ++ behind)) (sym (length-map xs Some)) ∙ drop-append_seam (map Some xs) behind in
-      let middle : refill n (map Some xs) (map Some ys) ≡ map Some zs = rw (length-map ys Some, drop-map Some (length ys) xs, sym (map-append Some ys (drop (length ys) xs))) (take-map Some n (ys ++ drop (length ys) xs)) in
+      let first : take start row ≡ replicate start None = grind (arith, common_steps) in
+      let last : drop (start + n) row ≡ behind = rw (← drop-drop, from_start) (grind (arith, common_steps)) in
+      let middle : refill n (map Some xs) (map Some ys) ≡ map Some zs = grind (arith, common_steps, drop-map, take-map) in
       rw (first, beside-run, last, middle, sym (length_refill n xs ys refl)) refl
 
 -- a ring whose items reach no further than the last slot has them side by side
@@ -84,9 +59,7 @@ straight_is s start laid_out fit =
 
 -- items that were turned by so many, turned back
 turned_back : {X : Type 0} (xs : List X) (k : ℕ) → k ≤ length xs → let ys = drop k xs ++ take k xs in drop (length ys - k) ys ++ take (length ys - k) ys ≡ xs
-turned_back xs k low =
-    let last : length (drop k xs ++ take k xs) - k ≡ length (drop k xs) = omega (arith, length-append (drop k xs) (take k xs), length-drop k xs, length-take k xs) in
-    rw (last, drop-append_seam (drop k xs) (take k xs), take-append_seam (drop k xs) (take k xs)) (take-append-drop k xs)
+turned_back xs k low = grind (arith, common_steps)
 
 -- a ring whose items reached beyond the last slot, once those up to it were pushed again
 module _ {X : Type 0} {P : ℕ → Type 0} (old new : Slots X) (start at : ℕ) (laid_out : IsLaidOut P old start) where
@@ -104,12 +77,12 @@ module _ {X : Type 0} {P : ℕ → Type 0} (old new : Slots X) (start at : ℕ) 
     first_slot = let within = laid_out.start_within in to ∙ ap (λ n. n % length old.slots) {x = start + head} {y = length old.slots} (omega arith) ∙ mod_self (length old.slots)
 
     length-turned : length turned ≡ length xs
-    length-turned = omega (arith, length-append (drop head xs) (take head xs), length-drop head xs, length-take head xs)
+    length-turned = simp (length-append, length-drop, length-take) (omega arith)
 
     turned_straight : new.slots ≡ beside (length old.slots) 0 turned
     turned_straight =
-        let cut : length (xs ++ take head xs) - length xs ≡ head = omega (arith, length-append xs (take head xs), length-take head xs) in
-        let shown : items_from new.slots 0 ≡ turned = rw (first_slot, cut, drop-append-le head xs (take head xs) beyond) at (ap (λ (v : View X). v.items) after.shows) in
+        let all = xs ++ take head xs in let rest : drop (length all - length xs) all ≡ turned = grind (arith, common_steps) in
+        let shown : items_from new.slots 0 ≡ turned = rw (first_slot, rest) at (ap (λ (v : View X). v.items) after.shows) in
         let fit = laid_out.fit in
         rw (after.same_size, shown) at (straight_is new 0 (rw first_slot at after.laid_out) (omega (arith, ap (λ (l : List X). length l) shown, length-turned, after.same_size)))
 
@@ -125,28 +98,21 @@ module _ {X : Type 0} {P : ℕ → Type 0} (old new : Slots X) (start at : ℕ) 
         let fit = laid_out.fit in
         let same : ys ≡ turned = run_is new.slots 0 (length xs) ys turned holds turned_holds in
         let again : back ≡ xs = rw same at is ∙ turned_back xs head beyond in
-        let all : refill (length turned) turned xs ≡ xs = take_at xs (drop (length xs) turned) (length turned) (sym length-turned) in
+        let all : refill (length turned) turned xs ≡ xs = grind (arith, common_steps, length-turned) in
         let row = beside (length old.slots) 0 turned in
         rw (again, turned_straight, first_slot) (ap (λ n. refilled row 0 n xs) (sym length-turned) ∙ beside-refilled (length old.slots) 0 turned (omega (arith, length-turned)) xs ∙ ap (beside (length old.slots) 0) all)
 
--- the items end with the last slot at most
-pub straight_fits : (start len size : ℕ) → len ≤ size → (if nat_le (start + len) size then start else 0) + len ≤ size
-straight_fits start len size low = grind (arith, common_steps)
-
-straight_within : (start len size : ℕ) → start < size → (if nat_le (start + len) size then start else 0) < size
-straight_within start len size low = grind (arith, common_steps)
+-- the items begin with one of the slots, and end with the last at most
+pub straight_fits : (start len size : ℕ) → start < size → len ≤ size → let at = if nat_le (start + len) size then start else 0 in (at < size) × (at + len ≤ size)
+straight_fits start len size within low = (grind (arith, common_steps), grind (arith, common_steps))
 
 -- a ring whose items were written side by side shows them
 module _ {X : Type 0} {P : ℕ → Type 0} (f : Fixed X (Slots X)) (sound : IsSound (λ s. s) P f) (ys : List X) where
-  abbrev shown : List X
-  shown = refill f.len (items_from f.slots.slots f.start) ys
-
   pub rewritten : LaysOut P f.slots (straightened f ys).slots (straight_start f) (after_rewrite (view_of (λ s. s) f) ys)
   rewritten =
-      let size = length f.slots.slots in let enough = sound.0.fit in let from = sound.0.start_within in let start = straight_start f in
-      let long : length shown ≡ f.len = sym (length_refill f.len (items_from f.slots.slots f.start) ys sound.1) in
-      let fit : start + length shown ≤ size = rw long (straight_fits f.start f.len size (omega (arith, sound.1))) in
-      let within : start < size = straight_within f.start f.len size from in
+      let size = length f.slots.slots in let enough = sound.0.fit in let start = straight_start f in
+      let shown = refill f.len (items_from f.slots.slots f.start) ys in let long = length_refill f.len (items_from f.slots.slots f.start) ys sound.1 in
+      let (within, ends) = straight_fits f.start f.len size sound.0.start_within (omega (arith, sound.1)) in let fit : start + length shown ≤ size = omega (arith, long, ends) in
       rw (sym sound.1) (LaysOut-items f.slots f.start sound.0 (straightened f ys).slots start shown (length-beside size start shown fit) within (omega arith) (SlotsHold-beside size start shown fit within))
 
   pub rewritten_sound : IsSound (λ s. s) P (straightened f ys)

@@ -1,5 +1,6 @@
 -- What a source gave in two parts, and what a vector holds that was filled by calls.
-use Rattle.std.proofs.Common.{◌≡◌, ℕ, zero, suc, ◌<◌, List, [], ◌∷◌, ◌++◌, take, Option, Some, refl, sym, ap, subst, ◌∙◌, arith}
+use Rattle.std.proofs.Common.{◌≡◌, ℕ, ◌<◌, List, [], ◌∷◌, ◌++◌, take, Option, Some, sym, ap, subst, ◌∙◌, arith}
+use Rattle.std.proofs.Math.Seq.{take-nil}
 use Rattle.std.specs.Prelude.{Result, Ok, Err, OnOk, OnErr, MatchResult}
 use Rattle.std.specs.Iterator.{Yields, YieldsThen, Drains}
 use Rattle.std.specs.List.{AppendsResults, FoldsTo}
@@ -19,14 +20,10 @@ module _ {S A : Type 0} (steps : S → Option A → S → Type 0) where
   both_parts s u xs ys x (Err e) first later =
       let part = later.2 in (later.0, later.1, (part.0, yields_on s first.0 u part.0 xs x ys first.1 first.2 part.1, part.2))
 
-take_none : {A : Type 0} (n : ℕ) → take {A = A} n [] ≡ []
-take_none zero = refl
-take_none (suc n) = refl
-
 -- what was empty and is filled by calls holds their answers
 pub filled_by : {F X E : Type 0} (step : F → X → F → Type 0) (r : Result (Unit {0}) E) (old new : List X) (n room : ℕ) (f : F) → old ≡ [] → n ≡ room
     → OnOk r (AppendsResults step (take n old) new f) → OnErr r (room < n) → (last : F) × FoldsTo step f new last
 filled_by step (Ok done) old new n room f none all made full =
-    let is : new ≡ made.0 = made.2 ∙ ap (λ (l : List _). take n l ++ made.0) none ∙ ap (λ (l : List _). l ++ made.0) (take_none n) in
+    let is : new ≡ made.0 = made.2 ∙ ap (λ (l : List _). take n l ++ made.0) none ∙ ap (λ (l : List _). l ++ made.0) (take-nil n) in
     (made.1, subst (λ (l : List _). FoldsTo step f l made.1) (sym is) made.3)
 filled_by step (Err e) old new n room f none all made full = absurd (omega (arith, full, all))

@@ -177,6 +177,7 @@ impl<T: Drop, const CAP: usize> RingBuffer<T> for ConstGenericRingBuffer<T, CAP>
 impl<T: Drop, const CAP: usize> ConstGenericRingBuffer<T, CAP> {
     /// Takes out the newest item, if there is one.
     #[inline]
+    #[tactic(auto, using(ring_fixed::proofs::RepeatedSteps::last_behind))]
     pub fn pop_back(&mut self) -> Option<T>
         ensures items { self.old.items ≡ self.new.items ++ option_to_list result }
         ensures value { result ≡ slice_get self.old.items (length self.old.items - 1) }

@@ -243,6 +243,7 @@ impl<T: Drop> RingBuffer<T> for AllocRingBuffer<T> {
 impl<T: Drop> AllocRingBuffer<T> {
     /// Takes out the newest item, if there is one.
     #[inline]
+    #[tactic(auto, using(ring_fixed::proofs::RepeatedSteps::last_behind))]
     pub fn pop_back(&mut self) -> Option<T>
         ensures items { self.old.items ≡ self.new.items ++ option_to_list result }
         ensures value { result ≡ slice_get self.old.items (length self.old.items - 1) }

@@ -1,15 +1,8 @@
-use Rattle.std.proofs.Common.{[], ◌∷◌, ◌++◌, refl, sym, ap, ◌∙◌, append_assoc, append-nil}
+use Rattle.std.proofs.Common.{[], ◌∷◌, ◌++◌, refl, ◌∙◌, append_assoc}
 use Rattle.std.proofs.lemmas.List.{map-append}
-use Rattle.ring_core.specs.Contents.{keep_last}
 use Rattle.std.proofs.lemmas.List.Elements.{AllZip-push}
-use Rattle.ring_core.proofs.Limits.{keep_last-keep_last, keep_last_within}
+use Rattle.ring_core.proofs.Limits.{keep_last-keep_last}
 use Rattle.ring_fixed.proofs.shared.extend_cloned.Goals as goal
-
-pub loop-item-init : goal.loop-item-init
-loop-item-init g c =
-    let limit = g.R.RingBuffer.limit c.args.ring.now in
-    let old = g.R.RingBuffer.contents c.args.ring.now in
-    (refl, ([], tt, sym (ap (keep_last limit) (append-nil old) ∙ keep_last_within limit old c.len-held.ensures.within)))
 
 pub loop-item-preserved : goal.loop-item-preserved
 loop-item-preserved g c =

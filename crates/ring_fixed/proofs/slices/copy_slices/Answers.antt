@@ -1,16 +1,13 @@
-use Rattle.std.proofs.Common.{◌≡◌, ℕ, ◌+◌, ◌<◌, ◌≤◌, ◌++◌, List, length, take, refl, sym, arith, append_assoc, append-nil}
-use Rattle.std.proofs.Math.Decide.{dec_lt}
+use Rattle.std.proofs.Common.{◌≡◌, ℕ, ◌+◌, ◌<◌, ◌≤◌, ◌++◌, List, length, take, refl, sym, arith, append_assoc}
+use Rattle.std.proofs.lemmas.Grind.{common_steps}
 use Rattle.std.proofs.Math.Seq.{take-append-add}
-use Rattle.std.proofs.lemmas.List.{drop-drop, take-append-le, take_all}
+use Rattle.std.proofs.lemmas.List.{drop-drop}
 use Rattle.ring_fixed.proofs.slices.copy_slices.Goals as goal
 
 -- a beginning of two lists is one of the first and one of the second, which is empty unless the first is whole
 both_taken : {A : Type 0} (a b : ℕ) (xs ys : List A) → a ≤ length xs → (a < length xs → b ≡ 0) → take a xs ++ take b ys ≡ take (a + b) (xs ++ ys)
 both_taken a b xs ys low last =
-    elim (dec_lt a (length xs)) [
-      | yes some ↦ let same : a + b ≡ a = omega (arith, last some) in rw (same, last some, take-append-le a xs ys low) (append-nil (take a xs))
-      | no all ↦ let is : a ≡ length xs = omega arith in rw (is, take-append-add xs ys b, take_all (length xs) xs (omega arith)) refl
-    ]
+    grind (arith, common_steps, take-append-add xs ys b)
 
 pub returns-clause-copied : goal.returns-clause-copied
 returns-clause-copied g c =

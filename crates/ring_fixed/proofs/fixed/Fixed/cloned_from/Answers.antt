@@ -12,13 +12,10 @@ use Rattle.ring_fixed.proofs.fixed.Fixed.cloned_from.Goals as goal
 begun : {X : Type 0} {P : ℕ → Type 0} (s : Slots X) (start : ℕ) → IsLaidOut P s start → items_from s.slots start ≡ [] → LaysOut P s s 0 (view_from s start)
 begun s start laid_out none = restart s s start (view_from s start) (record { laid_out = laid_out; same_size = refl; shows = refl }) none
 
-pub put_clones-len-requires-clause-laid_out : goal.put_clones-len-requires-clause-laid_out
-put_clones-len-requires-clause-laid_out g c = (begun _ _ c.requires.sound.0 c.requires.empty).laid_out
-
-pub put_clones-len-requires-clause-len : goal.put_clones-len-requires-clause-len
-put_clones-len-requires-clause-len g c =
-    let shows = (begun _ _ c.requires.sound.0 c.requires.empty).shows in
-    sym (ap (λ (v : View _). length v.items) shows ∙ ap (λ (l : List _). length l) c.requires.empty)
+pub put_clones-len-requires : goal.put_clones-len-requires
+put_clones-len-requires g c =
+    let first = begun _ _ c.requires.sound.0 c.requires.empty in let room = c.requires.room in
+    record { laid_out = first.laid_out; len = sym (ap (λ (v : View _). length v.items) first.shows ∙ ap (λ (l : List _). length l) c.requires.empty); room = omega arith }
 
 -- Clones of a beginning of the first slice.
 pub returns-in-Err : goal.returns-in-Err
@@ -33,11 +30,6 @@ put_clones-len-requires-2-clause-len g c =
     let (ys, of, counted, few, lays_out) = c.put_clones-len.ensures in
     let all = LaysOut-then (after_puts ys) (begun _ _ c.requires.sound.0 c.requires.empty) lays_out in
     omega (arith, counted, ap (λ (v : View _). length v.items) all.shows, length-append (items_from (g.S.RingSlots.seen c.args.self.slots).slots c.args.self.start) ys, ap (λ (l : List _). length l) c.requires.empty)
-
-pub put_clones-len-requires-2-clause-room : goal.put_clones-len-requires-2-clause-room
-put_clones-len-requires-2-clause-room g c =
-    let (ys, of, counted, few, lays_out) = c.put_clones-len.ensures in
-    omega (arith, counted, few, lays_out.same_size, c.requires.room)
 
 pub returns : goal.returns
 returns g c =

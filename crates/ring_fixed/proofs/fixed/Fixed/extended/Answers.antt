@@ -1,7 +1,7 @@
 use Rattle.std.proofs.Common.{rules, arith}
 use Rattle.ring_fixed.specs.View.{after_push}
 use Rattle.ring_fixed.specs.Layout.{view_before, view_from}
-use Rattle.ring_fixed.proofs.Ends.{ends_at, ends_again, ends_then}
+use Rattle.ring_fixed.proofs.Ends.{ends_at, ends_then}
 use Rattle.ring_fixed.proofs.RepeatedSteps.{after_push-within, after_extend-none, after_extend-more}
 use Rattle.ring_fixed.proofs.fixed.Fixed.extended.Goals as goal
 
@@ -12,13 +12,6 @@ loop-item-init g c =
     let within = c.requires.within in let counted = c.requires.sound.1 in
     let begins = ends_at _ _ _ _ c.requires.sound.0 counted c.place_after-end.ensures in
     record { can_next = ready.0; ends = ready.1; lays_out = rw (after_extend-none c.args.given.1 (view_from (g.S.RingSlots.seen c.args.self.slots) c.args.self.start) within) at begins; within = omega arith }
-
--- What was pushed so far ends at the end.
-pub push_before-requires-clause-ends : goal.push_before-requires-clause-ends
-push_before-requires-clause-ends g c = ends_again _ _ _ _ _ c.loop-item.invariant.lays_out
-
-pub push_before-requires-clause-room : goal.push_before-requires-clause-room
-push_before-requires-clause-room g c = rw c.loop-item.invariant.lays_out.lays_out.same_size c.requires.room
 
 -- One more item is pushed.
 pub loop-item-preserved : goal.loop-item-preserved

@@ -1,5 +1,6 @@
-use Rattle.std.proofs.Common.{◌≡◌, ℕ, ◌+◌, ◌-◌, ◌%◌, ◌++◌, drop, ap, sym, ◌∙◌, arith, length, length-append, take-append-drop}
-use Rattle.std.proofs.Math.Nat.{mod-add-mod, mod_self}
+use Rattle.std.proofs.Common.{◌≡◌, ℕ, ◌+◌, ◌-◌, ◌%◌, ◌++◌, drop, ap, refl, sym, ◌∙◌, arith, length, length-append, take-append-drop}
+use Rattle.std.proofs.Math.Nat.{mod_self}
+use Rattle.ring_fixed.proofs.SlotsHold.{count_on}
 use Rattle.ring_fixed.specs.View.{View, after_keep_newest, after_puts}
 use Rattle.ring_fixed.specs.Layout.{view_from}
 use Rattle.ring_fixed.proofs.LaysOut.{LaysOut-then}
@@ -9,8 +10,7 @@ use Rattle.ring_fixed.proofs.fixed.Fixed.extended_from_slice.Goals as goal
 -- behind the last slot the first one follows
 round : (start len end first size : ℕ) → end ≡ (start + len) % size → end + first ≡ size → 0 ≡ (start + (len + first)) % size
 round start len end first size found all =
-    sym (ap (λ n. n % size) {x = start + (len + first)} {y = start + len + first} (omega arith) ∙ sym (mod-add-mod (start + len) size first)
-    ∙ ap (λ p. (p + first) % size) (sym found) ∙ ap (λ n. n % size) all ∙ mod_self size)
+    sym (sym (count_on start len first (len + first) size refl) ∙ ap (λ p. (p + first) % size) (sym found) ∙ ap (λ n. n % size) all ∙ mod_self size)
 
 pub put_copies-requires-2-clause-place : goal.put_copies-requires-2-clause-place
 put_copies-requires-2-clause-place g c =

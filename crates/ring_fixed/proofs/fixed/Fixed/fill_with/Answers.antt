@@ -1,6 +1,6 @@
 use Rattle.std.proofs.Common.{[], ◌∷◌, ◌++◌, arith, of_calls, length-append}
 use Rattle.std.proofs.lemmas.Fn.{FoldsTo-push}
-use Rattle.ring_fixed.specs.View.{after_put, after_puts}
+use Rattle.ring_fixed.specs.View.{after_put}
 use Rattle.ring_fixed.proofs.RepeatedSteps.{after_puts-more}
 use Rattle.ring_fixed.proofs.LaysOut.{LaysOut-then}
 use Rattle.ring_fixed.proofs.fixed.Fixed.fill_with.Goals as goal
@@ -16,11 +16,3 @@ loop-len-preserved g c =
       start = c.loop-len.invariant.start;
       put = (xs ++ x ∷ [], FoldsTo-push _ _ xs _ x _ calls c.make.ensures, omega (arith, length-append xs (x ∷ [])), rw after_puts-more at more);
     }
-
--- The items of before are dropped, and then the answers put.
-pub returns : goal.returns
-returns g c =
-    let (xs, calls, long, lays_out) = c.loop-len.invariant.put in
-    let cleared = rw c.clear.ensures.start at c.clear.ensures.after.0 in
-    let after = LaysOut-then (after_puts xs) cleared lays_out in
-    (xs, c.loop-len.make, calls, omega arith, (rw c.loop-len.invariant.start after, omega arith))

@@ -1,4 +1,4 @@
-use Rattle.std.proofs.Common.{◌<◌, length, sym, arith, ◌∙◌}
+use Rattle.std.proofs.Common.{sym, arith, ◌∙◌}
 use Rattle.ring_fixed.specs.Layout.{view_before}
 use Rattle.ring_fixed.proofs.Ends.{end_empty, full_empty, full_ends, more_ends}
 use Rattle.ring_fixed.proofs.RepeatedSteps.{after_push-full, after_push-room}
@@ -30,5 +30,4 @@ returns-else-len-capacity g c =
     let within = c.requires.within in let room = c.requires.room in let less = c.if-len-capacity.false in let counted = c.requires.ends.counted in
     let put = more_ends _ _ _ c.requires.ends _ _ _ (omega arith) c.next-next.ensures c.put-else-len-capacity.ensures in
     let before = view_before (g.S.RingSlots.seen c.args.slots.now) c.args.end c.args.len in
-    let low : length before.items < c.args.capacity = omega arith in
-    rw (after_push-room c.args.capacity before c.args.item low) put
+    rw (after_push-room c.args.capacity before c.args.item (omega arith)) put

@@ -1,6 +1,6 @@
-use Rattle.std.proofs.Common.{◌≡◌, ℕ, ◌+◌, ◌-◌, ◌%◌, ◌<◌, List, [], ◌∷◌, ◌++◌, Some, suc, length, take, drop, ap, sym, ◌∙◌, arith, length-append, length-drop, length-take}
+use Rattle.std.proofs.Common.{◌≡◌, ℕ, ◌+◌, ◌-◌, ◌%◌, ◌<◌, List, [], ◌∷◌, ◌++◌, Some, suc, length, take, drop, ap, refl, sym, ◌∙◌, arith, length-append, length-drop, length-take}
 use Rattle.std.specs.Prelude.{option_to_list, slice_get}
-use Rattle.std.proofs.Math.Nat.{mod-add-mod}
+use Rattle.ring_fixed.proofs.SlotsHold.{count_on}
 use Rattle.ring_core.proofs.Items.{slice_get-append_left, slice_get-drop, take-suc_get}
 use Rattle.ring_fixed.specs.View.{View, after_put, after_take, after_extend}
 use Rattle.ring_fixed.specs.Layout.{view_from}
@@ -11,10 +11,7 @@ use Rattle.ring_fixed.proofs.fixed.Fixed.turn.Goals as goal
 -- where so many items were pushed again onto a ring that holds no more, the next one is the first
 next_first : {X : Type 0} (xs : List X) (i : ℕ) (x : X) → i < length xs → slice_get (drop (length (xs ++ take i xs) - length xs) (xs ++ take i xs)) 0 ≡ Some x → slice_get xs i ≡ Some x
 next_first xs i x low is =
-    let all = xs ++ take i xs in
-    let cut : length all - length xs ≡ i = omega (arith, length-append xs (take i xs), length-take i xs) in
-    let at : slice_get all i ≡ Some x = ap (λ n. slice_get all n) {x = i} {y = length all - length xs + 0} (omega arith) ∙ sym (slice_get-drop (length all - length xs) 0 all) ∙ is in
-    sym (slice_get-append_left i xs (take i xs) low) ∙ at
+    grind (arith, is, slice_get-drop, slice_get-append_left i xs (take i xs) low, length-append xs (take i xs), length-take)
 
 -- The first item put after the last is pushed again.
 pub loop-preserved : goal.loop-preserved
@@ -29,6 +26,5 @@ loop-preserved g c =
     let is : slice_get v.items i ≡ Some x = next_first v.items i x (omega (arith, c.requires.len)) (rw c.requires.len at first) in
     let next : take (i + 1) v.items ≡ ys ++ x ∷ [] = ap (λ n. take n v.items) {x = i + 1} {y = suc i} (omega arith) ∙ take-suc_get v.items i ∙ ap (λ o. ys ++ option_to_list o) is in
     let pushed = sym (after_push-full len (after_extend len v ys) x full (omega arith)) ∙ after_extend-more len v ys x in
-    let place = (rw size at c.take_from-next.ensures.next) ∙ ap (λ f. (f + 1) % length (g.S.RingSlots.seen c.args.slots.now).slots) inv.0
-    ∙ mod-add-mod (c.args.start + i) (length (g.S.RingSlots.seen c.args.slots.now).slots) 1 ∙ ap (λ n. n % length (g.S.RingSlots.seen c.args.slots.now).slots) {x = c.args.start + i + 1} {y = c.args.start + (i + 1)} (omega arith) in
+    let place = (rw size at c.take_from-next.ensures.next) ∙ ap (λ f. (f + 1) % length (g.S.RingSlots.seen c.args.slots.now).slots) inv.0 ∙ count_on c.args.start i 1 (i + 1) _ refl in
     (place, rw next (rw pushed at turned))

@@ -1,4 +1,4 @@
-use Rattle.std.proofs.Common.{◌≡◌, ◌++◌, [], List, length, refl, sym, subst, append-nil, ◌∙◌}
+use Rattle.std.proofs.Common.{◌≡◌, ◌++◌, [], List, length, refl, sym, append-nil, ◌∙◌}
 use Rattle.std.specs.Prelude.{IfOk, Result, Ok, Err}
 use Rattle.std.specs.List.{AllZip}
 use Rattle.std.proofs.lemmas.Slice.Zip.{AllZip-long}
@@ -10,7 +10,7 @@ use Rattle.ringbuffer.proofs.heap.AllocRingBuffer.from_slice.Goals as goal
 of_one_slice : {X E : Type 0} (is_clone : X → X → Type 0) (xs : List X) (made : Result (View X) E) → IfOk made (λ ring. AllZip is_clone (xs ++ []) ring.items)
     → IfOk made (λ ring. ring.capacity ≡ length xs) → IfOk made (λ ring. ClonesMeet is_clone xs (λ ys. HoldsAll ys ring))
 of_one_slice is_clone xs (Ok ring) clones room =
-    let all = subst (λ l. AllZip is_clone l ring.items) (append-nil xs) clones in (ring.items, all, (refl, room ∙ sym (AllZip-long is_clone xs ring.items all)))
+    let all = rw append-nil at clones in (ring.items, all, (refl, room ∙ sym (AllZip-long is_clone xs ring.items all)))
 of_one_slice is_clone xs (Err e) clones room = tt
 
 pub returns : goal.returns
