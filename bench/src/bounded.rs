@@ -3,6 +3,7 @@
 use crate::pipe;
 use crate::work::{Work, EXTENSION};
 use std::collections::VecDeque;
+use std::hint::black_box;
 
 fn push_one(ring: &mut VecDeque<u64>, capacity: usize, item: u64) {
     if ring.len() == capacity {
@@ -219,7 +220,7 @@ pub fn deque(work: Work, capacity: usize, items: usize) -> u64 {
         Work::Slide => return slide(capacity, items),
         Work::Pipe => return through_pipe(capacity, items),
         Work::Undo => sum = undo(&mut ring, capacity, items),
-        Work::Reextend => (0..rounds).for_each(|_| reextend(&mut ring, capacity)),
+        Work::Reextend => (0..rounds).for_each(|_| reextend(black_box(&mut ring), capacity)),
         Work::Slices => (0..rounds).for_each(|_| sum = sum_slices(&ring, sum)),
         Work::ToVec => (0..rounds).for_each(|_| sum = to_vec(&ring, sum)),
         Work::Equal => {

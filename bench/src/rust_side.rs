@@ -3,6 +3,7 @@
 use crate::pipe;
 use crate::work::{Work, EXTENSION};
 use ringbuffer::{AllocRingBuffer, ConstGenericRingBuffer, GrowableAllocRingBuffer, RingBuffer};
+use std::hint::black_box;
 
 #[inline(never)]
 fn push<R: RingBuffer<u64>>(ring: &mut R, items: usize) {
@@ -211,7 +212,7 @@ fn on_full<R: Own>(mut ring: R, work: Work, capacity: usize, items: usize) -> u6
         Work::Get => (0..rounds).for_each(|_| sum = get(&ring, capacity, sum)),
         Work::Clone => (0..rounds).for_each(|_| sum = clone(&ring, sum)),
         Work::Fill => (0..rounds).for_each(|round| fill(&mut ring, round as u64)),
-        Work::Reextend => (0..rounds).for_each(|_| reextend(&mut ring, capacity)),
+        Work::Reextend => (0..rounds).for_each(|_| reextend(black_box(&mut ring), capacity)),
         // It has no slices.
         Work::Slices => (0..rounds).for_each(|_| sum = walk(&ring, sum)),
         Work::ToVec => (0..rounds).for_each(|_| sum = to_vec(&ring, sum)),

@@ -16,7 +16,7 @@ use ring_core::{
     RingBufferMutIterator,
 };
 use ring_fixed::position::{position, signed_position};
-use ring_fixed::slices::copy_slices;
+use ring_fixed::slices::{copy_slices, same_in_slices};
 use std::alloc::{AllocError, Global};
 use std::collections::VecDeque;
 use std::fmt::{self, Debug, Formatter, Write};
@@ -469,7 +469,8 @@ impl<T: PartialEq> PartialEq for GrowableAllocRingBuffer<T> {
     ghost laws = { lists_per T.laws };
 
     fn eq(&self, other: &Self) -> bool {
-        self.deque == other.deque
+        self.deque.len() == other.deque.len()
+            && same_in_slices(self.deque.as_slices(), other.deque.as_slices())
     }
 }
 

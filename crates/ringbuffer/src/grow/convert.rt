@@ -1,5 +1,5 @@
 //! Growable rings made of other collections. Each function names its source, whose items keep their order.
-ghost use Rattle.std.specs.Prelude.{◌≡◌, All, IfOk, IsSome, chars, string_bytes};
+ghost use Rattle.std.specs.Prelude.{◌≡◌, All, IfOk, IsOk, IsSome, chars, string_bytes};
 ghost use Rattle.std.specs.Iterator.{Drains, IsFiniteIterable};
 ghost use Rattle.std.specs.List.{AllZip};
 ghost use Rattle.ring_fixed.specs.Somes.{somes};
@@ -49,15 +49,14 @@ impl<T: Drop> GrowableAllocRingBuffer<T> {
         Ok(ring)
     }
 
-    /// The items of a vector.
-    ///
-    /// # Errors
-    ///
-    /// Where memory was refused. The items are dropped.
-    pub fn from_vec(alloc: Global, items: Vec<T>) -> Result<Self, AllocError>
-        ensures { IfOk result (λ ring. ring ≡ items.items) }
+    /// The items of a vector, in its memory. It is never refused.
+    pub fn from_vec(_alloc: Global, items: Vec<T>) -> Result<Self, AllocError>
+        ensures ok { IsOk result }
+        ensures items { IfOk result (λ ring. ring ≡ items.items) }
     {
-        Self::from_iter(alloc, items)
+        Ok(GrowableAllocRingBuffer {
+            deque: VecDeque::from(items),
+        })
     }
 
     /// The items of a linked list.
@@ -130,9 +129,7 @@ impl<T: Clone + Drop> GrowableAllocRingBuffer<T> {
     pub fn from_slice(alloc: Global, items: &[T]) -> Result<Self, AllocError>
         ensures { IfOk result (AllZip T.is_clone items.now) }
     {
-        let mut ring = Self::with_capacity(alloc, items.len())?;
-        extend_cloned(&mut ring, items.iter())?;
-        Ok(ring)
+        Self::from_vec(alloc, items.to_vec(alloc)?)
     }
 
     /// As `from_slice`. The slice is as it was.
