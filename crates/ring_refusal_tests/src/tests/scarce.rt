@@ -403,7 +403,6 @@ fn a_refused_heap_ring_drops_its_source(rt: HostRuntime) -> Result<(), AllocErro
 fn a_refused_growable_ring_drops_its_source(rt: HostRuntime) -> Result<(), AllocError> {
     let supply = Supply::new(rt.alloc(), 3)?;
     assert_made_at_last::<Three, GrowableAllocRingBuffer<Counted>>(&rt, &supply)?;
-    assert_made_at_last::<Vec<Counted>, GrowableAllocRingBuffer<Counted>>(&rt, &supply)?;
     assert_made_at_last::<Iterated, GrowableAllocRingBuffer<Counted>>(&rt, &supply)?;
     assert_made_at_last::<LinkedList<Counted>, GrowableAllocRingBuffer<Counted>>(&rt, &supply)?;
     assert_made_at_last::<AllocRingBuffer<Counted>, GrowableAllocRingBuffer<Counted>>(
@@ -433,6 +432,7 @@ fn a_ring_becomes_another_without_memory(rt: HostRuntime) -> Result<(), AllocErr
     assert_made_of_nothing::<AllocRingBuffer<Counted>, ConstGenericRingBuffer<Counted, 3>>(
         &rt, &supply,
     )?;
+    assert_made_of_nothing::<Vec<Counted>, GrowableAllocRingBuffer<Counted>>(&rt, &supply)?;
     assert_made_of_nothing::<VecDeque<Counted>, GrowableAllocRingBuffer<Counted>>(&rt, &supply)
 }
 
