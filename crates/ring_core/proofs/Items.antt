@@ -1,5 +1,5 @@
 -- The items of a list by their places.
-use Rattle.std.proofs.Common.{ℕ, zero, suc, ◌≡◌, ◌+◌, ◌<◌, List, [], ◌∷◌, ◌++◌, length, take, drop, slice_get, Some, refl, ap, arith, zero-add}
+use Rattle.std.proofs.Common.{ℕ, zero, suc, ◌≡◌, ◌+◌, ◌-◌, ◌<◌, List, [], ◌∷◌, ◌++◌, length, take, drop, slice_get, Some, refl, ap, arith, zero-add}
 use Rattle.std.specs.List.{AllZip}
 use Rattle.std.specs.Option.{option_to_list}
 use Rattle.std.proofs.Math.Seq.{take-nil}
@@ -27,6 +27,12 @@ pub slice_get-append_left : {A : Type 0} (n : ℕ) (xs ys : List A) → n < leng
 slice_get-append_left n [] ys within = absurd (omega arith)
 slice_get-append_left zero (x ∷ xs) ys within = refl
 slice_get-append_left (suc n) (x ∷ xs) ys within = slice_get-append_left n xs ys (omega arith)
+
+-- What follows the first items of two lists follows them in the first list, or the rest of them in the second.
+pub drop-append : {A : Type 0} (n : ℕ) (xs ys : List A) → drop n xs ++ drop (n - length xs) ys ≡ drop n (xs ++ ys)
+drop-append zero xs ys = let none : 0 - length xs ≡ 0 = omega arith in rw none refl
+drop-append (suc n) [] ys = let all : suc n - 0 ≡ suc n = omega arith in rw all refl
+drop-append (suc n) (x ∷ xs) ys = let rest : suc n - suc (length xs) ≡ n - length xs = omega arith in rw rest (drop-append n xs ys)
 
 -- two pairs of lists, one behind the other
 pub AllZip-join : {A B : Type 0} (R : A → B → Type 0) (xs xs' : List A) (ys ys' : List B) → AllZip R xs ys → AllZip R xs' ys'

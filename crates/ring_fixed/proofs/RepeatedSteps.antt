@@ -1,12 +1,11 @@
 -- What steps repeated come to.
 use Rattle.std.proofs.Common.{◌≡◌, ℕ, suc, ◌+◌, ◌-◌, ◌<◌, ◌≤◌, List, Some, ap, sym, ◌∙◌, [], ◌∷◌, ◌++◌, length, take, refl, arith, append_assoc, append-nil, length-append, length-drop}
 use Rattle.std.specs.Prelude.{min, option_to_list, slice_get}
-use Rattle.std.proofs.Math.Decide.{dec_lt}
-use Rattle.std.proofs.Math.Seq.{drop-append-add, drop-length}
-use Rattle.std.proofs.lemmas.List.{drop-append-le, take_all}
+use Rattle.std.proofs.Math.Seq.{drop-length}
+use Rattle.std.proofs.lemmas.List.{drop-append-le, drop_min, take_all}
 use Rattle.ring_fixed.specs.View.{View, after_put, after_puts, after_take, after_takes, after_clear, after_push, after_extend, after_extend_from_slice, after_keep_newest}
 use Rattle.ring_core.specs.Contents.{keep_last}
-use Rattle.ring_core.proofs.Items.{take-suc_get}
+use Rattle.ring_core.proofs.Items.{drop-append, take-suc_get}
 use Rattle.ring_core.proofs.Limits.{keep_last-keep_last}
 
 module _ {X : Type 0} where
@@ -60,14 +59,10 @@ module _ {X : Type 0} where
   -- what a limit leaves of two lists: all that fits of the first before what it leaves of the second
   keep_last-append : (n : ℕ) (xs ys : List X) → keep_last (Some (n - length ys)) xs ++ keep_last (Some n) ys ≡ keep_last (Some n) (xs ++ ys)
   keep_last-append n xs ys =
-      elim (dec_lt n (length ys)) [
-        | yes more ↦ let none : length xs - (n - length ys) ≡ length xs = omega arith in
-            let past : length (xs ++ ys) - n ≡ length xs + (length ys - n) = omega (arith, length-append xs ys) in
-            rw (none, past, drop-length xs, drop-append-add xs ys (length ys - n)) refl
-        | no fits ↦ let cut : length (xs ++ ys) - n ≡ length xs - (n - length ys) = omega (arith, length-append xs ys) in
-            let all : length ys - n ≡ 0 = omega arith in
-            rw (cut, all, drop-append-le (length xs - (n - length ys)) xs ys (omega arith)) refl
-      ]
+      let cut = length (xs ++ ys) - n in
+      let front : length xs - (n - length ys) ≡ min cut (length xs) = omega (arith, length-append xs ys) in
+      let back : length ys - n ≡ cut - length xs = omega (arith, length-append xs ys) in
+      rw (front, back, drop_min) (drop-append cut xs ys)
 
   -- a slice pushed: so many items kept that what the limit leaves of it fits, and then that put
   pub after_extend_from_slice-by : (limit : ℕ) (v : View X) (xs newest : List X) → newest ≡ keep_last (Some limit) xs
