@@ -1,5 +1,4 @@
 pub mod EmptiedRuns
-pub mod Ends
 pub mod LaysOut
 pub mod LentItem
 pub mod PutOver
@@ -7,4 +6,5 @@ pub mod RepeatedSteps
 pub mod Runs
 pub mod SlotsHold
 pub mod SomesTaken
+pub mod Sources
 pub mod Straight

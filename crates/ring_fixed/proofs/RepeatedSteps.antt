@@ -21,6 +21,9 @@ module _ {X : Type 0} where
       let sum : v.changes + length xs + length ys ≡ v.changes + length (xs ++ ys) = omega (arith, length-append xs ys) in
       rw (append_assoc v.items xs ys, sum) refl
 
+  pub after_puts-none : (v : View X) → v ≡ after_puts [] v
+  after_puts-none v = let same : v.changes + 0 ≡ v.changes = omega arith in rw (append-nil v.items, same) refl
+
   pub after_puts-more : (xs : List X) (x : X) (v : View X) → after_put (after_puts xs v) x ≡ after_puts (xs ++ x ∷ []) v
   after_puts-more xs x v = after_puts-then xs (x ∷ []) v
 
@@ -40,21 +43,32 @@ module _ {X : Type 0} where
   pub after_push-within : (capacity : ℕ) (v : View X) (x : X) → length (after_push capacity v x).items ≤ capacity
   after_push-within capacity v x = omega (arith, length-drop (length (v.items ++ x ∷ []) - capacity) (v.items ++ x ∷ []))
 
-  -- an extension by nothing
-  pub after_extend-none : (capacity : ℕ) (v : View X) → length v.items ≤ capacity → v ≡ after_extend capacity v []
-  after_extend-none capacity v fits =
-      let none_over : length (v.items ++ []) - capacity ≡ 0 = omega (arith, length-append v.items []) in
-      let same : v.changes + 0 + (length v.items + 0 - capacity) ≡ v.changes = omega arith in
-      rw (none_over, append-nil v.items, same) refl
-
-  -- an extension by one item more
-  pub after_extend-more : (capacity : ℕ) (v : View X) (ys : List X) (y : X) → after_push capacity (after_extend capacity v ys) y ≡ after_extend capacity v (ys ++ y ∷ [])
-  after_extend-more capacity v ys y =
-      let all = v.items ++ ys in
-      let items = keep_last-keep_last (Some capacity) all (y ∷ []) ∙ ap (keep_last (Some capacity)) (append_assoc v.items ys (y ∷ [])) in
-      let changes : (after_push capacity (after_extend capacity v ys) y).changes ≡ (after_extend capacity v (ys ++ y ∷ [])).changes =
-      omega (arith, length-drop (length all - capacity) all, length-append v.items ys, length-append ys (y ∷ [])) in
+  -- one extension, and then another
+  pub after_extend-then : (capacity : ℕ) (v : View X) (xs ys : List X) → after_extend capacity (after_extend capacity v xs) ys ≡ after_extend capacity v (xs ++ ys)
+  after_extend-then capacity v xs ys =
+      let all = v.items ++ xs in
+      let items = keep_last-keep_last (Some capacity) all ys ∙ ap (keep_last (Some capacity)) (append_assoc v.items xs ys) in
+      let changes : (after_extend capacity (after_extend capacity v xs) ys).changes ≡ (after_extend capacity v (xs ++ ys)).changes =
+      omega (arith, length-drop (length all - capacity) all, length-append v.items xs, length-append xs ys) in
       λ i. record { items = items i; changes = changes i; capacity = v.capacity }
+
+  pub after_extend-more : (capacity : ℕ) (v : View X) (ys : List X) (y : X) → after_push capacity (after_extend capacity v ys) y ≡ after_extend capacity v (ys ++ y ∷ [])
+  after_extend-more capacity v ys y = after_extend-then capacity v ys (y ∷ [])
+
+  -- an extension by items that fit
+  pub after_extend-fits : (capacity : ℕ) (v : View X) (xs : List X) → length v.items + length xs ≤ capacity → after_puts xs v ≡ after_extend capacity v xs
+  after_extend-fits capacity v xs fits =
+      let none_over : length (v.items ++ xs) - capacity ≡ 0 = omega (arith, length-append v.items xs) in
+      let none_gave_way : v.changes + length xs + (length v.items + length xs - capacity) ≡ v.changes + length xs = omega arith in
+      rw (none_over, none_gave_way) refl
+
+  pub after_extend-none : (capacity : ℕ) (v : View X) → length v.items ≤ capacity → v ≡ after_extend capacity v []
+  after_extend-none capacity v fits = after_puts-none v ∙ after_extend-fits capacity v [] (omega arith)
+
+  -- a ring that holds as many as it may holds as many after an extension
+  pub after_extend-full : (capacity : ℕ) (v : View X) (ys : List X) → capacity ≡ length v.items → length (after_extend capacity v ys).items ≡ capacity
+  after_extend-full capacity v ys full =
+      let all = v.items ++ ys in omega (arith, full, length-append v.items ys, length-drop (length all - capacity) all)
 
   -- what a limit leaves of two lists: all that fits of the first before what it leaves of the second
   keep_last-append : (n : ℕ) (xs ys : List X) → keep_last (Some (n - length ys)) xs ++ keep_last (Some n) ys ≡ keep_last (Some n) (xs ++ ys)

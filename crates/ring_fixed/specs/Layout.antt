@@ -21,14 +21,6 @@ module _ {X : Type 0} where
   abbrev pub view_from : Slots X → ℕ → View X
   view_from s start = record { items = items_from s.slots start; changes = s.changes; capacity = length s.slots }
 
-  -- where so many items start that end before a place, counted round the slots
-  abbrev pub start_before : Slots X → ℕ → ℕ → ℕ
-  start_before s end len = (end + (length s.slots - len)) % length s.slots
-
-  -- what a ring shows of so many items that end before a place
-  abbrev pub view_before : Slots X → ℕ → ℕ → View X
-  view_before s end len = view_from s (start_before s end len)
-
   -- each slot from a place up to another holds an item
   abbrev pub AreFull : Slots X → ℕ → ℕ → Type 0
   AreFull s from to = (place : ℕ) → from ≤ place → place < to → IsFullAt s place
@@ -54,15 +46,3 @@ module _ {X : Type 0} (is_size : ℕ → Type 0) where
     pub laid_out : IsLaidOut new start
     pub same_size : length new.slots ≡ length old.slots
     pub shows : view_from new start ≡ v
-
-  -- a ring of so many items is laid out in these slots that ends before a place
-  pub record EndsBefore (s : Slots X) (end len : ℕ) : Type 0 where
-    pub laid_out : IsLaidOut s (start_before s end len)
-    pub end_within : end < length s.slots
-    pub counted : len ≡ length (view_before s end len).items
-
-  -- the same of the slots after a call, where they are as many as before and show this
-  pub record LaysOutBefore (old new : Slots X) (end len : ℕ) (v : View X) : Type 0 where
-    pub lays_out : LaysOut old new (start_before new end len) v
-    pub end_within : end < length new.slots
-    pub counted : len ≡ length v.items

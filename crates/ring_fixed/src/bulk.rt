@@ -1,9 +1,10 @@
 //! The calls of a ring of a fixed capacity that put or drop many items.
-ghost use Rattle.std.specs.Prelude.{◌≡◌, ◌+◌, ◌-◌, ◌%◌, ◌<◌, ◌≤◌, [], ◌++◌, All, IsOk, List, MatchResult, length, take};
-ghost use Rattle.std.specs.Iterator.{Drains, IsFiniteIterable};
+ghost use Rattle.std.specs.Prelude.{◌≡◌, ◌+◌, ◌-◌, ◌%◌, ◌<◌, ◌≤◌, [], ◌++◌, All, IsOk, List, MatchResult, length, take, true};
+ghost use Rattle.std.specs.Iterator.{Drains, IsFinite, IsFiniteIterable};
 ghost use Rattle.std.specs.List.{AllZip, FoldsTo};
 ghost use Rattle.ring_fixed.specs.View.{after_put, after_puts, after_takes, after_push, after_extend, after_extend_from_slice, after_truncate, after_keep_newest, after_clear, after_fill};
-ghost use Rattle.ring_fixed.specs.Layout.{AreFull, Empties, EndsBefore, IsLaidOut, LaysOut, LaysOutBefore, start_before, view_before, view_from};
+ghost use Rattle.ring_fixed.specs.Sources.{Gives};
+ghost use Rattle.ring_fixed.specs.Layout.{AreFull, Empties, IsLaidOut, LaysOut, view_from};
 
 use crate::fixed::Fixed;
 use ring_slots::RingSlots;
@@ -231,50 +232,115 @@ impl<T: Drop, S: RingSlots<T>> Fixed<T, S> {
         Self::put_at(slots, 0, len, len, item);
     }
 
-    // Pushes an item onto `len` items that end before a place, which a loop of these needs in place of their start.
-    // Returns the place and the length after it. The item that gives way is dropped.
+    // Pushes the items of a source that ends, in order. Returns the start and the length then. The slots are written run
+    // by run, which the compiler makes a loop with neither a mask nor a comparison of the length.
     #[inline]
-    fn push_before(
+    fn push_all<I: Iterator<Item = T> + Drop>(
         slots: &mut S,
-        end: usize,
+        start: usize,
         len: usize,
-        item: T,
+        mut items: I,
         capacity: usize,
     ) -> (usize, usize)
-        requires ends { EndsBefore S.is_size (S.seen slots.old) end len }
+        requires can_next { I.can_next items }
+        requires ends { IsFinite (I.remaining items) }
+        requires laid_out { IsLaidOut S.is_size (S.seen slots.old) start }
+        requires len { len ≡ length (view_from (S.seen slots.old) start).items }
         requires some { 0 < capacity }
         requires within { len ≤ capacity }
         requires room { capacity ≤ length (S.seen slots.old).slots }
-        ensures { LaysOutBefore S.is_size (S.seen slots.old) (S.seen slots.new) result.0 result.1
-            (after_push capacity (view_before (S.seen slots.old) end len) item) }
+        ensures { (xs : List T) × Drains I.next_gives items xs
+            × LaysOut S.is_size (S.seen slots.old) (S.seen slots.new) result.0
+            (after_extend capacity (view_from (S.seen slots.old) start) xs)
+            × (result.1
+            ≡ length (after_extend capacity (view_from (S.seen slots.old) start) xs).items) }
     {
-        let next = slots.next(end);
-        if len == capacity {
-            let start = Self::start_of(slots, end, len);
-            let (_, old) = Self::take_from(slots, start);
-            slots.put(end, item);
-            drop(old);
-            (next, len)
-        } else {
-            slots.put(end, item);
-            (next, len + 1)
+        let mut len = len;
+        while len != capacity {
+            let more;
+            (len, more) = Self::put_straight(slots, start, len, &mut items, capacity);
+            if !more {
+                return (start, len);
+            }
         }
+        let mut first = start;
+        while let Some(item) = items.next() {
+            let (next, old) = Self::put_over(slots, first, len, item);
+            drop(old);
+            let more;
+            (first, more) = Self::push_straight(slots, next, len, &mut items);
+            if !more {
+                return (first, len);
+            }
+        }
+        (first, len)
     }
 
-    // Where `len` items start that end before a place.
+    // Puts the next items of a source after the last, up to the capacity or the last slot. Returns the length then, and
+    // whether more may come.
     #[inline]
-    fn start_of(slots: &S, end: usize, len: usize) -> usize
-        requires size { S.is_size (length (S.seen slots.now).slots) }
-        requires end { end < length (S.seen slots.now).slots }
-        requires len { len ≤ length (S.seen slots.now).slots }
-        ensures { result ≡ start_before (S.seen slots.now) end len }
+    fn put_straight<I: Iterator<Item = T>>(
+        slots: &mut S,
+        start: usize,
+        len: usize,
+        items: &mut I,
+        capacity: usize,
+    ) -> (usize, bool)
+        requires can_next { I.can_next items.old }
+        requires ends { IsFinite (I.remaining items.old) }
+        requires laid_out { IsLaidOut S.is_size (S.seen slots.old) start }
+        requires len { len ≡ length (view_from (S.seen slots.old) start).items }
+        requires below { len < capacity }
+        requires room { capacity ≤ length (S.seen slots.old).slots }
+        ensures { (xs : List T)
+            × Gives I.can_next I.next_gives I.remaining result.1 items.old xs items.new
+            × (result.1 ≡ true → 0 < length xs) × (result.0 ≡ len + length xs)
+            × (result.0 ≤ capacity)
+            × LaysOut S.is_size (S.seen slots.old) (S.seen slots.new) start
+            (after_puts xs (view_from (S.seen slots.old) start)) }
     {
-        let size = slots.size();
-        if len == size {
-            end
-        } else {
-            slots.place(end, size - len)
+        let end = slots.place(start, len);
+        let count = (capacity - len).min(slots.size() - end);
+        for i in 0..count {
+            let Some(item) = items.next() else {
+                return (len + i, false);
+            };
+            Self::put_at(slots, start, len + i, end + i, item);
         }
+        (len + count, true)
+    }
+
+    // Pushes the next items of a source onto a ring that holds as many as it may, up to the last slot. Returns the start
+    // then, and whether more may come.
+    #[inline]
+    fn push_straight<I: Iterator<Item = T>>(
+        slots: &mut S,
+        start: usize,
+        len: usize,
+        items: &mut I,
+    ) -> (usize, bool)
+        requires can_next { I.can_next items.old }
+        requires ends { IsFinite (I.remaining items.old) }
+        requires laid_out { IsLaidOut S.is_size (S.seen slots.old) start }
+        requires len { len ≡ length (view_from (S.seen slots.old) start).items }
+        requires some { 0 < len }
+        ensures { (xs : List T)
+            × Gives I.can_next I.next_gives I.remaining result.1 items.old xs items.new
+            × LaysOut S.is_size (S.seen slots.old) (S.seen slots.new) result.0
+            (after_extend len (view_from (S.seen slots.old) start) xs) }
+    {
+        let end = slots.place_after(start, len);
+        let count = slots.size() - end;
+        for i in 0..count {
+            let first = slots.place(start, i);
+            let Some(item) = items.next() else {
+                return (first, false);
+            };
+            let (next, old) = Self::take_from(slots, first);
+            Self::put_at(slots, next, len - 1, end + i, item);
+            drop(old);
+        }
+        (slots.place(start, count), true)
     }
 }
 
@@ -283,8 +349,7 @@ impl<T: Drop, S: RingSlots<T>> Fixed<T, S> {
 impl<T: Drop, S: RingSlots<T>> Fixed<T, S> {
     ghost use Rattle.ring_fixed.specs.fixed.Sound.{view_of, IsSound, ChangesTo};
 
-    /// `extend`, counted from the place after the last item. On a ring whose every slot is full that place is the start,
-    /// and a ring in an array does better with `extend`.
+    /// `extend`, run by run. A ring in an array does better with `extend`.
     pub fn extended<I: IntoIterator<Item = T>>(mut self, given: (I, usize)) -> (Self, ())
     where
         I::IntoIter: Drop,
@@ -300,12 +365,14 @@ impl<T: Drop, S: RingSlots<T>> Fixed<T, S> {
             (after_extend given.1 (view_of S.seen self) xs) }
     {
         let (items, capacity) = given;
-        let mut len = self.len;
-        let mut end = self.slots.place_after(self.start, len);
-        for item in items {
-            (end, len) = Self::push_before(&mut self.slots, end, len, item, capacity);
-        }
-        self.start = Self::start_of(&self.slots, end, len);
+        let (start, len) = Self::push_all(
+            &mut self.slots,
+            self.start,
+            self.len,
+            items.into_iter(),
+            capacity,
+        );
+        self.start = start;
         self.len = len;
         (self, ())
     }

@@ -282,7 +282,7 @@ impl<T: Drop, S: RingSlots<T>> Fixed<T, S> {
 
     // Puts an item after the last once the first has given way. Returns the next start and the item that was first.
     #[inline]
-    fn put_over(slots: &mut S, start: usize, len: usize, item: T) -> (usize, T)
+    pub(crate) fn put_over(slots: &mut S, start: usize, len: usize, item: T) -> (usize, T)
         requires laid_out { IsLaidOut S.is_size (S.seen slots.old) start }
         requires len { len ≡ length (view_from (S.seen slots.old) start).items }
         requires some { 0 < len }

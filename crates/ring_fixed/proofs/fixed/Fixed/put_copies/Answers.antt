@@ -1,11 +1,6 @@
-use Rattle.std.proofs.Common.{◌≡◌, ℕ, ◌+◌, ◌%◌, ◌<◌, ap, refl, sym, ◌∙◌, arith}
-use Rattle.std.proofs.Math.Nat.{mod-eq_of_lt}
-use Rattle.ring_fixed.proofs.SlotsHold.{count_on}
+use Rattle.std.proofs.Common.{arith}
+use Rattle.ring_fixed.proofs.SlotsHold.{straight_on}
 use Rattle.ring_fixed.proofs.fixed.Fixed.put_copies.Goals as goal
-
--- a straight way on from the place after so many items
-straight_on : (start len place size i : ℕ) → place ≡ (start + len) % size → place + i < size → place + i ≡ (start + (len + i)) % size
-straight_on start len place size i found low = sym (mod-eq_of_lt low) ∙ ap (λ p. (p + i) % size) found ∙ count_on start len i (len + i) size refl
 
 pub put_at-requires-clause-place : goal.put_at-requires-clause-place
 put_at-requires-clause-place g c =

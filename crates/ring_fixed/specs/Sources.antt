@@ -1,0 +1,8 @@
+-- What a call took from a source of items that it didn't end.
+use Rattle.std.specs.Prelude.{◌≤◌, Bool, List, MatchBool, None, Option}
+use Rattle.std.specs.Iterator.{Count, IsFinite, Yields, YieldsThen, size}
+
+-- the source gave these items, and more may come of it, fewer than before; or no more came
+abbrev pub Gives : {S A : Type 0} → (S → Type 0) → (S → Option A → S → Type 0) → (S → Count) → Bool → S → List A → S → Type 0
+Gives can steps left more s xs t =
+    MatchBool more (Yields steps s xs t × can t × IsFinite (left t) × (size (left t) ≤ size (left s))) (YieldsThen steps s xs None t)
