@@ -1,11 +1,15 @@
 //! The items of a ring over heap slots as slices.
-ghost use Rattle.std.specs.Prelude.{◌≡◌, ◌↔◌, ◌+◌, ◌*◌, ◌++◌, ◌<◌, ◌≤◌, drop, length, min, take};
+ghost use Rattle.std.specs.Prelude.{◌≡◌, ◌↔◌, ◌+◌, ◌-◌, ◌*◌, ◌++◌, ◌<◌, ◌≤◌, IfOk, drop, length, min, take};
 ghost use Rattle.std.specs.Borrow.{sem};
 ghost use Rattle.std.specs.Cmp.Lexicographic.{pointwise};
 ghost use Rattle.std.specs.Int.{IsPowerOfTwo};
+ghost use Rattle.std.specs.List.{AllZip};
+ghost use Rattle.ring_fixed.specs.Layout.{IsLaidOut, items_from};
 
 use crate::fixed::Fixed;
 use ring_slots::{HeapSlots, RingSlots};
+use std::alloc::{AllocError, Global};
+use std::vec::{Vec, VecCloneMethods};
 
 impl<T: Drop> Fixed<T, HeapSlots<T>> {
     ghost use Rattle.ring_fixed.specs.fixed.Sound.{view_of, IsSound};
@@ -58,8 +62,28 @@ impl<T: Drop> Fixed<T, HeapSlots<T>> {
         let head = self.slots.size() - start;
         if head < len {
             let changes = self.slots.changes().after(len).after(len).after(len);
-            self.start = Self::turn(&mut self.slots, start, len, head);
+            Self::begin_at_first(&mut self.slots, start, len);
+            self.start = 0;
             self.slots.run_mut(0, len, changes).rotate_right(head);
+        }
+    }
+
+    // Has the items that lie up to the last slot come after the others, which go on at the first. Where no slot is
+    // empty, they do already.
+    fn begin_at_first(slots: &mut HeapSlots<T>, start: usize, len: usize)
+        requires laid_out { IsLaidOut IsPowerOfTwo slots.old start }
+        requires len { len ≡ length (items_from slots.old.slots start) }
+        requires beyond { length slots.old.slots - start ≤ len }
+        ensures laid_out { IsLaidOut IsPowerOfTwo slots.new 0 }
+        ensures same_size { length slots.new.slots ≡ length slots.old.slots }
+        ensures turned { items_from slots.new.slots 0
+            ≡ drop (length slots.old.slots - start) (items_from slots.old.slots start)
+            ++ take (length slots.old.slots - start) (items_from slots.old.slots start) }
+        ensures counted { slots.new.changes ≤ slots.old.changes + 2 * len }
+    {
+        let size = slots.size();
+        if len < size {
+            Self::turn(slots, start, len, size - start);
         }
     }
 }
@@ -86,6 +110,25 @@ fn copy_slice<T: Copy>(items: &[T], output: &mut [T]) -> usize
     let count = items.len().min(output.len());
     output[..count].copy_from_slice(&items[..count]);
     count
+}
+
+/// Clones of the items of two slices, in order.
+///
+/// # Errors
+///
+/// Where a clone or memory was refused.
+pub fn clone_slices<T: Clone + Drop>(
+    items: (&[T], &[T]),
+    alloc: Global,
+) -> Result<Vec<T>, AllocError>
+    ensures { IfOk result
+        (λ v. AllZip T.is_clone (items.entry.0.now ++ items.entry.1.now) v.items) }
+{
+    let (first, second) = items;
+    let mut clones = Vec::with_capacity(alloc, first.len().saturating_add(second.len()))?;
+    VecCloneMethods::extend_from_slice(&mut clones, first)?;
+    VecCloneMethods::extend_from_slice(&mut clones, second)?;
+    Ok(clones)
 }
 
 /// Whether the items of two slices and the items of two others are equal, place by place.

@@ -16,7 +16,7 @@ use ring_core::{
     RingBufferMutIterator,
 };
 use ring_fixed::position::{position, signed_position};
-use ring_fixed::slices::{copy_slices, same_in_slices};
+use ring_fixed::slices::{clone_slices, copy_slices, same_in_slices};
 use std::alloc::{AllocError, Global};
 use std::collections::VecDeque;
 use std::fmt::{self, Debug, Formatter, Write};
@@ -240,6 +240,13 @@ impl<T: Drop> RingBuffer<T> for GrowableAllocRingBuffer<T> {
         let (items, filled) = clones(self.take_vec(), value);
         self.deque = VecDeque::from_vec(items);
         filled
+    }
+
+    fn to_vec(&self, alloc: Global) -> Result<Vec<T>, AllocError>
+    where
+        T: Clone,
+    {
+        clone_slices(self.deque.as_slices(), alloc)
     }
 
     fn get(&self, index: usize) -> Option<&T> {

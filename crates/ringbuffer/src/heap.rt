@@ -18,13 +18,12 @@ use ring_core::{
     RingBufferMutIterator,
 };
 use ring_fixed::fixed::Fixed;
-use ring_fixed::slices::{copy_slices, same_in_slices};
+use ring_fixed::slices::{clone_slices, copy_slices, same_in_slices};
 use ring_slots::{HeapSlots, RingSlots};
 use std::alloc::{AllocError, Global};
 use std::fmt::{self, Debug, Formatter, Write};
 use std::marker::Model;
 use std::ops::{Index, IndexMut};
-use std::vec::VecCloneMethods;
 
 const GREATEST_POWER_OF_TWO: usize = 1 << (usize::BITS - 1);
 
@@ -202,11 +201,7 @@ impl<T: Drop> RingBuffer<T> for AllocRingBuffer<T> {
     where
         T: Clone,
     {
-        let (first, second) = self.as_slices();
-        let mut items = Vec::with_capacity(alloc, self.len())?;
-        VecCloneMethods::extend_from_slice(&mut items, first)?;
-        VecCloneMethods::extend_from_slice(&mut items, second)?;
-        Ok(items)
+        clone_slices(self.as_slices(), alloc)
     }
 
     fn contains(&self, x: &T) -> bool

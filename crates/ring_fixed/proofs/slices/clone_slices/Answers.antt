@@ -1,7 +1,7 @@
 use Rattle.std.proofs.Common.{◌++◌, List, sym, ap, subst, ◌∙◌}
 use Rattle.std.specs.List.{AllZip}
 use Rattle.ring_core.proofs.Items.{AllZip-join}
-use Rattle.ringbuffer.proofs.heap.AllocRingBufferRingBuffer.to_vec.Goals as goal
+use Rattle.ring_fixed.proofs.slices.clone_slices.Goals as goal
 
 -- Clones of the first slice, and then of the second.
 pub returns : goal.returns
@@ -9,6 +9,5 @@ returns g c =
     let (xs, first, of_first) = c.in_ok-extend_from_slice.ensures.items in
     let (ys, second, of_second) = c.in_ok-extend_from_slice-2.ensures.items in
     let clones = AllZip-join g.T.Clone.is_clone _ _ _ _ of_first of_second in
-    let made = second ∙ ap (λ l. l ++ ys) (first ∙ ap (λ l. l ++ xs) c.in_ok-items.ensures.items) in
-    subst (λ (l : List _). AllZip g.T.Clone.is_clone l c.extend_from_slice-2.new.self.items) c.as_slices.ensures.items
-    (subst (λ (l : List _). AllZip g.T.Clone.is_clone (c.as_slices.result.0.now ++ c.as_slices.result.1.now) l) (sym made) clones)
+    let made = second ∙ ap (λ l. l ++ ys) (first ∙ ap (λ l. l ++ xs) c.in_ok-clones.ensures.items) in
+    subst (λ (l : List _). AllZip g.T.Clone.is_clone (c.args.items.0.now ++ c.args.items.1.now) l) (sym made) clones
