@@ -249,6 +249,13 @@ impl<T: Drop> RingBuffer<T> for GrowableAllocRingBuffer<T> {
         clone_slices(self.deque.as_slices(), alloc)
     }
 
+    fn contains(&self, x: &T) -> bool
+    where
+        T: PartialEq,
+    {
+        self.deque.contains(x)
+    }
+
     fn get(&self, index: usize) -> Option<&T> {
         self.deque.get(position(index, self.deque.len())?)
     }
