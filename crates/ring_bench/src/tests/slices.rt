@@ -44,7 +44,7 @@ impl Slices for GrowableAllocRingBuffer<i64> {
 }
 
 /// The items of a ring, a slice that it is extended by, and all of them in order.
-const EXTENSIONS: [(&[i64], &[i64], &[i64]); 9] = [
+const EXTENSIONS: [(&[i64], &[i64], &[i64]); 10] = [
     (&[], &[], &[]),
     (&[1, 2], &[], &[1, 2]),
     (&[], &[1, 2, 3], &[1, 2, 3]),
@@ -57,6 +57,15 @@ const EXTENSIONS: [(&[i64], &[i64], &[i64]); 9] = [
         &[1, 2],
         &[3, 4, 5, 6, 7, 8, 9],
         &[1, 2, 3, 4, 5, 6, 7, 8, 9],
+    ),
+    (
+        &[1],
+        &[
+            2, 3, 4, 5, 6, 7, 8, 9, 10, 11, 12, 13, 14, 15, 16, 17, 18, 19,
+        ],
+        &[
+            1, 2, 3, 4, 5, 6, 7, 8, 9, 10, 11, 12, 13, 14, 15, 16, 17, 18, 19,
+        ],
     ),
 ];
 
@@ -72,7 +81,7 @@ const COPIES: [(&[i64], usize, &[i64]); 8] = [
     (&[1, 2, 3, 4, 5], 5, &[1, 2, 3, 4, 5, 9]),
 ];
 
-/// An extension by the slice of each row leaves the last of all items that the limit allows.
+/// An extension by the slice of each row, or by its items, leaves the last of all items that the limit allows.
 fn assert_extends<R: Slices + Drop>(
     rt: &impl Abort,
     mut ring: R,
@@ -83,6 +92,9 @@ fn assert_extends<R: Slices + Drop>(
         for start in STARTS {
             lay(rt, &mut ring, start, items);
             ring.extend_from_slice(slice)?;
+            assert_gives(rt, &mut ring, left);
+            lay(rt, &mut ring, start, items);
+            ring.extend(slice.iter().copied())?;
             assert_gives(rt, &mut ring, left);
         }
     }
