@@ -2,7 +2,7 @@
 use Rattle.std.specs.Prelude.{◌≤◌, Bool, List, MatchBool, None, Option}
 use Rattle.std.specs.Iterator.{Count, IsFinite, Yields, YieldsThen, size}
 
--- the source gave these items, and more may come of it, fewer than before; or no more came
+-- the source gave these items, and may give more, no more of them than before; or it ended
 abbrev pub Gives : {S A : Type 0} → (S → Type 0) → (S → Option A → S → Type 0) → (S → Count) → Bool → S → List A → S → Type 0
 Gives can steps left more s xs t =
     MatchBool more (Yields steps s xs t × can t × IsFinite (left t) × (size (left t) ≤ size (left s))) (YieldsThen steps s xs None t)

@@ -263,6 +263,7 @@ impl<T: Drop, S: RingSlots<T>> Fixed<T, S> {
                 return (start, len);
             }
         }
+        // An item is asked for before each run, so that a source that has ended costs no run.
         let mut first = start;
         while let Some(item) = items.next() {
             let (next, old) = Self::put_over(slots, first, len, item);
