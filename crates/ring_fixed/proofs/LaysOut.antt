@@ -21,6 +21,10 @@ LaysOut-then step first second =
     record { laid_out = second.laid_out; same_size = second.same_size ∙ first.same_size; shows = second.shows ∙ ap step first.shows }
 
 module _ {X : Type 0} {P : ℕ → Type 0} (s : Slots X) (start : ℕ) (laid_out : IsLaidOut P s start) where
+  -- nothing was done yet
+  pub LaysOut-none : LaysOut P s s start (view_from s start)
+  LaysOut-none = record { laid_out = laid_out; same_size = refl; shows = refl }
+
   -- items that lie in as many slots are what the ring shows then
   pub LaysOut-items : (new : Slots X) (next : ℕ) (xs : List X) → length new.slots ≡ length s.slots → next < length s.slots → length xs ≤ length s.slots
       → SlotsHold new.slots next xs → LaysOut P s new next (record { items = xs; changes = new.changes; capacity = length s.slots })

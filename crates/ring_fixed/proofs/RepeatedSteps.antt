@@ -27,21 +27,12 @@ module _ {X : Type 0} where
   pub after_puts-more : (xs : List X) (x : X) (v : View X) → after_put (after_puts xs v) x ≡ after_puts (xs ++ x ∷ []) v
   after_puts-more xs x v = after_puts-then xs (x ∷ []) v
 
-  -- a push where there is room, and one where there is none
-  pub after_push-room : (capacity : ℕ) (v : View X) (x : X) → length v.items < capacity → after_push capacity v x ≡ after_put v x
-  after_push-room capacity v x room =
-      let none : length (v.items ++ x ∷ []) - capacity ≡ 0 = omega (arith, length-append v.items (x ∷ [])) in
-      let one : v.changes + 1 + (length v.items + 1 - capacity) ≡ v.changes + 1 = omega arith in
-      rw (none, one) refl
-
+  -- a push where there is no room
   pub after_push-full : (capacity : ℕ) (v : View X) (x : X) → length v.items ≡ capacity → 0 < capacity → after_push capacity v x ≡ after_put (after_take v) x
   after_push-full capacity v x full some =
       let one : length (v.items ++ x ∷ []) - capacity ≡ 1 = omega (arith, length-append v.items (x ∷ [])) in
       let twice : v.changes + 1 + (length v.items + 1 - capacity) ≡ v.changes + min (length v.items) 1 + 1 = omega arith in
       rw (one, twice, drop-append-le 1 v.items (x ∷ []) (omega arith)) refl
-
-  pub after_push-within : (capacity : ℕ) (v : View X) (x : X) → length (after_push capacity v x).items ≤ capacity
-  after_push-within capacity v x = omega (arith, length-drop (length (v.items ++ x ∷ []) - capacity) (v.items ++ x ∷ []))
 
   -- one extension, and then another
   pub after_extend-then : (capacity : ℕ) (v : View X) (xs ys : List X) → after_extend capacity (after_extend capacity v xs) ys ≡ after_extend capacity v (xs ++ ys)

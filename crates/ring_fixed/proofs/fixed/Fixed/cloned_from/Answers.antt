@@ -4,13 +4,13 @@ use Rattle.ring_core.proofs.Items.{AllZip-join}
 use Rattle.ring_slots.specs.Slots.{Slots}
 use Rattle.ring_fixed.specs.View.{View, after_puts}
 use Rattle.ring_fixed.specs.Layout.{view_from, items_from, IsLaidOut, LaysOut}
-use Rattle.ring_fixed.proofs.LaysOut.{LaysOut-then, restart}
+use Rattle.ring_fixed.proofs.LaysOut.{LaysOut-none, LaysOut-then, restart}
 use Rattle.ring_fixed.proofs.RepeatedSteps.{after_puts-then}
 use Rattle.ring_fixed.proofs.fixed.Fixed.cloned_from.Goals as goal
 
 -- an empty ring may begin at the first slot
 begun : {X : Type 0} {P : ℕ → Type 0} (s : Slots X) (start : ℕ) → IsLaidOut P s start → items_from s.slots start ≡ [] → LaysOut P s s 0 (view_from s start)
-begun s start laid_out none = restart s s start (view_from s start) (record { laid_out = laid_out; same_size = refl; shows = refl }) none
+begun s start laid_out none = restart s s start (view_from s start) (LaysOut-none s start laid_out) none
 
 pub put_clones-len-requires : goal.put_clones-len-requires
 put_clones-len-requires g c =

@@ -3,7 +3,7 @@ use Rattle.std.proofs.Math.Nat.{mod-eq_of_lt}
 use Rattle.ring_slots.specs.Slots.{Slots}
 use Rattle.ring_fixed.specs.View.{View, after_put, after_take, after_extend}
 use Rattle.ring_fixed.specs.Layout.{view_from, items_from, LaysOut}
-use Rattle.ring_fixed.proofs.LaysOut.{LaysOut-then}
+use Rattle.ring_fixed.proofs.LaysOut.{LaysOut-none, LaysOut-then}
 use Rattle.ring_fixed.proofs.SlotsHold.{straight_on, count_on}
 use Rattle.ring_fixed.proofs.Sources.{Gives-none, Gives-one, Gives-end, Gives-then}
 use Rattle.ring_fixed.proofs.RepeatedSteps.{after_extend-none, after_extend-more, after_extend-full, after_push-full}
@@ -27,7 +27,7 @@ behind start len end i first next size found some low first_is next_is =
 pub loop-i-init : goal.loop-i-init
 loop-i-init g c =
     let now = g.S.RingSlots.seen c.args.slots.now in let v = view_from now c.args.start in
-    let same : LaysOut g.S.RingSlots.is_size now now c.args.start v = record { laid_out = c.requires.laid_out; same_size = refl; shows = refl } in
+    let same = LaysOut-none now c.args.start c.requires.laid_out in
     let none : c.args.start + 0 ≡ c.args.start = omega arith in
     ([], Gives-none g.I.Iterator c.args.items.now c.requires.can_next c.requires.ends, refl, rw (none, mod-eq_of_lt c.requires.laid_out.start_within) (rw (after_extend-none c.args.len v (omega (arith, c.requires.len))) at same))
 

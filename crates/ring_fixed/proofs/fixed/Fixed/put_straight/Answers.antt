@@ -1,8 +1,8 @@
 use Rattle.std.proofs.Common.{◌<◌, ◌+◌, false, true, [], ◌∷◌, ◌++◌, refl, ap, arith, length, length-append, append-nil}
 use Rattle.std.proofs.Math.Nat.{mod-lt}
 use Rattle.ring_fixed.specs.View.{View, after_put, after_puts}
-use Rattle.ring_fixed.specs.Layout.{view_from, LaysOut}
-use Rattle.ring_fixed.proofs.LaysOut.{LaysOut-then}
+use Rattle.ring_fixed.specs.Layout.{view_from}
+use Rattle.ring_fixed.proofs.LaysOut.{LaysOut-none, LaysOut-then}
 use Rattle.ring_fixed.proofs.SlotsHold.{straight_on}
 use Rattle.ring_fixed.proofs.Sources.{Gives-none, Gives-one, Gives-end, Gives-then}
 use Rattle.ring_fixed.proofs.RepeatedSteps.{after_puts-more, after_puts-none}
@@ -12,7 +12,7 @@ pub loop-i-init : goal.loop-i-init
 loop-i-init g c =
     let v = view_from (g.S.RingSlots.seen c.args.slots.now) c.args.start in
     let now = g.S.RingSlots.seen c.args.slots.now in
-    let same : LaysOut g.S.RingSlots.is_size now now c.args.start v = record { laid_out = c.requires.laid_out; same_size = refl; shows = refl } in
+    let same = LaysOut-none now c.args.start c.requires.laid_out in
     ([], Gives-none g.I.Iterator c.args.items.now c.requires.can_next c.requires.ends, refl, rw (after_puts-none v) at same)
 
 -- The source ended.
