@@ -1,3 +1,4 @@
+pub mod Cycles
 pub mod EmptiedRuns
 pub mod LaysOut
 pub mod LentItem
@@ -8,3 +9,4 @@ pub mod SlotsHold
 pub mod SomesTaken
 pub mod Sources
 pub mod Straight
+pub mod Turned

@@ -21,9 +21,6 @@ module _ {X : Type 0} where
       let sum : v.changes + length xs + length ys ≡ v.changes + length (xs ++ ys) = omega (arith, length-append xs ys) in
       rw (append_assoc v.items xs ys, sum) refl
 
-  pub after_puts-none : (v : View X) → v ≡ after_puts [] v
-  after_puts-none v = let same : v.changes + 0 ≡ v.changes = omega arith in rw (append-nil v.items, same) refl
-
   pub after_puts-more : (xs : List X) (x : X) (v : View X) → after_put (after_puts xs v) x ≡ after_puts (xs ++ x ∷ []) v
   after_puts-more xs x v = after_puts-then xs (x ∷ []) v
 
@@ -54,7 +51,7 @@ module _ {X : Type 0} where
       rw (none_over, none_gave_way) refl
 
   pub after_extend-none : (capacity : ℕ) (v : View X) → length v.items ≤ capacity → v ≡ after_extend capacity v []
-  after_extend-none capacity v fits = after_puts-none v ∙ after_extend-fits capacity v [] (omega arith)
+  after_extend-none capacity v fits = let same : v.changes + 0 ≡ v.changes = omega arith in rw (append-nil v.items, same) refl ∙ after_extend-fits capacity v [] (omega arith)
 
   -- a ring that holds as many as it may holds as many after an extension
   pub after_extend-full : (capacity : ℕ) (v : View X) (ys : List X) → capacity ≡ length v.items → length (after_extend capacity v ys).items ≡ capacity

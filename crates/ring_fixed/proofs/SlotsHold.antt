@@ -32,24 +32,16 @@ pub straight_on : (start len place size i : ℕ) → place ≡ (start + len) % s
 straight_on start len place size i found low = sym (mod-eq_of_lt low) ∙ ap (λ p. (p + i) % size) found ∙ count_on start len i (len + i) size refl
 
 module _ {X : Type 0} (slots : List (Option X)) (start : ℕ) (within : start < length slots) where
-  -- each place is counted to from the start
-  count_to : (place : ℕ) → place < length slots → (k : ℕ) × (k < length slots) × ((start + k) % length slots ≡ place)
-  count_to place here =
-      let size = length slots in
-      let far : ℕ = place + (size - start) in
-      (far % size, mod-lt far (omega arith), add-mod-mod start far size ∙ ap (λ n. n % size) {x = start + far} {y = place + size} (omega arith) ∙ add-mod_right place size ∙ mod-eq_of_lt here)
+  -- what the slot at a place holds: as many places lead to it as lead on from it to the start, counted round
+  pub SlotsHold-at : (xs : List X) → SlotsHold slots start xs → (place : ℕ) → place < length slots → get_or slots place None ≡ slice_get xs ((place + (length slots - start)) % length slots)
+  SlotsHold-at xs lie place here =
+      let size = length slots in let far : ℕ = place + (size - start) in
+      let there : (start + far % size) % size ≡ place = add-mod-mod start far size ∙ ap (λ n. n % size) {x = start + far} {y = place + size} (omega arith) ∙ add-mod_right place size ∙ mod-eq_of_lt here in
+      ap (λ n. get_or slots n None) (sym there) ∙ lie (far % size) (mod-lt far (omega arith))
 
   -- where no item lies from one start, none lies from another
   pub SlotsHold-none : SlotsHold slots start [] → (other : ℕ) → SlotsHold slots other []
-  SlotsHold-none lie other k low =
-      let found = count_to ((other + k) % length slots) (mod-lt (other + k) (omega arith)) in
-      ap (λ n. get_or slots n None) (sym found.2) ∙ lie found.0 found.1
-
-  -- as many slots that hold the same from the same start are the same
-  pub SlotsHold-same : (others : List (Option X)) (xs : List X) → SlotsHold slots start xs → SlotsHold others start xs → length others ≡ length slots → slots ≡ others
-  SlotsHold-same others xs lie lie' same = ext_get_or None slots others (sym same) (λ j low.
-      let found = count_to j low in let there = rw same at (lie' found.0) in
-      ap (λ n. get_or slots n None) (sym found.2) ∙ lie found.0 found.1 ∙ sym (there found.1) ∙ ap (λ n. get_or others n None) found.2)
+  SlotsHold-none lie other k low = SlotsHold-at [] lie ((other + k) % length slots) (mod-lt (other + k) (omega arith))
 
   -- a change of the slot at a count, to what another list has there that is the same elsewhere
   SlotsHold-set : (xs ys : List X) (k : ℕ) (slot : Option X) → SlotsHold slots start xs → k < length slots → slice_get ys k ≡ slot → ((j : ℕ) → j ≢ k → slice_get ys j ≡ slice_get xs j)
@@ -81,6 +73,11 @@ module _ {X : Type 0} (slots : List (Option X)) (start : ℕ) (within : start < 
       let turned = ap (λ place. get_or (set slots start None) place None) (count_on start 1 k (suc k) (length slots) (omega arith)) in
       let held = lie (suc k) in let round = wrap start (suc k) (length slots) within low' in
       rw (length-set slots start None) (turned ∙ grind (arith, held, round, get_or-set_other, get_or-set_same, slice_get-drop 1 k xs, slice_get_past))
+
+-- as many slots that hold the same from the same start are the same
+pub SlotsHold-same : {X : Type 0} (slots : List (Option X)) (start : ℕ) → start < length slots → (others : List (Option X)) (xs : List X) → SlotsHold slots start xs → SlotsHold others start xs → length others ≡ length slots → slots ≡ others
+SlotsHold-same slots start within others xs lie lie' same =
+    ext_get_or None slots others (sym same) (λ j low. SlotsHold-at slots start within xs lie j low ∙ sym (rw same at (SlotsHold-at others start (rw same within) xs lie' j (rw same low))))
 
 -- reading once round gives the items that lie there
 items_until : {X : Type 0} (f : ℕ → Option X) (xs : List X) (from count : ℕ) → length xs ≤ count → ((k place : ℕ) → from + k ≡ place → k < count → f place ≡ slice_get xs k)

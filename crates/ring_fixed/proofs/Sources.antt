@@ -1,12 +1,12 @@
 -- What a source gave in several calls, joined.
-use Rattle.std.proofs.Common.{List, [], ◌∷◌, ◌++◌, Bool, true, false, None, Some, refl, arith}
+use Rattle.std.proofs.Common.{List, [], ◌∷◌, ◌++◌, Bool, true, false, Some, refl, arith}
 use Rattle.std.proofs.iter.runs.Lists.{Yields-both}
 use Rattle.std.specs.Iterator.{IsFinite, MakesProgress}
 use Rattle.std.specs.declared.iter.Iterator.{Ghosts}
 use Rattle.ring_fixed.specs.Sources.{Gives}
 
 module _ {S A : Type 0} (it : Ghosts S A) where
-  abbrev gives : Bool → S → List A → S → Type 0
+  abbrev pub gives : Bool → S → List A → S → Type 0
   gives = Gives it.can_next it.next_gives it.remaining
 
   -- no call yet
@@ -16,10 +16,6 @@ module _ {S A : Type 0} (it : Ghosts S A) where
   -- one call gave an item
   pub Gives-one : (s t : S) (x : A) → it.next_gives s (Some x) t → MakesProgress it.can_next it.remaining s (Some x) t → IsFinite (it.remaining s) → gives true s (x ∷ []) t
   Gives-one s t x given goes ends = let on = goes.on ends in ((t, given, refl), on.0, on.1, omega (arith, on.2))
-
-  -- one call gave none
-  pub Gives-end : (s t : S) → it.next_gives s None t → gives false s [] t
-  Gives-end s t ended = (s, refl, ended)
 
   -- some calls, and then others
   pub Gives-then : (more : Bool) (s t u : S) (xs ys : List A) → gives true s xs t → gives more t ys u → gives more s (xs ++ ys) u

@@ -1,5 +1,5 @@
 -- How a ring of a fixed capacity lies in its slots.
-use Rattle.std.specs.Prelude.{◌≡◌, ℕ, ◌+◌, ◌-◌, ◌%◌, ◌<◌, ◌≤◌, List, length, slice_index_or, slice_get, Option, None}
+use Rattle.std.specs.Prelude.{◌≡◌, ℕ, ◌+◌, ◌-◌, ◌%◌, ◌<◌, ◌≤◌, Bool, if◌then◌else◌, List, length, slice_index_or, slice_get, Option, None}
 use Rattle.std.specs.List.{filter_map, range_with_len}
 use Rattle.ring_slots.specs.Slots.{Slots, IsFullAt, slot_at}
 use Rattle.ring_fixed.specs.View.{View}
@@ -32,6 +32,10 @@ module _ {X : Type 0} where
     pub before : (place : ℕ) → place < from → slot_at new place ≡ slot_at old place
     pub emptied : (place : ℕ) → from ≤ place → place < to → slot_at new place ≡ None
     pub behind : (place : ℕ) → to ≤ place → slot_at new place ≡ slot_at old place
+
+-- the start and the length after so many pushes, by each of which the first item gave way, or by none
+abbrev pub after_pushes : Bool → (start len count size : ℕ) → ℕ × ℕ
+after_pushes full start len count size = if full then ((start + count) % size, len) else (start, len + count)
 
 module _ {X : Type 0} (is_size : ℕ → Type 0) where
   -- a ring is laid out in these slots from this start on, every other slot is empty, and places can be found

@@ -1,10 +1,10 @@
 //! The calls of a ring of a fixed capacity that put or drop many items.
-ghost use Rattle.std.specs.Prelude.{◌≡◌, ◌+◌, ◌-◌, ◌%◌, ◌<◌, ◌≤◌, [], ◌++◌, All, IsOk, List, MatchResult, length, take, true};
+ghost use Rattle.std.specs.Prelude.{◌≡◌, ◌+◌, ◌-◌, ◌%◌, ◌^◌, ◌<◌, ◌≤◌, if◌then◌else◌, false, [], ◌++◌, All, IsOk, List, MatchResult, length, take, true};
 ghost use Rattle.std.specs.Iterator.{Drains, IsFinite, IsFiniteIterable};
 ghost use Rattle.std.specs.List.{AllZip, FoldsTo};
-ghost use Rattle.ring_fixed.specs.View.{after_put, after_puts, after_takes, after_push, after_extend, after_extend_from_slice, after_truncate, after_keep_newest, after_clear, after_fill};
+ghost use Rattle.ring_fixed.specs.View.{after_put, after_puts, after_take, after_takes, after_push, after_extend, after_extend_from_slice, after_truncate, after_keep_newest, after_clear, after_fill};
 ghost use Rattle.ring_fixed.specs.Sources.{Gives};
-ghost use Rattle.ring_fixed.specs.Layout.{AreFull, Empties, IsLaidOut, LaysOut, view_from};
+ghost use Rattle.ring_fixed.specs.Layout.{after_pushes, AreFull, Empties, IsLaidOut, LaysOut, view_from};
 
 use crate::fixed::Fixed;
 use ring_slots::RingSlots;
@@ -170,25 +170,6 @@ impl<T: Drop, S: RingSlots<T>> Fixed<T, S> {
         }
     }
 
-    // Puts each of the first items after the last, as many as `count` says. Returns the start then.
-    pub(crate) fn turn(slots: &mut S, start: usize, len: usize, count: usize) -> usize
-        requires laid_out { IsLaidOut S.is_size (S.seen slots.old) start }
-        requires len { len ≡ length (view_from (S.seen slots.old) start).items }
-        requires count { count ≤ len }
-        ensures start { result ≡ (start + count) % length (S.seen slots.old).slots }
-        ensures after { LaysOut S.is_size (S.seen slots.old) (S.seen slots.new) result
-            (after_extend len (view_from (S.seen slots.old) start)
-            (take count (view_from (S.seen slots.old) start).items)) }
-    {
-        let mut first = start;
-        for _ in 0..count {
-            let (next, item) = Self::take_from(slots, first);
-            Self::put_after(slots, next, len - 1, item);
-            first = next;
-        }
-        first
-    }
-
     // Drops the items from an index up to another, in two runs of slots: up to the last slot, and on from the first.
     #[inline]
     fn drop_items(slots: &mut S, start: usize, from: usize, to: usize)
@@ -255,93 +236,108 @@ impl<T: Drop, S: RingSlots<T>> Fixed<T, S> {
             × (result.1
             ≡ length (after_extend capacity (view_from (S.seen slots.old) start) xs).items) }
     {
-        let mut len = len;
-        while len != capacity {
+        let (mut start, mut len) = (start, len);
+        while let Some(item) = items.next() {
+            let (next, len_then, old) = Self::push_from(slots, start, len, item, capacity);
+            drop(old);
             let more;
-            (len, more) = Self::put_straight(slots, start, len, &mut items, capacity);
+            (start, len, more) = Self::push_run(slots, next, len_then, &mut items, capacity);
             if !more {
                 return (start, len);
             }
         }
-        // An item is asked for before each run, so that a source that has ended costs no run.
-        let mut first = start;
-        while let Some(item) = items.next() {
-            let (next, old) = Self::put_over(slots, first, len, item);
-            drop(old);
-            let more;
-            (first, more) = Self::push_straight(slots, next, len, &mut items);
-            if !more {
-                return (first, len);
-            }
-        }
-        (first, len)
+        (start, len)
     }
 
-    // Puts the next items of a source after the last, up to the capacity or the last slot. Returns the length then, and
-    // whether more may come.
+    // Pushes the next items of a source up to the last slot, or to the capacity where the ring isn't full. Returns the
+    // start and the length then, and whether more may come.
     #[inline]
-    fn put_straight<I: Iterator<Item = T>>(
+    fn push_run<I: Iterator<Item = T>>(
         slots: &mut S,
         start: usize,
         len: usize,
         items: &mut I,
         capacity: usize,
-    ) -> (usize, bool)
+    ) -> (usize, usize, bool)
         requires can_next { I.can_next items.old }
         requires ends { IsFinite (I.remaining items.old) }
         requires laid_out { IsLaidOut S.is_size (S.seen slots.old) start }
         requires len { len ≡ length (view_from (S.seen slots.old) start).items }
-        requires below { len < capacity }
+        requires some { 0 < capacity }
+        requires within { len ≤ capacity }
         requires room { capacity ≤ length (S.seen slots.old).slots }
         ensures { (xs : List T)
-            × Gives I.can_next I.next_gives I.remaining result.1 items.old xs items.new
-            × (result.1 ≡ true → 0 < length xs) × (result.0 ≡ len + length xs)
-            × (result.0 ≤ capacity)
-            × LaysOut S.is_size (S.seen slots.old) (S.seen slots.new) start
-            (after_puts xs (view_from (S.seen slots.old) start)) }
+            × Gives I.can_next I.next_gives I.remaining result.2 items.old xs items.new
+            × LaysOut S.is_size (S.seen slots.old) (S.seen slots.new) result.0
+            (after_extend capacity (view_from (S.seen slots.old) start) xs)
+            × (result.1
+            ≡ length (after_extend capacity (view_from (S.seen slots.old) start) xs).items) }
     {
-        let end = slots.place(start, len);
-        let count = (capacity - len).min(slots.size() - end);
+        let full = len == capacity;
+        let end = slots.place_after(start, len);
+        let count = Self::pushes_to_end(slots.size(), end, capacity - len, full);
         for i in 0..count {
             let Some(item) = items.next() else {
-                return (len + i, false);
+                let (first, len) = Self::after_pushes(slots, start, len, i, full);
+                return (first, len, false);
             };
-            Self::put_at(slots, start, len + i, end + i, item);
+            let (first, len) = Self::after_pushes(slots, start, len, i, full);
+            Self::push_at(slots, first, len, end + i, item, full);
         }
-        (len + count, true)
+        let (first, len) = Self::after_pushes(slots, start, len, count, full);
+        (first, len, true)
     }
 
-    // Pushes the next items of a source onto a ring that holds as many as it may, up to the last slot. Returns the start
-    // then, and whether more may come.
+    // How many pushes there are up to the last slot, or to the capacity where the ring isn't full.
     #[inline]
-    fn push_straight<I: Iterator<Item = T>>(
-        slots: &mut S,
-        start: usize,
-        len: usize,
-        items: &mut I,
-    ) -> (usize, bool)
-        requires can_next { I.can_next items.old }
-        requires ends { IsFinite (I.remaining items.old) }
+    fn pushes_to_end(size: usize, end: usize, room: usize, full: bool) -> usize
+        requires { end ≤ size }
+        ensures end { end + result ≤ size }
+        ensures room { full ≡ false → result ≤ room }
+    {
+        if full {
+            size - end
+        } else {
+            room.min(size - end)
+        }
+    }
+
+    // The start and the length of a ring after so many pushes, all of which it had room for, or none.
+    #[inline]
+    fn after_pushes(slots: &S, start: usize, len: usize, count: usize, full: bool) -> (usize, usize)
+        requires size { S.is_size (length (S.seen slots.now).slots) }
+        requires start { start < length (S.seen slots.now).slots }
+        requires count { count ≤ length (S.seen slots.now).slots }
+        requires fits { full ≡ false → len + count < 2 ^ 64 }
+        ensures { result ≡ after_pushes full start len count (length (S.seen slots.now).slots) }
+    {
+        if full {
+            (slots.place(start, count), len)
+        } else {
+            (start, len + count)
+        }
+    }
+
+    // Pushes an item, where the place after the last is known, and whether the first gives way.
+    #[inline]
+    fn push_at(slots: &mut S, start: usize, len: usize, place: usize, item: T, full: bool)
         requires laid_out { IsLaidOut S.is_size (S.seen slots.old) start }
         requires len { len ≡ length (view_from (S.seen slots.old) start).items }
-        requires some { 0 < len }
-        ensures { (xs : List T)
-            × Gives I.can_next I.next_gives I.remaining result.1 items.old xs items.new
-            × LaysOut S.is_size (S.seen slots.old) (S.seen slots.new) result.0
-            (after_extend len (view_from (S.seen slots.old) start) xs) }
+        requires some { full ≡ true → 0 < len }
+        requires room { full ≡ false → len < length (S.seen slots.old).slots }
+        requires place { place ≡ (start + len) % length (S.seen slots.old).slots }
+        ensures { LaysOut S.is_size (S.seen slots.old) (S.seen slots.new)
+            (if full then (start + 1) % length (S.seen slots.old).slots else start)
+            (if full then after_put (after_take (view_from (S.seen slots.old) start)) item
+            else after_put (view_from (S.seen slots.old) start) item) }
     {
-        let end = slots.place_after(start, len);
-        let count = slots.size() - end;
-        for i in 0..count {
-            let first = slots.place(start, i);
-            let Some(item) = items.next() else {
-                return (first, false);
-            };
-            let (next, old) = Self::take_from(slots, first);
-            Self::put_at(slots, next, len - 1, end + i, item);
+        if full {
+            let (next, old) = Self::take_from(slots, start);
+            Self::put_at(slots, next, len - 1, place, item);
             drop(old);
+        } else {
+            Self::put_at(slots, start, len, place, item);
         }
-        (slots.place(start, count), true)
     }
 }
 

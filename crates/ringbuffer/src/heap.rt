@@ -351,8 +351,8 @@ impl<T: Drop> AllocRingBuffer<T> {
         self.ring.as_slices()
     }
 
-    /// The items in one slice, oldest first, for writing. Items that go on at the beginning of the block are moved beside
-    /// the others first, which needs no memory. It counts as four changes an item, moved or not.
+    /// The items in one slice, oldest first, for writing. Where some go on at the beginning of the block, each of them is
+    /// moved to its place first, by one move and without memory. It counts as three changes an item, moved or not.
     pub fn make_contiguous(&mut self) -> &mut [T]
         ensures* writes_back { sem 𝓛 (lends_items T.row self.entry result) }
         ensures value { result.now ≡ self.old.items }

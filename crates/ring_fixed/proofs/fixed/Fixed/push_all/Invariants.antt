@@ -1,24 +1,13 @@
-use Rattle.std.proofs.Common.{◌≡◌, ◌-◌, ◌≤◌, List, length, true}
+-- So far what the source gave is pushed.
+use Rattle.std.proofs.Common.{◌≡◌, List, length, true}
 use Rattle.ring_fixed.specs.Sources.{Gives}
-use Rattle.ring_fixed.specs.View.{after_puts, after_extend}
+use Rattle.ring_fixed.specs.View.{after_extend}
 use Rattle.ring_fixed.specs.Layout.{view_from, LaysOut}
 use Rattle.ring_fixed.proofs.fixed.Fixed.push_all.Given as goal
 
--- So far what the source gave is put.
-abbrev pub invariant-loop-len : goal.invariant-loop-len
-invariant-loop-len g l =
-    let v = view_from (g.S.RingSlots.seen l.fn.slots) l.start in
-    (xs : List _) × Gives g.I.Iterator.can_next g.I.Iterator.next_gives g.I.Iterator.remaining true l.fn.items xs l.items
-    × LaysOut g.S.RingSlots.is_size (g.S.RingSlots.seen l.fn.slots) (g.S.RingSlots.seen l.slots) l.start (after_puts xs v)
-    × (l.len ≡ length (after_puts xs v).items) × (l.len ≤ l.capacity)
-
-abbrev pub decreases-loop-len : goal.decreases-loop-len
-decreases-loop-len g l = l.capacity - l.len
-
--- So far what the source gave is pushed.
 abbrev pub invariant-loop-item : goal.invariant-loop-item
 invariant-loop-item g l =
-    let v = view_from (g.S.RingSlots.seen l.fn.slots) l.start in
+    let v = view_from (g.S.RingSlots.seen l.fn.slots) l.fn.start in
     (xs : List _) × Gives g.I.Iterator.can_next g.I.Iterator.next_gives g.I.Iterator.remaining true l.fn.items xs l.items
-    × LaysOut g.S.RingSlots.is_size (g.S.RingSlots.seen l.fn.slots) (g.S.RingSlots.seen l.slots) l.first (after_extend l.capacity v xs)
-    × (l.len ≡ length (after_extend l.capacity v xs).items) × (l.len ≡ l.capacity)
+    × LaysOut g.S.RingSlots.is_size (g.S.RingSlots.seen l.fn.slots) (g.S.RingSlots.seen l.slots) l.start (after_extend l.capacity v xs)
+    × (l.len ≡ length (after_extend l.capacity v xs).items)
