@@ -1,10 +1,8 @@
-//! Callers of the rings' public contracts, each a proved function, and the tests.
+//! The tests of the rings by their public calls, and those callers of which wrong bodies are tried.
 #![tactic(auto)]
 
-pub mod callers;
 pub mod conditions;
-pub mod counts;
-pub mod headline;
 pub mod sums;
 #[cfg(test)]
 mod tests;
+pub mod walks;

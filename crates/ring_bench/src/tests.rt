@@ -7,7 +7,9 @@ mod fills;
 mod positions;
 mod pushing;
 mod slices;
+mod slots;
 mod sums;
+mod windows;
 
 ghost use Rattle.std.specs.Prelude.{◌<◌};
 

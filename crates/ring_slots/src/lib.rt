@@ -7,8 +7,6 @@ mod change_count;
 mod heap;
 mod place;
 mod slots;
-#[cfg(test)]
-mod tests;
 
 pub use array::ArraySlots;
 pub use change_count::ChangeCount;

@@ -97,19 +97,6 @@ pub fn newest_first<R: RingBuffer<u32>>(alloc: Global, ring: &R) -> Result<Vec<u
     RingBufferIterator::new(ring).rev().copied().collect(alloc)
 }
 
-/// Whether every item is below a bound.
-pub fn all_below<R: RingBuffer<u32>>(ring: &R, bound: u32) -> bool
-    ensures only { IsTrue result → All (λ x. x < bound) (R.contents ring.now) }
-    ensures whenever { All (λ x. x < bound) (R.contents ring.now) → IsTrue result }
-{
-    for x in RingBufferIterator::new(ring) {
-        if *x >= bound {
-            return false;
-        }
-    }
-    true
-}
-
 /// Adds one to each item, wrapping at the type's end.
 pub fn increment_each<R: RingBuffer<u32>>(ring: &mut R)
     ensures contents { R.contents ring.new ≡ map (λ x. (x + 1) % (2 ^ 32)) (R.contents ring.old) }

@@ -1,6 +1,6 @@
 use Rattle.std.proofs.Common.{◌<◌, All}
 use Rattle.ringbuffer.specs.Walk.{iterator_to_come}
-use Rattle.ring_bench.proofs.callers.all_below.Given as goal
+use Rattle.ring_bench.proofs.walks.all_below.Given as goal
 
 -- once the items still to come are below the bound, all are
 abbrev pub invariant-loop-x : goal.invariant-loop-x

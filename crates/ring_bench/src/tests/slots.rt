@@ -1,4 +1,6 @@
-use crate::{ArraySlots, HeapSlots, RingSlots};
+//! Slots of both kinds, by themselves.
+
+use ring_slots::{ArraySlots, HeapSlots, RingSlots};
 use std::alloc::AllocError;
 use std::cell::Cell;
 

@@ -3,7 +3,7 @@
 ghost use Rattle.std.specs.Prelude.{◌≡◌, ◌++◌, IsSome, Some, length, map};
 ghost use Rattle.ringbuffer.specs.Contents.{ChangesSlots};
 ghost use Rattle.ringbuffer.specs.History.{contents_after, pushed, replies_of, steps};
-ghost use Rattle.ring_bench.specs.Survivors.{HoldsSurvivors, IsCheap, RepliesByNumber};
+ghost use Rattle.ring_callers.specs.Survivors.{HoldsSurvivors, IsCheap, RepliesByNumber};
 
 use ringbuffer::{Command, Reply, RingBuffer, run_into, runs_join};
 

@@ -1,9 +1,9 @@
 //! Windows over each type of ring.
 
-use crate::WindowSum;
 use ringbuffer::{AllocRingBuffer, ConstGenericRingBuffer, GrowableAllocRingBuffer, RingBuffer};
 use std::alloc::AllocError;
 use std::process::Abort;
+use window::WindowSum;
 
 /// A test on an empty ring of any type.
 trait Case {

@@ -1,0 +1,6 @@
+//! Callers of the rings' public contracts, each a proved function.
+#![tactic(auto)]
+
+pub mod callers;
+pub mod counts;
+pub mod headline;
