@@ -9,6 +9,7 @@ mod pushing;
 mod slices;
 mod slots;
 mod sums;
+mod uses;
 mod windows;
 
 ghost use Rattle.std.specs.Prelude.{◌<◌};

@@ -9,7 +9,5 @@ pub mod pipe;
 pub mod relay;
 pub mod samples;
 pub mod tail;
-#[cfg(test)]
-mod tests;
 pub mod undo;
 pub mod window;

@@ -53,8 +53,8 @@ fn assert_run_into<R: RingBuffer<i64>>(
     }
     assert_eq!(rt; places.len(), commands.len());
     assert_eq!(rt; run_into(ring, commands, places.as_mut_slice()), Ok(()));
-    for (place, reply) in places.iter().zip(replies) {
-        assert!(rt; place.as_ref() == Some(reply), "{place:?} for {reply:?}");
+    for (i, place) in places.iter().enumerate() {
+        assert_eq!(rt; place.as_ref(), replies.get(i), "at {i}");
     }
     Ok(())
 }
@@ -227,8 +227,11 @@ struct JoinedRuns;
 impl<Rt: Abort + AllocGlobal> Case<Rt> for JoinedRuns {
     fn on<R: RingBuffer<i64> + Drop>(&self, rt: &Rt, mut ring: R) -> Result<(), AllocError> {
         runs_join::<i64>();
-        for (command, reply) in every_command(rt.alloc())?.into_iter().zip(REPLIES_OF_TWO) {
-            assert_run_into(rt, &mut ring, vec![in rt.alloc(); command]?, &[reply])?;
+        for (i, command) in every_command(rt.alloc())?.into_iter().enumerate() {
+            let reply = REPLIES_OF_TWO
+                .get(i..=i)
+                .expect(rt, "a reply to the command");
+            assert_run_into(rt, &mut ring, vec![in rt.alloc(); command]?, reply)?;
         }
         assert_holds(rt, &ring, &[]);
         Ok(())

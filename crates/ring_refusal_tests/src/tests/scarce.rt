@@ -15,94 +15,63 @@ pub fn spared(step: usize) -> usize {
     step.saturating_mul(step).saturating_mul(8)
 }
 
-/// Three items, each on its own.
-type Three<'a> = (Counted<'a>, Counted<'a>, Counted<'a>);
+/// What holds three items before a ring does.
+#[derive(Debug, Drop)]
+enum Holder {
+    Array,
+    Iterator,
+    Vec,
+    Deque,
+    LinkedList,
+    ArrayRing,
+    HeapRing,
+    GrowableRing,
+}
 
-/// Three items that are handed over as an iterator.
+/// Three items in what holds them.
 #[derive(Drop)]
-struct Iterated<'a> {
-    items: Vec<Counted<'a>>,
+enum Three<'a> {
+    Array(Counted<'a>, Counted<'a>, Counted<'a>),
+    Iterator(Vec<Counted<'a>>),
+    Vec(Vec<Counted<'a>>),
+    Deque(VecDeque<Counted<'a>>),
+    LinkedList(LinkedList<Counted<'a>>),
+    ArrayRing(ConstGenericRingBuffer<Counted<'a>, 3>),
+    HeapRing(AllocRingBuffer<Counted<'a>>),
+    GrowableRing(GrowableAllocRingBuffer<Counted<'a>>),
 }
 
-/// What can hold three items of a supply.
-trait OfThree<S>: Sized {
-    fn of_three(rt: &(impl Abort + AllocGlobal), supply: S) -> Result<Self, AllocError>;
-}
-
-impl<'a> OfThree<&'a Supply> for Three<'a> {
-    fn of_three(
+impl<'a> Three<'a> {
+    /// Three items of a supply.
+    fn of(
         rt: &(impl Abort + AllocGlobal),
         supply: &'a Supply,
+        holder: &Holder,
     ) -> Result<Three<'a>, AllocError> {
-        Ok((supply.item(rt), supply.item(rt), supply.item(rt)))
-    }
-}
-
-impl<'a> OfThree<&'a Supply> for Vec<Counted<'a>> {
-    fn of_three(
-        rt: &(impl Abort + AllocGlobal),
-        supply: &'a Supply,
-    ) -> Result<Vec<Counted<'a>>, AllocError> {
-        supply.items(rt, 3)
-    }
-}
-
-impl<'a> OfThree<&'a Supply> for Iterated<'a> {
-    fn of_three(
-        rt: &(impl Abort + AllocGlobal),
-        supply: &'a Supply,
-    ) -> Result<Iterated<'a>, AllocError> {
-        let items = supply.items(rt, 3)?;
-        Ok(Iterated { items })
-    }
-}
-
-impl<'a> OfThree<&'a Supply> for VecDeque<Counted<'a>> {
-    fn of_three(
-        rt: &(impl Abort + AllocGlobal),
-        supply: &'a Supply,
-    ) -> Result<VecDeque<Counted<'a>>, AllocError> {
-        Ok(VecDeque::from(supply.items(rt, 3)?))
-    }
-}
-
-impl<'a> OfThree<&'a Supply> for LinkedList<Counted<'a>> {
-    fn of_three(
-        rt: &(impl Abort + AllocGlobal),
-        supply: &'a Supply,
-    ) -> Result<LinkedList<Counted<'a>>, AllocError> {
-        let mut items = LinkedList::new(rt.alloc());
-        for _ in 0..3 {
-            items.push_back(supply.item(rt))?;
-        }
-        Ok(items)
-    }
-}
-
-impl<'a> OfThree<&'a Supply> for ConstGenericRingBuffer<Counted<'a>, 3> {
-    fn of_three(
-        rt: &(impl Abort + AllocGlobal),
-        supply: &'a Supply,
-    ) -> Result<ConstGenericRingBuffer<Counted<'a>, 3>, AllocError> {
-        Ok(ConstGenericRingBuffer::from_vec(supply.items(rt, 3)?))
-    }
-}
-
-impl<'a> OfThree<&'a Supply> for AllocRingBuffer<Counted<'a>> {
-    fn of_three(
-        rt: &(impl Abort + AllocGlobal),
-        supply: &'a Supply,
-    ) -> Result<AllocRingBuffer<Counted<'a>>, AllocError> {
-        AllocRingBuffer::made_of(rt, supply.items(rt, 3)?)
-    }
-}
-
-impl<'a> OfThree<&'a Supply> for GrowableAllocRingBuffer<Counted<'a>> {
-    fn of_three(
-        rt: &(impl Abort + AllocGlobal),
-        supply: &'a Supply,
-    ) -> Result<GrowableAllocRingBuffer<Counted<'a>>, AllocError> {
-        GrowableAllocRingBuffer::from_vec(rt.alloc(), supply.items(rt, 3)?)
+        Ok(match holder {
+            Holder::Array => Three::Array(supply.item(rt), supply.item(rt), supply.item(rt)),
+            Holder::Iterator => Three::Iterator(supply.items(rt, 3)?),
+            Holder::Vec => Three::Vec(supply.items(rt, 3)?),
+            Holder::Deque => Three::Deque(VecDeque::from(supply.items(rt, 3)?)),
+            Holder::LinkedList => {
+                let mut items = LinkedList::new(rt.alloc());
+                for _ in 0..3 {
+                    items.push_back(supply.item(rt))?;
+                }
+                Three::LinkedList(items)
+            }
+            Holder::ArrayRing => {
+                Three::ArrayRing(ConstGenericRingBuffer::from_vec(supply.items(rt, 3)?))
+            }
+            Holder::HeapRing => {
+                let items = supply.items(rt, 3)?;
+                Three::HeapRing(AllocRingBuffer::made_of(rt, Three::Vec(items))?)
+            }
+            Holder::GrowableRing => {
+                let items = supply.items(rt, 3)?;
+                Three::GrowableRing(GrowableAllocRingBuffer::from_vec(rt.alloc(), items)?)
+            }
+        })
     }
 }
 
@@ -114,185 +83,75 @@ trait MadeOf<S>: Sized {
 impl<'a> MadeOf<Three<'a>> for AllocRingBuffer<Counted<'a>> {
     fn made_of(
         rt: &(impl Abort + AllocGlobal),
-        (a, b, c): Three<'a>,
+        source: Three<'a>,
     ) -> Result<AllocRingBuffer<Counted<'a>>, AllocError> {
-        AllocRingBuffer::from_array(rt.alloc(), [Some(a), Some(b), Some(c)])
-    }
-}
-
-impl<'a> MadeOf<Vec<Counted<'a>>> for AllocRingBuffer<Counted<'a>> {
-    fn made_of(
-        rt: &(impl Abort + AllocGlobal),
-        source: Vec<Counted<'a>>,
-    ) -> Result<AllocRingBuffer<Counted<'a>>, AllocError> {
-        assert_eq!(rt; source.len(), 3);
-        AllocRingBuffer::from_vec(rt.alloc(), source)
-    }
-}
-
-impl<'a> MadeOf<VecDeque<Counted<'a>>> for AllocRingBuffer<Counted<'a>> {
-    fn made_of(
-        rt: &(impl Abort + AllocGlobal),
-        source: VecDeque<Counted<'a>>,
-    ) -> Result<AllocRingBuffer<Counted<'a>>, AllocError> {
-        assert_eq!(rt; source.len(), 3);
-        AllocRingBuffer::from_deque(rt.alloc(), source)
-    }
-}
-
-impl<'a> MadeOf<LinkedList<Counted<'a>>> for AllocRingBuffer<Counted<'a>> {
-    fn made_of(
-        rt: &(impl Abort + AllocGlobal),
-        source: LinkedList<Counted<'a>>,
-    ) -> Result<AllocRingBuffer<Counted<'a>>, AllocError> {
-        assert_eq!(rt; source.len(), 3);
-        AllocRingBuffer::from_linked_list(rt.alloc(), source)
-    }
-}
-
-impl<'a> MadeOf<GrowableAllocRingBuffer<Counted<'a>>> for AllocRingBuffer<Counted<'a>> {
-    fn made_of(
-        rt: &(impl Abort + AllocGlobal),
-        source: GrowableAllocRingBuffer<Counted<'a>>,
-    ) -> Result<AllocRingBuffer<Counted<'a>>, AllocError> {
-        assert_eq!(rt; source.len(), 3);
-        AllocRingBuffer::from_growable(rt.alloc(), source)
-    }
-}
-
-impl<'a> MadeOf<ConstGenericRingBuffer<Counted<'a>, 3>> for AllocRingBuffer<Counted<'a>> {
-    fn made_of(
-        rt: &(impl Abort + AllocGlobal),
-        source: ConstGenericRingBuffer<Counted<'a>, 3>,
-    ) -> Result<AllocRingBuffer<Counted<'a>>, AllocError> {
-        assert_eq!(rt; source.len(), 3);
-        AllocRingBuffer::from_const(rt.alloc(), source)
+        match source {
+            Three::Array(a, b, c) => {
+                AllocRingBuffer::from_array(rt.alloc(), [Some(a), Some(b), Some(c)])
+            }
+            Three::Iterator(items) | Three::Vec(items) => {
+                assert_eq!(rt; items.len(), 3);
+                AllocRingBuffer::from_vec(rt.alloc(), items)
+            }
+            Three::Deque(items) => {
+                assert_eq!(rt; items.len(), 3);
+                AllocRingBuffer::from_deque(rt.alloc(), items)
+            }
+            Three::LinkedList(items) => {
+                assert_eq!(rt; items.len(), 3);
+                AllocRingBuffer::from_linked_list(rt.alloc(), items)
+            }
+            Three::ArrayRing(ring) => {
+                assert_eq!(rt; ring.len(), 3);
+                AllocRingBuffer::from_const(rt.alloc(), ring)
+            }
+            Three::HeapRing(ring) => Ok(ring),
+            Three::GrowableRing(ring) => {
+                assert_eq!(rt; ring.len(), 3);
+                AllocRingBuffer::from_growable(rt.alloc(), ring)
+            }
+        }
     }
 }
 
 impl<'a> MadeOf<Three<'a>> for GrowableAllocRingBuffer<Counted<'a>> {
     fn made_of(
         rt: &(impl Abort + AllocGlobal),
-        (a, b, c): Three<'a>,
+        source: Three<'a>,
     ) -> Result<GrowableAllocRingBuffer<Counted<'a>>, AllocError> {
-        GrowableAllocRingBuffer::from_array(rt.alloc(), [Some(a), Some(b), Some(c)])
-    }
-}
-
-impl<'a> MadeOf<Vec<Counted<'a>>> for GrowableAllocRingBuffer<Counted<'a>> {
-    fn made_of(
-        rt: &(impl Abort + AllocGlobal),
-        source: Vec<Counted<'a>>,
-    ) -> Result<GrowableAllocRingBuffer<Counted<'a>>, AllocError> {
-        GrowableAllocRingBuffer::from_vec(rt.alloc(), source)
-    }
-}
-
-impl<'a> MadeOf<Iterated<'a>> for GrowableAllocRingBuffer<Counted<'a>> {
-    fn made_of(
-        rt: &(impl Abort + AllocGlobal),
-        source: Iterated<'a>,
-    ) -> Result<GrowableAllocRingBuffer<Counted<'a>>, AllocError> {
-        GrowableAllocRingBuffer::from_iter(rt.alloc(), source.items)
-    }
-}
-
-impl<'a> MadeOf<VecDeque<Counted<'a>>> for GrowableAllocRingBuffer<Counted<'a>> {
-    fn made_of(
-        _: &(impl Abort + AllocGlobal),
-        source: VecDeque<Counted<'a>>,
-    ) -> Result<GrowableAllocRingBuffer<Counted<'a>>, AllocError> {
-        Ok(GrowableAllocRingBuffer::from(source))
-    }
-}
-
-impl<'a> MadeOf<LinkedList<Counted<'a>>> for GrowableAllocRingBuffer<Counted<'a>> {
-    fn made_of(
-        rt: &(impl Abort + AllocGlobal),
-        source: LinkedList<Counted<'a>>,
-    ) -> Result<GrowableAllocRingBuffer<Counted<'a>>, AllocError> {
-        GrowableAllocRingBuffer::from_linked_list(rt.alloc(), source)
-    }
-}
-
-impl<'a> MadeOf<AllocRingBuffer<Counted<'a>>> for GrowableAllocRingBuffer<Counted<'a>> {
-    fn made_of(
-        rt: &(impl Abort + AllocGlobal),
-        source: AllocRingBuffer<Counted<'a>>,
-    ) -> Result<GrowableAllocRingBuffer<Counted<'a>>, AllocError> {
-        GrowableAllocRingBuffer::from_alloc(rt.alloc(), source)
-    }
-}
-
-impl<'a> MadeOf<ConstGenericRingBuffer<Counted<'a>, 3>> for GrowableAllocRingBuffer<Counted<'a>> {
-    fn made_of(
-        rt: &(impl Abort + AllocGlobal),
-        source: ConstGenericRingBuffer<Counted<'a>, 3>,
-    ) -> Result<GrowableAllocRingBuffer<Counted<'a>>, AllocError> {
-        GrowableAllocRingBuffer::from_const(rt.alloc(), source)
+        let alloc = rt.alloc();
+        match source {
+            Three::Array(a, b, c) => {
+                GrowableAllocRingBuffer::from_array(alloc, [Some(a), Some(b), Some(c)])
+            }
+            Three::Iterator(items) => GrowableAllocRingBuffer::from_iter(alloc, items),
+            Three::Vec(items) => GrowableAllocRingBuffer::from_vec(alloc, items),
+            Three::Deque(items) => Ok(GrowableAllocRingBuffer::from(items)),
+            Three::LinkedList(items) => GrowableAllocRingBuffer::from_linked_list(alloc, items),
+            Three::ArrayRing(ring) => GrowableAllocRingBuffer::from_const(alloc, ring),
+            Three::HeapRing(ring) => GrowableAllocRingBuffer::from_alloc(alloc, ring),
+            Three::GrowableRing(ring) => Ok(ring),
+        }
     }
 }
 
 impl<'a> MadeOf<Three<'a>> for ConstGenericRingBuffer<Counted<'a>, 3> {
     fn made_of(
         _: &(impl Abort + AllocGlobal),
-        (a, b, c): Three<'a>,
+        source: Three<'a>,
     ) -> Result<ConstGenericRingBuffer<Counted<'a>, 3>, AllocError> {
-        Ok(ConstGenericRingBuffer::from_array([Some(a), Some(b), Some(c)]))
-    }
-}
-
-impl<'a> MadeOf<Vec<Counted<'a>>> for ConstGenericRingBuffer<Counted<'a>, 3> {
-    fn made_of(
-        _: &(impl Abort + AllocGlobal),
-        source: Vec<Counted<'a>>,
-    ) -> Result<ConstGenericRingBuffer<Counted<'a>, 3>, AllocError> {
-        Ok(ConstGenericRingBuffer::from_vec(source))
-    }
-}
-
-impl<'a> MadeOf<Iterated<'a>> for ConstGenericRingBuffer<Counted<'a>, 3> {
-    fn made_of(
-        _: &(impl Abort + AllocGlobal),
-        source: Iterated<'a>,
-    ) -> Result<ConstGenericRingBuffer<Counted<'a>, 3>, AllocError> {
-        Ok(ConstGenericRingBuffer::from_iter(source.items))
-    }
-}
-
-impl<'a> MadeOf<VecDeque<Counted<'a>>> for ConstGenericRingBuffer<Counted<'a>, 3> {
-    fn made_of(
-        _: &(impl Abort + AllocGlobal),
-        source: VecDeque<Counted<'a>>,
-    ) -> Result<ConstGenericRingBuffer<Counted<'a>, 3>, AllocError> {
-        Ok(ConstGenericRingBuffer::from_deque(source))
-    }
-}
-
-impl<'a> MadeOf<LinkedList<Counted<'a>>> for ConstGenericRingBuffer<Counted<'a>, 3> {
-    fn made_of(
-        _: &(impl Abort + AllocGlobal),
-        source: LinkedList<Counted<'a>>,
-    ) -> Result<ConstGenericRingBuffer<Counted<'a>, 3>, AllocError> {
-        Ok(ConstGenericRingBuffer::from_linked_list(source))
-    }
-}
-
-impl<'a> MadeOf<GrowableAllocRingBuffer<Counted<'a>>> for ConstGenericRingBuffer<Counted<'a>, 3> {
-    fn made_of(
-        _: &(impl Abort + AllocGlobal),
-        source: GrowableAllocRingBuffer<Counted<'a>>,
-    ) -> Result<ConstGenericRingBuffer<Counted<'a>, 3>, AllocError> {
-        Ok(ConstGenericRingBuffer::from_growable(source))
-    }
-}
-
-impl<'a> MadeOf<AllocRingBuffer<Counted<'a>>> for ConstGenericRingBuffer<Counted<'a>, 3> {
-    fn made_of(
-        _: &(impl Abort + AllocGlobal),
-        source: AllocRingBuffer<Counted<'a>>,
-    ) -> Result<ConstGenericRingBuffer<Counted<'a>, 3>, AllocError> {
-        Ok(ConstGenericRingBuffer::from_alloc(source))
+        Ok(match source {
+            Three::Array(a, b, c) => {
+                ConstGenericRingBuffer::from_array([Some(a), Some(b), Some(c)])
+            }
+            Three::Iterator(items) => ConstGenericRingBuffer::from_iter(items),
+            Three::Vec(items) => ConstGenericRingBuffer::from_vec(items),
+            Three::Deque(items) => ConstGenericRingBuffer::from_deque(items),
+            Three::LinkedList(items) => ConstGenericRingBuffer::from_linked_list(items),
+            Three::ArrayRing(ring) => ring,
+            Three::HeapRing(ring) => ConstGenericRingBuffer::from_alloc(ring),
+            Three::GrowableRing(ring) => ConstGenericRingBuffer::from_growable(ring),
+        })
     }
 }
 
@@ -313,16 +172,16 @@ fn is_made<'a, R: RingBuffer<Counted<'a>> + Drop>(
 }
 
 /// Makes a ring of three items. They are dropped when it ends, and not before.
-fn assert_made<'a, S, R>(
+fn assert_made<'a, R>(
     rt: &(impl Abort + AllocGlobal),
     supply: &'a Supply,
+    holder: &Holder,
 ) -> Result<(), AllocError>
 where
-    S: OfThree<&'a Supply> + Drop,
-    R: RingBuffer<Counted<'a>> + MadeOf<S> + Drop,
+    R: RingBuffer<Counted<'a>> + MadeOf<Three<'a>> + Drop,
 {
     supply.begin_again();
-    let source = S::of_three(rt, supply)?;
+    let source = Three::of(rt, supply, holder)?;
     assert!(rt; is_made(rt, R::made_of(rt, source), supply));
     Ok(())
 }
@@ -330,110 +189,116 @@ where
 #[test]
 fn items_that_were_moved_in_are_dropped_once(rt: HostRuntime) -> Result<(), AllocError> {
     let supply = Supply::new(rt.alloc(), 3)?;
-    assert_made::<Three, ConstGenericRingBuffer<Counted, 3>>(&rt, &supply)?;
-    assert_made::<Three, AllocRingBuffer<Counted>>(&rt, &supply)?;
-    assert_made::<Three, GrowableAllocRingBuffer<Counted>>(&rt, &supply)
+    assert_made::<ConstGenericRingBuffer<Counted, 3>>(&rt, &supply, &Holder::Array)?;
+    assert_made::<AllocRingBuffer<Counted>>(&rt, &supply, &Holder::Array)?;
+    assert_made::<GrowableAllocRingBuffer<Counted>>(&rt, &supply, &Holder::Array)
 }
 
 /// Makes a ring of three items in a drought that spares so many bytes. Returns whether it was made.
-fn is_made_in_a_drought<'a, S, R>(
+fn is_made_in_a_drought<'a, R>(
     rt: &(impl Abort + AllocGlobal),
     supply: &'a Supply,
+    holder: &Holder,
     spare: usize,
 ) -> Result<bool, AllocError>
 where
-    S: OfThree<&'a Supply> + Drop,
-    R: RingBuffer<Counted<'a>> + MadeOf<S> + Drop,
+    R: RingBuffer<Counted<'a>> + MadeOf<Three<'a>> + Drop,
 {
     supply.begin_again();
-    let source = S::of_three(rt, supply)?;
+    let source = Three::of(rt, supply, holder)?;
     let drought = Drought::but_for(rt.alloc(), spare)?;
     let made = R::made_of(rt, source);
     drop(drought);
     Ok(is_made(rt, made, supply))
 }
 
-/// Makes a ring of three items in one drought after the other, until none is refused. The first is.
-fn assert_made_at_last<'a, S, R>(
+/// Makes rings of three items, of each holder in one drought after the other until none is refused. The first is.
+fn assert_made_at_last<'a, R>(
     rt: &(impl Abort + AllocGlobal),
     supply: &'a Supply,
+    holders: &[Holder],
 ) -> Result<(), AllocError>
 where
-    S: OfThree<&'a Supply> + Drop,
-    R: RingBuffer<Counted<'a>> + MadeOf<S> + Drop,
+    R: RingBuffer<Counted<'a>> + MadeOf<Three<'a>> + Drop,
 {
-    for step in 0..MOST_STEPS {
-        if is_made_in_a_drought::<S, R>(rt, supply, spared(step))? {
-            assert!(rt; step > 0);
-            return Ok(());
+    for holder in holders {
+        let mut refused = 0;
+        for step in 0..MOST_STEPS {
+            if is_made_in_a_drought::<R>(rt, supply, holder, spared(step))? {
+                break;
+            }
+            refused = step + 1;
         }
+        assert!(rt; (1..MOST_STEPS).contains(&refused), "of {holder:?}");
     }
-    panic!(rt; "each attempt was refused")
+    Ok(())
 }
 
-/// Makes a ring of three items while there is no memory.
-fn assert_made_of_nothing<'a, S, R>(
+/// Makes rings of three items while there is no memory, one of each holder.
+fn assert_made_of_nothing<'a, R>(
     rt: &(impl Abort + AllocGlobal),
     supply: &'a Supply,
+    holders: &[Holder],
 ) -> Result<(), AllocError>
 where
-    S: OfThree<&'a Supply> + Drop,
-    R: RingBuffer<Counted<'a>> + MadeOf<S> + Drop,
+    R: RingBuffer<Counted<'a>> + MadeOf<Three<'a>> + Drop,
 {
-    assert!(rt; is_made_in_a_drought::<S, R>(rt, supply, 0)?);
+    for holder in holders {
+        assert!(rt;
+            is_made_in_a_drought::<R>(rt, supply, holder, 0)?,
+            "of {holder:?}"
+        );
+    }
     Ok(())
 }
 
 #[test]
 fn a_refused_heap_ring_drops_its_source(rt: HostRuntime) -> Result<(), AllocError> {
     let supply = Supply::new(rt.alloc(), 3)?;
-    assert_made_at_last::<Three, AllocRingBuffer<Counted>>(&rt, &supply)?;
-    assert_made_at_last::<Vec<Counted>, AllocRingBuffer<Counted>>(&rt, &supply)?;
-    assert_made_at_last::<VecDeque<Counted>, AllocRingBuffer<Counted>>(&rt, &supply)?;
-    assert_made_at_last::<LinkedList<Counted>, AllocRingBuffer<Counted>>(&rt, &supply)?;
-    assert_made_at_last::<GrowableAllocRingBuffer<Counted>, AllocRingBuffer<Counted>>(
-        &rt, &supply,
-    )?;
-    assert_made_at_last::<ConstGenericRingBuffer<Counted, 3>, AllocRingBuffer<Counted>>(
-        &rt, &supply,
-    )
+    let holders = [
+        Holder::Array,
+        Holder::Vec,
+        Holder::Deque,
+        Holder::LinkedList,
+        Holder::GrowableRing,
+        Holder::ArrayRing,
+    ];
+    assert_made_at_last::<AllocRingBuffer<Counted>>(&rt, &supply, &holders)
 }
 
 #[test]
 fn a_refused_growable_ring_drops_its_source(rt: HostRuntime) -> Result<(), AllocError> {
     let supply = Supply::new(rt.alloc(), 3)?;
-    assert_made_at_last::<Three, GrowableAllocRingBuffer<Counted>>(&rt, &supply)?;
-    assert_made_at_last::<Iterated, GrowableAllocRingBuffer<Counted>>(&rt, &supply)?;
-    assert_made_at_last::<LinkedList<Counted>, GrowableAllocRingBuffer<Counted>>(&rt, &supply)?;
-    assert_made_at_last::<AllocRingBuffer<Counted>, GrowableAllocRingBuffer<Counted>>(
-        &rt, &supply,
-    )?;
-    assert_made_at_last::<ConstGenericRingBuffer<Counted, 3>, GrowableAllocRingBuffer<Counted>>(
-        &rt, &supply,
-    )
+    let holders = [
+        Holder::Array,
+        Holder::Iterator,
+        Holder::LinkedList,
+        Holder::HeapRing,
+        Holder::ArrayRing,
+    ];
+    assert_made_at_last::<GrowableAllocRingBuffer<Counted>>(&rt, &supply, &holders)
 }
 
 #[test]
 fn an_array_ring_is_made_without_memory(rt: HostRuntime) -> Result<(), AllocError> {
     let supply = Supply::new(rt.alloc(), 3)?;
-    assert_made_of_nothing::<Three, ConstGenericRingBuffer<Counted, 3>>(&rt, &supply)?;
-    assert_made_of_nothing::<Vec<Counted>, ConstGenericRingBuffer<Counted, 3>>(&rt, &supply)?;
-    assert_made_of_nothing::<Iterated, ConstGenericRingBuffer<Counted, 3>>(&rt, &supply)?;
-    assert_made_of_nothing::<VecDeque<Counted>, ConstGenericRingBuffer<Counted, 3>>(&rt, &supply)?;
-    assert_made_of_nothing::<LinkedList<Counted>, ConstGenericRingBuffer<Counted, 3>>(&rt, &supply)
+    let holders = [
+        Holder::Array,
+        Holder::Vec,
+        Holder::Iterator,
+        Holder::Deque,
+        Holder::LinkedList,
+    ];
+    assert_made_of_nothing::<ConstGenericRingBuffer<Counted, 3>>(&rt, &supply, &holders)
 }
 
 #[test]
 fn a_ring_becomes_another_without_memory(rt: HostRuntime) -> Result<(), AllocError> {
     let supply = Supply::new(rt.alloc(), 3)?;
-    assert_made_of_nothing::<GrowableAllocRingBuffer<Counted>, ConstGenericRingBuffer<Counted, 3>>(
-        &rt, &supply,
-    )?;
-    assert_made_of_nothing::<AllocRingBuffer<Counted>, ConstGenericRingBuffer<Counted, 3>>(
-        &rt, &supply,
-    )?;
-    assert_made_of_nothing::<Vec<Counted>, GrowableAllocRingBuffer<Counted>>(&rt, &supply)?;
-    assert_made_of_nothing::<VecDeque<Counted>, GrowableAllocRingBuffer<Counted>>(&rt, &supply)
+    let rings = [Holder::GrowableRing, Holder::HeapRing];
+    assert_made_of_nothing::<ConstGenericRingBuffer<Counted, 3>>(&rt, &supply, &rings)?;
+    let queues = [Holder::Vec, Holder::Deque];
+    assert_made_of_nothing::<GrowableAllocRingBuffer<Counted>>(&rt, &supply, &queues)
 }
 
 /// A ring of characters that can be made of a text, which is lent or handed over.

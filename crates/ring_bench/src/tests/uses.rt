@@ -1,15 +1,15 @@
 //! Each use once, on input as it comes in practice.
 
-use crate::array_pipe::ArrayPipe;
-use crate::events::remember;
-use crate::last_lines::tail;
-use crate::last_two::newest_and_oldest;
-use crate::pipe::Pipe;
-use crate::relay::relay;
-use crate::samples::SampleBuffer;
-use crate::tail::LogTail;
-use crate::undo::History;
-use crate::window::Window;
+use ring_uses::array_pipe::ArrayPipe;
+use ring_uses::events::remember;
+use ring_uses::last_lines::tail;
+use ring_uses::last_two::newest_and_oldest;
+use ring_uses::pipe::Pipe;
+use ring_uses::relay::relay;
+use ring_uses::samples::SampleBuffer;
+use ring_uses::tail::LogTail;
+use ring_uses::undo::History;
+use ring_uses::window::Window;
 use ringbuffer::{AllocRingBuffer, RingBuffer};
 use std::alloc::AllocError;
 use std::test::Fail;
