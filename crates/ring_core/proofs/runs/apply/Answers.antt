@@ -26,21 +26,18 @@ keep_last-unlimited (Some n) xs unlimited = absurd (unlimited refl)
 pub returns-in-Ok-extend-clause-contents : goal.returns-in-Ok-extend-clause-contents
 returns-in-Ok-extend-clause-contents g c =
     let (it, taken, source, left, _, ended) = c.in-Ok-extend.ensures.extends in
-    let v = c.in-Extend.items in
-    let all = taken_all it v.items taken source.0 (source.1 ∙ v.ok.0) ended in
+    let v = c.in-Extend.items in let all = taken_all it v.items taken source.0 (source.1 ∙ v.ok.0) ended in
     rw c.in-Extend.is (rw (← all) left)
 
 pub returns-in-Ok-extend-clause-changes : goal.returns-in-Ok-extend-clause-changes
 returns-in-Ok-extend-clause-changes g c =
     let (it, taken, source, _, changes, ended) = c.in-Ok-extend.ensures.extends in
-    let v = c.in-Extend.items in
-    let all = taken_all it v.items taken source.0 (source.1 ∙ v.ok.0) ended in
+    let v = c.in-Extend.items in let all = taken_all it v.items taken source.0 (source.1 ∙ v.ok.0) ended in
     rw c.in-Extend.is (rw (← all) (λ some. search rules))
 
 pub returns-in-Err-extend-clause-refused : goal.returns-in-Err-extend-clause-refused
 returns-in-Err-extend-clause-refused g c =
     let (it, taken, source, left, _, (x, u, ended)) = c.in-Err-extend.ensures.extends in
-    let v = c.in-Extend.items in
-    let cut = IsCut-taken it v.items taken source.0 (source.1 ∙ v.ok.0) x u ended in
+    let v = c.in-Extend.items in let cut = IsCut-taken it v.items taken source.0 (source.1 ∙ v.ok.0) x u ended in
     let kept = keep_last-unlimited (g.R.RingBuffer.limit c.args.ring.now) (g.R.RingBuffer.contents c.args.ring.now ++ taken) (λ some. cc (c.in-Err-extend.ensures.succeeds some)) in
     (v, c.in-Extend.is, rw c.in-Extend.is (taken, cut, rw kept at left))

@@ -14,8 +14,7 @@ store-requires g c =
 
 pub loop-command-preserved : goal.loop-command-preserved
 loop-command-preserved g c =
-    let so_far = c.loop-command.invariant in
-    let done = c.in-Ok-apply.ensures in
+    let so_far = c.loop-command.invariant in let done = c.in-Ok-apply.ensures in
     record {
       done = HasDone-turn c.in-Some.command _ _ _ _ so_far.done c.in-Some.ensures.steps.0 done.limit done.contents done.changes;
       answered = rw (replies_to-turn c.in-Some.command c.in-Ok-apply.reply so_far.done done.reply, ← so_far.answered) c.store.ensures.items;

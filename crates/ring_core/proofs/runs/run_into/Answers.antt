@@ -8,8 +8,7 @@ use Rattle.ring_core.proofs.runs.run_into.Goals as goal
 
 pub loop-command-preserved : goal.loop-command-preserved
 loop-command-preserved g c =
-    let so_far = c.loop-command.invariant in
-    let next = c.in-Some.ensures.steps.0 in
+    let so_far = c.loop-command.invariant in let next = c.in-Some.ensures.steps.0 in
     record {
       done = HasDone-turn c.in-Some.command _ _ _ _ so_far.done next c.in-Ok.ensures.limit c.in-Ok.ensures.contents c.in-Ok.ensures.changes;
       answered = places-turn c.in-Some.command _ _ _ c.in-Ok.reply so_far.done next so_far.answered c.in-Ok.ensures.reply c.put.ensures;
