@@ -81,21 +81,32 @@ const COPIES: [(&[i64], usize, &[i64]); 8] = [
     (&[1, 2, 3, 4, 5], 5, &[1, 2, 3, 4, 5, 9]),
 ];
 
-/// An extension by the slice of each row, or by its items, leaves the last of all items that the limit allows.
+/// An extension by the slice of a row, or by its items, leaves the last of all items that the limit allows.
+fn assert_extended<R: Slices>(
+    rt: &impl Abort,
+    ring: &mut R,
+    start: usize,
+    limit: usize,
+    (items, slice, all): (&[i64], &[i64], &[i64]),
+) -> Result<(), AllocError> {
+    let left = &all[all.len().saturating_sub(limit)..];
+    lay(rt, ring, start, items);
+    ring.extend_from_slice(slice)?;
+    assert_gives(rt, ring, left);
+    lay(rt, ring, start, items);
+    ring.extend(slice.iter().copied())?;
+    assert_gives(rt, ring, left);
+    Ok(())
+}
+
 fn assert_extends<R: Slices + Drop>(
     rt: &impl Abort,
     mut ring: R,
     limit: usize,
 ) -> Result<(), AllocError> {
-    for (items, slice, all) in EXTENSIONS {
-        let left = &all[all.len().saturating_sub(limit)..];
+    for row in EXTENSIONS {
         for start in STARTS {
-            lay(rt, &mut ring, start, items);
-            ring.extend_from_slice(slice)?;
-            assert_gives(rt, &mut ring, left);
-            lay(rt, &mut ring, start, items);
-            ring.extend(slice.iter().copied())?;
-            assert_gives(rt, &mut ring, left);
+            assert_extended(rt, &mut ring, start, limit, row)?;
         }
     }
     Ok(())
@@ -108,52 +119,70 @@ fn slices_are_put_behind_the_items(rt: HostRuntime) -> Result<(), AllocError> {
     assert_extends(&rt, GrowableAllocRingBuffer::new(rt.alloc()), usize::MAX)
 }
 
-/// `copy_to_slice` and `dequeue_into` on the items and the slice of each row.
-fn assert_copies<R: Slices + Drop>(rt: &impl Abort, mut ring: R) -> Result<(), AllocError> {
-    for (items, count, copied) in COPIES {
+/// `copy_to_slice` and `dequeue_into` on a row, and what the second leaves.
+fn assert_copied<R: Slices>(
+    rt: &impl Abort,
+    ring: &mut R,
+    start: usize,
+    (items, count, copied): (&[i64], usize, &[i64]),
+) {
+    lay(rt, ring, start, items);
+    let mut output = [9; 6];
+    let output = &mut output[..copied.len()];
+    assert_eq!(rt; ring.copy_to_slice(output), count);
+    assert_eq!(rt; &*output, copied);
+    assert_holds(rt, ring, items);
+    output.fill(9);
+    assert_eq!(rt; ring.dequeue_into(output), count);
+    assert_eq!(rt; &*output, copied);
+    push_all(rt, ring, &[8]);
+    assert_dequeues(rt, ring, items, count);
+    assert_gives(rt, ring, &[8]);
+}
+
+/// Takes out the items of a list but for so many of its first.
+fn assert_dequeues<R: Slices>(rt: &impl Abort, ring: &mut R, items: &[i64], count: usize) {
+    for item in items.iter().skip(count) {
+        assert_eq!(rt; ring.dequeue(), Some(*item));
+    }
+}
+
+fn assert_copies<R: Slices + Drop>(rt: &impl Abort, mut ring: R) {
+    for row in COPIES {
         for start in STARTS {
-            lay(rt, &mut ring, start, items);
-            let mut output = [9; 6];
-            let output = &mut output[..copied.len()];
-            assert_eq!(rt; ring.copy_to_slice(output), count);
-            assert_eq!(rt; &*output, copied);
-            assert_holds(rt, &ring, items);
-            output.fill(9);
-            assert_eq!(rt; ring.dequeue_into(output), count);
-            assert_eq!(rt; &*output, copied);
-            push_all(rt, &mut ring, &[8]);
-            for item in items.iter().skip(count) {
-                assert_eq!(rt; ring.dequeue(), Some(*item));
-            }
-            assert_gives(rt, &mut ring, &[8]);
+            assert_copied(rt, &mut ring, start, row);
         }
     }
-    Ok(())
 }
 
 #[test]
 fn items_are_copied_to_slices(rt: HostRuntime) -> Result<(), AllocError> {
-    assert_copies(&rt, AllocRingBuffer::new(rt.alloc(), 6)?)?;
-    assert_copies(&rt, AllocRingBuffer::new(rt.alloc(), 8)?)?;
-    assert_copies(&rt, GrowableAllocRingBuffer::new(rt.alloc()))
+    assert_copies(&rt, AllocRingBuffer::new(rt.alloc(), 6)?);
+    assert_copies(&rt, AllocRingBuffer::new(rt.alloc(), 8)?);
+    assert_copies(&rt, GrowableAllocRingBuffer::new(rt.alloc()));
+    Ok(())
 }
 
-/// As many items as a heap ring may hold, up to 8, from every start, in one slice. They are turned round there, and one
-/// more is pushed.
+/// Items of a heap ring in one slice, which are turned round there before one more is pushed.
+fn assert_turned(rt: &impl Abort, ring: &mut AllocRingBuffer<i64>, start: usize, items: &[i64]) {
+    lay(rt, ring, start, items);
+    assert_eq!(rt; &*ring.make_contiguous(), items);
+    assert_holds(rt, ring, items);
+    ring.make_contiguous().reverse();
+    push_all(rt, ring, &[9]);
+    let left = ring.capacity().min(items.len() + 1);
+    for item in items.iter().rev().skip(items.len() + 1 - left) {
+        assert_eq!(rt; ring.dequeue(), Some(*item));
+    }
+    assert_gives(rt, ring, &[9]);
+}
+
+/// As many items as a heap ring may hold, up to 8, from every start.
 fn assert_one_slice(rt: &impl Abort, mut ring: AllocRingBuffer<i64>) {
-    let capacity = ring.capacity();
-    for len in 0..=capacity.min(8) {
+    for len in 0..=ring.capacity().min(8) {
         let (items, _) = [1, 2, 3, 4, 5, 6, 7, 8].split_at(len);
         for start in STARTS {
-            lay(rt, &mut ring, start, items);
-            assert_eq!(rt; &*ring.make_contiguous(), items);
-            assert_holds(rt, &ring, items);
-            ring.make_contiguous().reverse();
-            push_all(rt, &mut ring, &[9]);
-            for item in items.iter().rev().skip(len + 1 - capacity.min(len + 1)) {
-                assert_eq!(rt; ring.dequeue(), Some(*item));
-            }
-            assert_gives(rt, &mut ring, &[9]);
+            assert_turned(rt, &mut ring, start, items);
         }
     }
 }

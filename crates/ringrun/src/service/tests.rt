@@ -7,6 +7,7 @@ use ring_test_support::drought::Drought;
 use std::alloc::{AllocError, Global};
 use std::io::ErrorKind;
 use std::process::Abort;
+use std::str;
 use std::test::Fail;
 use streams::{Refusal, Sink, Source};
 
@@ -69,27 +70,50 @@ fn run(
     Ok(serve_words(alloc, words.as_slice(), input, output, errors))
 }
 
-fn run_script(alloc: Global, capacity: &str, script: &[u8]) -> Result<Outcome, AllocError> {
-    run(
-        alloc,
-        &["array", capacity],
-        Source::of(script),
-        Sink::new(alloc)?,
-    )
+fn run_script(alloc: Global, arguments: &[&str], script: &[u8]) -> Result<Outcome, AllocError> {
+    run(alloc, arguments, Source::of(script), Sink::new(alloc)?)
 }
 
-fn repeated(alloc: Global, line: &[u8], count: usize) -> Result<Vec<u8>, AllocError> {
-    let mut script = Vec::new(alloc);
-    for _ in 0..count {
-        script.extend_from_slice(line)?;
+/// Fails where a run didn't end so.
+fn assert_ended(
+    rt: &(impl Abort + AllocGlobal),
+    outcome: &Outcome,
+    status: u8,
+    output: &str,
+    errors: &str,
+) -> Result<(), Fail> {
+    assert_eq!(rt; outcome.output.text()?, output);
+    assert_eq!(rt; outcome.errors.text()?, errors);
+    assert_eq!(rt; outcome.status, status);
+    Ok(())
+}
+
+/// Each text as often as its number says, one behind the other.
+fn repeated(alloc: Global, texts: &[(&[u8], usize)]) -> Result<Vec<u8>, AllocError> {
+    let mut all = Vec::new(alloc);
+    for (text, count) in texts {
+        for _ in 0..*count {
+            all.extend_from_slice(text)?;
+        }
     }
-    Ok(script)
+    Ok(all)
+}
+
+/// Runs each script on an array ring of its capacity.
+fn assert_prints(
+    rt: &(impl Abort + AllocGlobal),
+    cases: &[(&str, &[u8], &str)],
+) -> Result<(), Fail> {
+    for (capacity, script, want) in cases {
+        let outcome = run_script(rt.alloc(), &["array", capacity], script)?;
+        assert_ended(rt, &outcome, 0, want, "")?;
+    }
+    Ok(())
 }
 
 #[test]
 fn prints_what_the_commands_answer(rt: HostRuntime) -> Result<(), Fail> {
-    let eleven = b"extend 1 2 3 4 5 6 7 8 9 10 11";
-    let cases: [(&str, &[u8], &str); 26] = [
+    let cases: [(&str, &[u8], &str); 8] = [
         ("2", SCRIPT, ANSWER),
         ("02", SCRIPT, ANSWER),
         ("2", b"", "items\n"),
@@ -119,14 +143,27 @@ fn prints_what_the_commands_answer(rt: HostRuntime) -> Result<(), Fail> {
             b"push -9223372036854775808\npush 1\nskip\npush 2\n",
             "pushed\npushed over -9223372036854775808\nskipped\npushed\nitems 2\n",
         ),
-        // each capacity
+    ];
+    assert_prints(&rt, &cases)
+}
+
+#[test]
+fn has_array_rings_of_six_capacities(rt: HostRuntime) -> Result<(), Fail> {
+    let eleven = b"extend 1 2 3 4 5 6 7 8 9 10 11";
+    let cases: [(&str, &[u8], &str); 6] = [
         ("1", eleven, "extended\nitems 11\n"),
         ("2", eleven, "extended\nitems 10 11\n"),
         ("3", eleven, "extended\nitems 9 10 11\n"),
         ("4", eleven, "extended\nitems 8 9 10 11\n"),
         ("8", eleven, "extended\nitems 4 5 6 7 8 9 10 11\n"),
         ("10", eleven, "extended\nitems 2 3 4 5 6 7 8 9 10 11\n"),
-        // how numbers are written
+    ];
+    assert_prints(&rt, &cases)
+}
+
+#[test]
+fn reads_numbers_as_they_are_written(rt: HostRuntime) -> Result<(), Fail> {
+    let cases: [(&str, &[u8], &str); 6] = [
         (
             "3",
             b"push +5\n  push\t-0\r\npush 007",
@@ -157,7 +194,13 @@ fn prints_what_the_commands_answer(rt: HostRuntime) -> Result<(), Fail> {
             b"extend 12345678 0000000012345678 1234567812345678 -999999999999999999",
             "extended\nitems 12345678 12345678 1234567812345678 -999999999999999999\n",
         ),
-        // what stands between words, and lines without words
+    ];
+    assert_prints(&rt, &cases)
+}
+
+#[test]
+fn takes_white_space_between_words_and_lines_without_words(rt: HostRuntime) -> Result<(), Fail> {
+    let cases: [(&str, &[u8], &str); 6] = [
         ("3", b"extend\x0c1\x0c\t 2\r3", "extended\nitems 1 2 3\n"),
         (
             "3",
@@ -169,13 +212,7 @@ fn prints_what_the_commands_answer(rt: HostRuntime) -> Result<(), Fail> {
         ("3", b"\n", "items\n"),
         ("3", b" ", "items\n"),
     ];
-    for (capacity, script, want) in cases {
-        let outcome = run_script(rt.alloc(), capacity, script)?;
-        assert_eq!(rt; outcome.output.text()?, want);
-        assert_eq!(rt; outcome.errors.text()?, "");
-        assert_eq!(rt; outcome.status, 0);
-    }
-    Ok(())
+    assert_prints(&rt, &cases)
 }
 
 #[test]
@@ -201,37 +238,34 @@ fn runs_on_each_kind_of_ring(rt: HostRuntime) -> Result<(), Fail> {
         (["grow", "2"], SCRIPT, ANSWER_WITH_ROOM),
     ];
     for (words, script, want) in cases {
-        let outcome = run(
-            rt.alloc(),
-            &words,
-            Source::of(script),
-            Sink::new(rt.alloc())?,
-        )?;
-        assert_eq!(rt; outcome.output.text()?, want);
-        assert_eq!(rt; outcome.errors.text()?, "");
-        assert_eq!(rt; outcome.status, 0);
+        let outcome = run_script(rt.alloc(), &words, script)?;
+        assert_ended(&rt, &outcome, 0, want, "")?;
     }
     Ok(())
 }
 
+/// Fails unless a run asks for its ring, in vain, before it reads.
+fn assert_refused_a_ring(
+    rt: &(impl Abort + AllocGlobal),
+    arguments: &[&str],
+    input: Source<'_>,
+) -> Result<(), Fail> {
+    let outcome = run(rt.alloc(), arguments, input, Sink::new(rt.alloc())?)?;
+    assert!(rt; outcome.is_unread);
+    assert_ended(rt, &outcome, 3, "", NO_MEMORY)
+}
+
 #[test]
 fn makes_the_ring_before_it_reads(rt: HostRuntime) -> Result<(), Fail> {
-    for words in [
+    for arguments in [
         ["heap", "9223372036854775809"],
         ["heap", "18446744073709551615"],
         ["grow", "18446744073709551615"],
     ] {
-        for input in [
-            Source::of(SCRIPT),
-            Source::of(b"push x"),
-            Source::failing_between((b"", SCRIPT), ErrorKind::BrokenPipe),
-        ] {
-            let outcome = run(rt.alloc(), &words, input, Sink::new(rt.alloc())?)?;
-            assert_eq!(rt; outcome.status, 3);
-            assert!(rt; outcome.is_unread);
-            assert_eq!(rt; outcome.output.text()?, "");
-            assert_eq!(rt; outcome.errors.text()?, NO_MEMORY);
-        }
+        let failing = Source::failing_between((b"", SCRIPT), ErrorKind::BrokenPipe);
+        assert_refused_a_ring(&rt, &arguments, Source::of(SCRIPT))?;
+        assert_refused_a_ring(&rt, &arguments, Source::of(b"push x"))?;
+        assert_refused_a_ring(&rt, &arguments, failing)?;
     }
     Ok(())
 }
@@ -246,76 +280,35 @@ fn reads_to_the_end_before_it_names_a_line(rt: HostRuntime) -> Result<(), Fail> 
     for script in scripts {
         let input = Source::failing_between(script, ErrorKind::BrokenPipe);
         let outcome = run(rt.alloc(), &["array", "3"], input, Sink::new(rt.alloc())?)?;
-        assert_eq!(rt; outcome.status, 4);
-        assert_eq!(rt; outcome.output.text()?, "");
-        assert_eq!(rt; outcome.errors.text()?, FAILED);
+        assert_ended(&rt, &outcome, 4, "", FAILED)?;
+    }
+    Ok(())
+}
+
+#[test]
+fn names_a_line_that_is_no_command(rt: HostRuntime) -> Result<(), Fail> {
+    let lines: [&[u8]; 6] = [
+        b"push|push 1 2|push x|push 1.|push -|push +|push ++1|push +-1|push - 1|push 0x1|push 1_0",
+        b"push 9223372036854775808|push -9223372036854775809|push \xd9\xa1|PUSH 1|Push 1|push1",
+        b"pushed 1|pus 1|1|dequeue 1|skip 1|clear 1|dequeued|extend x|extend 1 x|extend 1,2",
+        b"extend 1 2 9223372036854775808|extend 1+2|extend 1-2|extend 1 -|push 5x|push -x|items",
+        b"push 92233720368547758070|push 18446744073709551617|push -18446744073709551617|\xff|\xc3",
+        b"skip \xff|skip\x0b|\x0b|push\xc2\xa01|skip\x00|push5|push-5|extend5|skip5|extendpush 1\
+        |push 1234567:|push /1234567|extend 12345678 1234\xb5678",
+    ];
+    for lines in lines {
+        for line in lines.split(|byte| *byte == b'|') {
+            let outcome = run_script(rt.alloc(), &["array", "3"], line)?;
+            assert_eq!(rt; outcome.status, 1, "at {line:?}");
+            assert_ended(&rt, &outcome, 1, "", "ringrun: line 1: not a command\n")?;
+        }
     }
     Ok(())
 }
 
 #[test]
 fn names_the_first_line_that_is_no_command(rt: HostRuntime) -> Result<(), Fail> {
-    let first: [&[u8]; 52] = [
-        b"push",
-        b"push 1 2",
-        b"push x",
-        b"push 1.",
-        b"push -",
-        b"push +",
-        b"push ++1",
-        b"push +-1",
-        b"push - 1",
-        b"push 0x1",
-        b"push 1_0",
-        b"push 9223372036854775808",
-        b"push -9223372036854775809",
-        b"push \xd9\xa1",
-        b"PUSH 1",
-        b"Push 1",
-        b"push1",
-        b"pushed 1",
-        b"pus 1",
-        b"1",
-        b"dequeue 1",
-        b"skip 1",
-        b"clear 1",
-        b"dequeued",
-        b"extend x",
-        b"extend 1 x",
-        b"extend 1 2 9223372036854775808",
-        b"extend 1,2",
-        b"extend 1+2",
-        b"extend 1-2",
-        b"extend 1 -",
-        b"push 5x",
-        b"push -x",
-        b"push 92233720368547758070",
-        b"push 18446744073709551617",
-        b"push -18446744073709551617",
-        b"items",
-        b"\xff",
-        b"skip \xff",
-        b"\xc3",
-        b"skip\x0b",
-        b"\x0b",
-        b"push\xc2\xa01",
-        b"skip\x00",
-        b"push5",
-        b"push-5",
-        b"extend5",
-        b"skip5",
-        b"extendpush 1",
-        b"push 1234567:",
-        b"push /1234567",
-        b"extend 12345678 1234\xb5678",
-    ];
-    for script in first {
-        let outcome = run_script(rt.alloc(), "3", script)?;
-        assert_eq!(rt; outcome.status, 1, "at {script:?}");
-        assert_eq!(rt; outcome.output.text()?, "");
-        assert_eq!(rt; outcome.errors.text()?, "ringrun: line 1: not a command\n");
-    }
-    let later: [(&[u8], &str); 7] = [
+    let scripts: [(&[u8], &str); 7] = [
         (b"push 1\npush x", "ringrun: line 2: not a command\n"),
         (b"\n\npush x", "ringrun: line 3: not a command\n"),
         (b"push 1\n\xff\n", "ringrun: line 2: not a command\n"),
@@ -327,54 +320,37 @@ fn names_the_first_line_that_is_no_command(rt: HostRuntime) -> Result<(), Fail> 
             "ringrun: line 12: not a command\n",
         ),
     ];
-    for (script, want) in later {
-        let outcome = run_script(rt.alloc(), "3", script)?;
-        assert_eq!(rt; outcome.status, 1);
-        assert_eq!(rt; outcome.output.text()?, "");
-        assert_eq!(rt; outcome.errors.text()?, want);
+    for (script, want) in scripts {
+        let outcome = run_script(rt.alloc(), &["array", "3"], script)?;
+        assert_ended(&rt, &outcome, 1, "", want)?;
     }
     Ok(())
 }
 
+/// Fails unless the arguments are refused before anything is read.
+fn assert_refused(rt: &(impl Abort + AllocGlobal), arguments: &[&str]) -> Result<(), Fail> {
+    let input = Source::failing_between((b"", SCRIPT), ErrorKind::BrokenPipe);
+    let outcome = run(rt.alloc(), arguments, input, Sink::new(rt.alloc())?)?;
+    assert_eq!(rt; outcome.status, 2, "by {arguments:?}");
+    assert!(rt; outcome.is_unread);
+    assert_ended(rt, &outcome, 2, "", USAGE)
+}
+
+// A line has the arguments of a run, with a bar between two.
 #[test]
 fn refuses_arguments_before_it_reads(rt: HostRuntime) -> Result<(), Fail> {
-    let cases: [&[&str]; 28] = [
-        &[],
-        &[""],
-        &["array"],
-        &["heap"],
-        &["2"],
-        &["array 2"],
-        &["array", ""],
-        &["array", "2", "3"],
-        &["array", "2", ""],
-        &["", "array", "2"],
-        &["2", "array"],
-        &["ARRAY", "2"],
-        &["arrays", "2"],
-        &["array", "0"],
-        &["array", "5"],
-        &["array", "9"],
-        &["array", "11"],
-        &["array", "+2"],
-        &["array", "-2"],
-        &["array", " 2"],
-        &["array", "2.0"],
-        &["array", "0x2"],
-        &["array", "two"],
-        &["array", "18446744073709551616"],
-        &["array", "18446744073709551618"],
-        &["heap", "0"],
-        &["heap", "+1"],
-        &["grow", ""],
+    assert_refused(&rt, &[])?;
+    assert_refused(&rt, &[""])?;
+    let lines = [
+        "array;heap;2;array 2;array|;array|2|3;array|2|;|array|2;2|array;ARRAY|2;arrays|2",
+        "array|0;array|5;array|9;array|11;array|+2;array|-2;array| 2;array|2.0;array|0x2;array|two",
+        "array|18446744073709551616;array|18446744073709551618;heap|0;heap|+1;grow|",
     ];
-    for arguments in cases {
-        let input = Source::failing_between((b"", SCRIPT), ErrorKind::BrokenPipe);
-        let outcome = run(rt.alloc(), arguments, input, Sink::new(rt.alloc())?)?;
-        assert_eq!(rt; outcome.status, 2, "by {arguments:?}");
-        assert!(rt; outcome.is_unread);
-        assert_eq!(rt; outcome.output.text()?, "");
-        assert_eq!(rt; outcome.errors.text()?, USAGE);
+    for lines in lines {
+        for line in lines.split(';') {
+            let arguments: Vec<&str> = line.split('|').collect(rt.alloc())?;
+            assert_refused(&rt, arguments.as_slice())?;
+        }
     }
     Ok(())
 }
@@ -383,13 +359,12 @@ fn refuses_arguments_before_it_reads(rt: HostRuntime) -> Result<(), Fail> {
 fn reads_what_comes_in_pieces(rt: HostRuntime) -> Result<(), Fail> {
     let input = Source::in_pieces(SCRIPT, 1);
     let outcome = run(rt.alloc(), &["array", "3"], input, Sink::new(rt.alloc())?)?;
-    assert_eq!(rt; outcome.status, 0);
-    assert_eq!(rt; outcome.output.text()?, ANSWER_WITH_ROOM);
+    assert_ended(&rt, &outcome, 0, ANSWER_WITH_ROOM, "")?;
     for k in 0..=SCRIPT.len() {
         let input = Source::failing_between(SCRIPT.split_at(k), ErrorKind::Interrupted);
         let outcome = run(rt.alloc(), &["array", "3"], input, Sink::new(rt.alloc())?)?;
         assert_eq!(rt; outcome.status, 0, "interrupted after {k}");
-        assert_eq!(rt; outcome.output.text()?, ANSWER_WITH_ROOM);
+        assert_ended(&rt, &outcome, 0, ANSWER_WITH_ROOM, "")?;
     }
     Ok(())
 }
@@ -397,33 +372,41 @@ fn reads_what_comes_in_pieces(rt: HostRuntime) -> Result<(), Fail> {
 // More lines than fit in a half word, or in any batch.
 #[test]
 fn reads_a_long_script(rt: HostRuntime) -> Result<(), Fail> {
-    let mut script = repeated(rt.alloc(), b"push 7\n", 70_000)?;
-    let mut answer = repeated(rt.alloc(), b"pushed\n", 1)?;
-    answer.extend_from_slice(repeated(rt.alloc(), b"pushed over 7\n", 69_999)?.as_slice())?;
-    answer.extend_from_slice(b"items 7\n")?;
-    let outcome = run_script(rt.alloc(), "1", script.as_slice())?;
-    assert_eq!(rt; outcome.status, 0);
-    assert!(rt; outcome.output.text()?.as_bytes() == answer.as_slice());
-    script.extend_from_slice(b"push")?;
-    let outcome = run_script(rt.alloc(), "1", script.as_slice())?;
-    assert_eq!(rt; outcome.status, 1);
-    assert_eq!(rt;
-        outcome.errors.text()?,
-        "ringrun: line 70001: not a command\n"
-    );
-    Ok(())
+    let lines: (&[u8], usize) = (b"push 7\n", 70_000);
+    let script = repeated(rt.alloc(), &[lines])?;
+    let answer = repeated(
+        rt.alloc(),
+        &[
+            (b"pushed\n", 1),
+            (b"pushed over 7\n", 69_999),
+            (b"items 7\n", 1),
+        ],
+    )?;
+    let outcome = run_script(rt.alloc(), &["array", "1"], script.as_slice())?;
+    assert_ended(&rt, &outcome, 0, str::from_utf8(answer.as_slice())?, "")?;
+    let script = repeated(rt.alloc(), &[lines, (b"push", 1)])?;
+    let outcome = run_script(rt.alloc(), &["array", "1"], script.as_slice())?;
+    assert_ended(&rt, &outcome, 1, "", "ringrun: line 70001: not a command\n")
 }
 
 #[test]
 fn keeps_apart_the_items_of_many_extensions(rt: HostRuntime) -> Result<(), Fail> {
-    let mut script = repeated(rt.alloc(), b"extend 1 2\nskip\n", 5000)?;
-    script.extend_from_slice(b"extend 3\nextend\nextend 4 5\n")?;
-    let mut answer = repeated(rt.alloc(), b"extended\nskipped\n", 5000)?;
-    answer.extend_from_slice(b"extended\nextended\nextended\nitems 3 4 5\n")?;
-    let outcome = run_script(rt.alloc(), "3", script.as_slice())?;
-    assert_eq!(rt; outcome.status, 0);
-    assert!(rt; outcome.output.text()?.as_bytes() == answer.as_slice());
-    Ok(())
+    let script = repeated(
+        rt.alloc(),
+        &[
+            (b"extend 1 2\nskip\n", 5000),
+            (b"extend 3\nextend\nextend 4 5\n", 1),
+        ],
+    )?;
+    let answer = repeated(
+        rt.alloc(),
+        &[
+            (b"extended\nskipped\n", 5000),
+            (b"extended\nextended\nextended\nitems 3 4 5\n", 1),
+        ],
+    )?;
+    let outcome = run_script(rt.alloc(), &["array", "3"], script.as_slice())?;
+    assert_ended(&rt, &outcome, 0, str::from_utf8(answer.as_slice())?, "")
 }
 
 #[test]
@@ -432,8 +415,7 @@ fn says_where_reading_failed(rt: HostRuntime) -> Result<(), Fail> {
         let input = Source::failing_between(SCRIPT.split_at(k), ErrorKind::BrokenPipe);
         let outcome = run(rt.alloc(), &["array", "3"], input, Sink::new(rt.alloc())?)?;
         assert_eq!(rt; outcome.status, 4, "after {k}");
-        assert_eq!(rt; outcome.output.text()?, "");
-        assert_eq!(rt; outcome.errors.text()?, FAILED);
+        assert_ended(&rt, &outcome, 4, "", FAILED)?;
     }
     Ok(())
 }
@@ -453,15 +435,12 @@ fn says_where_writing_failed(rt: HostRuntime) -> Result<(), Fail> {
             let output = Sink::in_pieces(rt.alloc(), most)?.refusing(call, refusal);
             let outcome = run(rt.alloc(), &["array", "3"], Source::of(SCRIPT), output)?;
             assert_eq!(rt; outcome.status, 4, "at call {call}");
-            assert_eq!(rt; outcome.output.text()?, "");
             assert!(rt; ANSWER_WITH_ROOM.starts_with(outcome.output.unflushed()?));
-            assert_eq!(rt; outcome.errors.text()?, FAILED);
+            assert_ended(&rt, &outcome, 4, "", FAILED)?;
         }
         let output = Sink::in_pieces(rt.alloc(), most)?.refusing(calls.saturating_add(1), refusal);
         let outcome = run(rt.alloc(), &["array", "3"], Source::of(SCRIPT), output)?;
-        assert_eq!(rt; outcome.status, 0);
-        assert_eq!(rt; outcome.output.text()?, ANSWER_WITH_ROOM);
-        assert_eq!(rt; outcome.errors.text()?, "");
+        assert_ended(&rt, &outcome, 0, ANSWER_WITH_ROOM, "")?;
     }
     Ok(())
 }
@@ -473,7 +452,7 @@ fn writes_on_after_an_interruption(rt: HostRuntime) -> Result<(), Fail> {
         let output = Sink::in_pieces(rt.alloc(), 1)?.refusing(call, interruption);
         let outcome = run(rt.alloc(), &["array", "3"], Source::of(SCRIPT), output)?;
         assert_eq!(rt; outcome.status, 0, "interrupted at call {call}");
-        assert_eq!(rt; outcome.output.text()?, ANSWER_WITH_ROOM);
+        assert_ended(&rt, &outcome, 0, ANSWER_WITH_ROOM, "")?;
     }
     Ok(())
 }
@@ -506,7 +485,7 @@ fn keeps_the_status_where_no_error_is_taken(rt: HostRuntime) -> Result<(), Fail>
 #[derive(Clone, Copy)]
 struct Ending<'a> {
     status: u8,
-    output: &'a [u8],
+    output: &'a str,
     errors: &'a str,
 }
 
@@ -537,25 +516,21 @@ fn refusals(
     for refused in 0..400 {
         let outcome = run_in_drought(rt.alloc(), arguments, script, step.saturating_mul(refused))?;
         if outcome.status == ending.status {
-            assert!(rt; outcome.output.text()?.as_bytes() == ending.output);
-            assert_eq!(rt; outcome.errors.text()?, ending.errors);
+            assert_ended(rt, &outcome, ending.status, ending.output, ending.errors)?;
             return Ok(refused);
         }
-        assert_eq!(rt; outcome.status, 3);
-        assert_eq!(rt; outcome.output.text()?, "");
-        assert_eq!(rt; outcome.errors.text()?, NO_MEMORY);
+        assert_ended(rt, &outcome, 3, "", NO_MEMORY)?;
     }
     Err(Fail::new("refused at each step"))
 }
 
 #[test]
 fn says_where_memory_was_refused(rt: HostRuntime) -> Result<(), Fail> {
-    let script = repeated(rt.alloc(), b"dequeue\n", 40)?;
-    let mut answer = repeated(rt.alloc(), b"dequeued none\n", 40)?;
-    answer.extend_from_slice(b"items\n")?;
+    let script = repeated(rt.alloc(), &[(b"dequeue\n", 40)])?;
+    let answer = repeated(rt.alloc(), &[(b"dequeued none\n", 40), (b"items\n", 1)])?;
     let ending = Ending {
         status: 0,
-        output: answer.as_slice(),
+        output: str::from_utf8(answer.as_slice())?,
         errors: "",
     };
     assert!(rt; refusals(&rt, &["array", "2"], script.as_slice(), 128, ending)? > 0);
@@ -568,7 +543,7 @@ fn is_refused_an_extension(rt: HostRuntime) -> Result<(), Fail> {
     let run = |script| {
         let ending = Ending {
             status: 0,
-            output: b"extended\nextended\ncleared\ndequeued none\nitems\n",
+            output: "extended\nextended\ncleared\ndequeued none\nitems\n",
             errors: "",
         };
         refusals(&rt, &["heap", "2"], script, 32, ending)
@@ -589,10 +564,8 @@ fn is_refused_a_ring(rt: HostRuntime) -> Result<(), Fail> {
         let drought = Drought::but_for(rt.alloc(), 1 << 13)?;
         let outcome = serve_words(rt.alloc(), words.as_slice(), input, output, errors);
         drop(drought);
-        assert_eq!(rt; outcome.status, 3);
         assert!(rt; outcome.is_unread);
-        assert_eq!(rt; outcome.output.text()?, "");
-        assert_eq!(rt; outcome.errors.text()?, NO_MEMORY);
+        assert_ended(&rt, &outcome, 3, "", NO_MEMORY)?;
     }
     Ok(())
 }
@@ -600,21 +573,22 @@ fn is_refused_a_ring(rt: HostRuntime) -> Result<(), Fail> {
 // A line that is no command is named with less memory than a run of the lines before it takes.
 #[test]
 fn reads_all_lines_before_it_runs_one(rt: HostRuntime) -> Result<(), Fail> {
-    let mut script = repeated(rt.alloc(), b"push 7\n", 40)?;
-    let mut answer = repeated(rt.alloc(), b"pushed\n", 40)?;
-    answer.extend_from_slice(b"items")?;
-    answer.extend_from_slice(repeated(rt.alloc(), b" 7", 40)?.as_slice())?;
-    answer.extend_from_slice(b"\n")?;
+    let lines: (&[u8], usize) = (b"push 7\n", 40);
+    let script = repeated(rt.alloc(), &[lines])?;
+    let answer = repeated(
+        rt.alloc(),
+        &[(b"pushed\n", 40), (b"items", 1), (b" 7", 40), (b"\n", 1)],
+    )?;
     let ending = Ending {
         status: 0,
-        output: answer.as_slice(),
+        output: str::from_utf8(answer.as_slice())?,
         errors: "",
     };
     let run = refusals(&rt, &["grow", "0"], script.as_slice(), 256, ending)?;
-    script.extend_from_slice(b"x")?;
+    let script = repeated(rt.alloc(), &[lines, (b"x", 1)])?;
     let ending = Ending {
         status: 1,
-        output: b"",
+        output: "",
         errors: "ringrun: line 41: not a command\n",
     };
     let named = refusals(&rt, &["grow", "0"], script.as_slice(), 256, ending)?;
@@ -626,26 +600,22 @@ fn reads_all_lines_before_it_runs_one(rt: HostRuntime) -> Result<(), Fail> {
 // the next. The line that is no command is behind them all.
 #[test]
 fn names_a_line_behind_what_is_refused(rt: HostRuntime) -> Result<(), Fail> {
-    let lines = repeated(rt.alloc(), b"push 7\n\n", 3000)?;
-    let mut script = repeated(rt.alloc(), lines.as_slice(), 1)?;
-    script.extend_from_slice(b"extend 1 2 x\n")?;
+    let lines: (&[u8], usize) = (b"push 7\n\n", 3000);
+    let script = repeated(rt.alloc(), &[lines])?;
+    let faulty = repeated(rt.alloc(), &[lines, (b"extend 1 2 x\n", 1)])?;
     let mut named = 0usize;
     let mut refused = 0usize;
     for step in 0..100usize {
         let room = step.saturating_mul(4096);
-        let outcome = run_in_drought(rt.alloc(), &["grow", "0"], script.as_slice(), room)?;
-        assert_eq!(rt; outcome.output.text()?, "");
+        let outcome = run_in_drought(rt.alloc(), &["grow", "0"], faulty.as_slice(), room)?;
         if named == 0 && outcome.status == 3 {
-            assert_eq!(rt; outcome.errors.text()?, NO_MEMORY);
+            assert_ended(&rt, &outcome, 3, "", NO_MEMORY)?;
             continue;
         }
         named = named.saturating_add(1);
         assert_eq!(rt; outcome.status, 1, "with {room} bytes");
-        assert_eq!(rt;
-            outcome.errors.text()?,
-            "ringrun: line 6001: not a command\n"
-        );
-        let outcome = run_in_drought(rt.alloc(), &["grow", "0"], lines.as_slice(), room)?;
+        assert_ended(&rt, &outcome, 1, "", "ringrun: line 6001: not a command\n")?;
+        let outcome = run_in_drought(rt.alloc(), &["grow", "0"], script.as_slice(), room)?;
         if outcome.status == 3 {
             refused = refused.saturating_add(1);
         }

@@ -105,22 +105,10 @@ impl Sink {
     }
 
     /// Refuses this call, counted from 1. A flush counts as a call.
-    pub fn refusing(self, refused_call: usize, refusal: Refusal) -> Sink {
-        let Sink {
-            flushed,
-            unflushed,
-            most,
-            calls,
-            ..
-        } = self;
-        Sink {
-            flushed,
-            unflushed,
-            most,
-            calls,
-            refused_call,
-            refusal,
-        }
+    pub fn refusing(mut self, call: usize, refusal: Refusal) -> Sink {
+        self.refused_call = call;
+        self.refusal = refusal;
+        self
     }
 
     /// What was written and let out by a flush.
