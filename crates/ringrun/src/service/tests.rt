@@ -285,9 +285,10 @@ fn reads_to_the_end_before_it_names_a_line(rt: HostRuntime) -> Result<(), Fail> 
     Ok(())
 }
 
+// A row has lines, with a bar between two.
 #[test]
 fn names_a_line_that_is_no_command(rt: HostRuntime) -> Result<(), Fail> {
-    let lines: [&[u8]; 6] = [
+    let rows: [&[u8]; 6] = [
         b"push|push 1 2|push x|push 1.|push -|push +|push ++1|push +-1|push - 1|push 0x1|push 1_0",
         b"push 9223372036854775808|push -9223372036854775809|push \xd9\xa1|PUSH 1|Push 1|push1",
         b"pushed 1|pus 1|1|dequeue 1|skip 1|clear 1|dequeued|extend x|extend 1 x|extend 1,2",
@@ -296,13 +297,16 @@ fn names_a_line_that_is_no_command(rt: HostRuntime) -> Result<(), Fail> {
         b"skip \xff|skip\x0b|\x0b|push\xc2\xa01|skip\x00|push5|push-5|extend5|skip5|extendpush 1\
         |push 1234567:|push /1234567|extend 12345678 1234\xb5678",
     ];
-    for lines in lines {
-        for line in lines.split(|byte| *byte == b'|') {
+    let mut lines = 0usize;
+    for row in rows {
+        for line in row.split(|byte| *byte == b'|') {
             let outcome = run_script(rt.alloc(), &["array", "3"], line)?;
             assert_eq!(rt; outcome.status, 1, "at {line:?}");
             assert_ended(&rt, &outcome, 1, "", "ringrun: line 1: not a command\n")?;
+            lines = lines.saturating_add(1);
         }
     }
+    assert_eq!(rt; lines, 52);
     Ok(())
 }
 
@@ -336,22 +340,25 @@ fn assert_refused(rt: &(impl Abort + AllocGlobal), arguments: &[&str]) -> Result
     assert_ended(rt, &outcome, 2, "", USAGE)
 }
 
-// A line has the arguments of a run, with a bar between two.
+// A row has lines of arguments, with a semicolon between two; a bar stands between two arguments.
 #[test]
 fn refuses_arguments_before_it_reads(rt: HostRuntime) -> Result<(), Fail> {
     assert_refused(&rt, &[])?;
     assert_refused(&rt, &[""])?;
-    let lines = [
+    let rows = [
         "array;heap;2;array 2;array|;array|2|3;array|2|;|array|2;2|array;ARRAY|2;arrays|2",
         "array|0;array|5;array|9;array|11;array|+2;array|-2;array| 2;array|2.0;array|0x2;array|two",
         "array|18446744073709551616;array|18446744073709551618;heap|0;heap|+1;grow|",
     ];
-    for lines in lines {
-        for line in lines.split(';') {
+    let mut lines = 0usize;
+    for row in rows {
+        for line in row.split(';') {
             let arguments: Vec<&str> = line.split('|').collect(rt.alloc())?;
             assert_refused(&rt, arguments.as_slice())?;
+            lines = lines.saturating_add(1);
         }
     }
+    assert_eq!(rt; lines, 26);
     Ok(())
 }
 
