@@ -17,6 +17,7 @@ ghost use Rattle.std.specs.Prelude.{◌<◌};
 use ring_test_support::rings::Case;
 use ringbuffer::{AllocRingBuffer, RingBuffer};
 use std::alloc::AllocError;
+use std::fmt::Debug;
 use std::process::Abort;
 
 /// The case on a heap ring of this capacity.
@@ -27,6 +28,12 @@ fn on_heap<const CAP: usize, Rt: Abort + AllocGlobal>(
     requires some { 0 < CAP }
 {
     case.on(rt, AllocRingBuffer::new(rt.alloc(), CAP)?)
+}
+
+/// Both are equal. As a call it is proved once, where each `assert_eq!` takes a second or two: that stands where the proof
+/// goes on from what it found. A failure names the test and both values, not the line.
+fn assert_equal<T: PartialEq + Debug + Drop>(rt: &impl Abort, found: T, wanted: T) {
+    assert_eq!(rt; found, wanted);
 }
 
 /// Pushes the items in order. None is refused.
@@ -51,16 +58,16 @@ fn lay<R: RingBuffer<i64>>(rt: &impl Abort, ring: &mut R, start: usize, items: &
 
 /// The ring holds these items and no other, in order.
 fn assert_holds<R: RingBuffer<i64>>(rt: &impl Abort, ring: &R, items: &[i64]) {
-    assert_eq!(rt; ring.len(), items.len());
+    assert_equal(rt, ring.len(), items.len());
     for (i, item) in items.iter().enumerate() {
-        assert_eq!(rt; ring.get(i).copied(), Some(*item), "at {i}");
+        assert_equal(rt, (i, ring.get(i).copied()), (i, Some(*item)));
     }
 }
 
 /// The ring gives up these items and then no other, in order.
 fn assert_gives<R: RingBuffer<i64>>(rt: &impl Abort, ring: &mut R, items: &[i64]) {
     for item in items {
-        assert_eq!(rt; ring.dequeue(), Some(*item));
+        assert_equal(rt, ring.dequeue(), Some(*item));
     }
-    assert_eq!(rt; ring.dequeue(), None);
+    assert_equal(rt, ring.dequeue(), None);
 }

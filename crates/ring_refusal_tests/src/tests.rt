@@ -8,7 +8,14 @@ mod refused;
 mod scarce;
 
 use ringbuffer::RingBuffer;
+use std::fmt::Debug;
 use std::process::Abort;
+
+/// Both are equal. As a call it is proved once, where each `assert_eq!` takes a second or two: that stands where the proof
+/// goes on from what it found. A failure names the test and both values, not the line.
+fn assert_equal<T: PartialEq + Debug + Drop>(rt: &impl Abort, found: T, wanted: T) {
+    assert_eq!(rt; found, wanted);
+}
 
 /// Pushes the items in order. None is refused.
 fn push_all<R: RingBuffer<i64>>(rt: &impl Abort, ring: &mut R, items: &[i64]) {
@@ -19,8 +26,8 @@ fn push_all<R: RingBuffer<i64>>(rt: &impl Abort, ring: &mut R, items: &[i64]) {
 
 /// The ring holds these items and no other, in order.
 fn assert_holds<R: RingBuffer<i64>>(rt: &impl Abort, ring: &R, items: &[i64]) {
-    assert_eq!(rt; ring.len(), items.len());
+    assert_equal(rt, ring.len(), items.len());
     for (i, item) in items.iter().enumerate() {
-        assert_eq!(rt; ring.get(i).copied(), Some(*item), "at {i}");
+        assert_equal(rt, (i, ring.get(i).copied()), (i, Some(*item)));
     }
 }

@@ -1,6 +1,6 @@
 //! Taking the newest item, and keeping the items of one end.
 
-use super::{STARTS, assert_gives, assert_holds, lay, push_all};
+use super::{STARTS, assert_equal, assert_gives, assert_holds, lay, push_all};
 use ringbuffer::{AllocRingBuffer, ConstGenericRingBuffer, GrowableAllocRingBuffer, RingBuffer};
 use std::alloc::AllocError;
 use std::process::Abort;
@@ -90,7 +90,7 @@ fn assert_left<R: RingBuffer<i64>>(rt: &impl Abort, ring: &mut R, items: &[i64])
     ring.skip();
     push_all(rt, ring, &[8]);
     for item in items.iter().skip(1) {
-        assert_eq!(rt; ring.dequeue(), Some(*item));
+        assert_equal(rt, ring.dequeue(), Some(*item));
     }
     assert_gives(rt, ring, &[8]);
 }
@@ -118,7 +118,7 @@ impl EndsCase for Pops {
         for (items, popped, left) in POPS {
             for start in STARTS {
                 lay(rt, &mut ring, start, items);
-                assert_eq!(rt; ring.pop_back(), popped, "from {start}");
+                assert_equal(rt, (start, ring.pop_back()), (start, popped));
                 assert_left(rt, &mut ring, left);
             }
         }

@@ -1,6 +1,6 @@
 //! Fills.
 
-use super::{assert_gives, assert_holds, on_heap, push_all};
+use super::{assert_equal, assert_gives, assert_holds, on_heap, push_all};
 use ring_test_support::rings::{Case, Rings};
 use ringbuffer::{AllocRingBuffer, GrowableAllocRingBuffer, RingBuffer};
 use std::alloc::AllocError;
@@ -15,7 +15,7 @@ fn push_ones<R: RingBuffer<i64>>(rt: &impl Abort, ring: &mut R, times: usize) {
 
 /// A ring that was filled over some items holds these, and gives them up.
 fn assert_filled<R: RingBuffer<i64>>(rt: &impl Abort, ring: &mut R, held: usize, items: &[i64]) {
-    assert_eq!(rt; ring.len(), items.len(), "over {held}");
+    assert_equal(rt, (held, ring.len()), (held, items.len()));
     assert_gives(rt, ring, items);
 }
 
@@ -66,7 +66,7 @@ fn a_fill_clones_vectors(rt: HostRuntime) -> Result<(), AllocError> {
         assert!(rt; ring.fill(filling).is_ok());
         for _ in 0..2 {
             let found = ring.dequeue().expect(rt, "an item");
-            assert_eq!(rt; found.as_slice(), item);
+            assert_equal(rt, found.as_slice(), item);
         }
         assert!(rt; ring.is_empty());
     }
@@ -94,7 +94,7 @@ impl<Rt: Abort + AllocGlobal> Case<Rt> for FillsByCounts {
             answer
         });
         assert!(rt; filled.is_ok());
-        assert_eq!(rt; calls, 3);
+        assert_equal(rt, calls, 3);
         assert!(rt; ring.is_full());
         assert_holds(rt, &ring, &[0, 1, 2]);
         Ok(())
@@ -120,7 +120,7 @@ impl<Rt: Abort + AllocGlobal> Case<Rt> for FillsByTurns {
         });
         assert!(rt; filled.is_ok());
         assert_holds(rt, &ring, &[1, 0, 1, 0]);
-        assert_eq!(rt; calls, 4);
+        assert_equal(rt, calls, 4);
         Ok(())
     }
 }
@@ -139,8 +139,8 @@ impl<Rt: Abort + AllocGlobal> Case<Rt> for FillsBeforeSpareSlots {
         assert!(rt; ring.fill(4).is_ok());
         assert_holds(rt, &ring, &[4, 4, 4, 4, 4]);
         assert!(rt; ring.is_full());
-        assert_eq!(rt; ring.capacity(), 5);
-        assert_eq!(rt; ring.buffer_size(), 8);
+        assert_equal(rt, ring.capacity(), 5);
+        assert_equal(rt, ring.buffer_size(), 8);
         Ok(())
     }
 }
@@ -152,14 +152,14 @@ fn a_filled_heap_ring_keeps_its_capacity(rt: HostRuntime) -> Result<(), AllocErr
 
 /// A growable ring is full exactly where its length is its capacity, and has as many slots.
 fn assert_agrees<R: RingBuffer<i64>>(rt: &impl Abort, ring: &R) {
-    assert_eq!(rt; ring.is_full(), ring.len() == ring.capacity());
-    assert_eq!(rt; ring.buffer_size(), ring.capacity());
+    assert_equal(rt, ring.is_full(), ring.len() == ring.capacity());
+    assert_equal(rt, ring.buffer_size(), ring.capacity());
 }
 
 /// The ring gives up the numbers from 0 on, so many.
 fn assert_gives_counts<R: RingBuffer<i64>>(rt: &impl Abort, ring: &mut R, count: i64) {
     for number in 0..count {
-        assert_eq!(rt; ring.dequeue(), Some(number));
+        assert_equal(rt, ring.dequeue(), Some(number));
     }
     assert!(rt; ring.is_empty());
 }
@@ -179,7 +179,7 @@ impl<Rt: Abort + AllocGlobal> Case<Rt> for FillsItsRoom {
             answer
         });
         assert!(rt; filled.is_ok());
-        assert_eq!(rt; ring.len(), capacity);
+        assert_equal(rt, ring.len(), capacity);
         assert_agrees(rt, &ring);
         assert_gives_counts(rt, &mut ring, calls);
         Ok(())
@@ -195,9 +195,9 @@ fn a_growable_ring_is_filled_to_its_capacity(rt: HostRuntime) -> Result<(), Allo
 
 /// The ring holds so many items, each this one.
 fn assert_full_of<R: RingBuffer<i64>>(rt: &impl Abort, ring: &R, count: usize, item: i64) {
-    assert_eq!(rt; ring.len(), count);
+    assert_equal(rt, ring.len(), count);
     for i in 0..count {
-        assert_eq!(rt; ring.get(i).copied(), Some(item));
+        assert_equal(rt, ring.get(i).copied(), Some(item));
     }
 }
 
@@ -227,7 +227,7 @@ fn a_growable_ring_has_the_room_that_was_asked_for(rt: HostRuntime) -> Result<()
     for asked in [0, 1, 2, 3, 4, 5, 8, 9, 1000] {
         let ring = GrowableAllocRingBuffer::<i64>::with_capacity(rt.alloc(), asked)?;
         assert!(rt; ring.capacity() >= asked, "at {asked}");
-        assert_eq!(rt; ring.as_ref().capacity(), ring.capacity());
+        assert_equal(&rt, ring.as_ref().capacity(), ring.capacity());
         assert_agrees(&rt, &ring);
         assert!(rt; ring.is_empty());
     }

@@ -1,6 +1,6 @@
 //! Positions, reading and writing.
 
-use super::{assert_gives, assert_holds, push_all};
+use super::{assert_equal, assert_gives, assert_holds, push_all};
 use ring_test_support::rings::{Case, Rings};
 use ringbuffer::{AllocRingBuffer, ConstGenericRingBuffer, GrowableAllocRingBuffer, RingBuffer};
 use std::alloc::AllocError;
@@ -10,7 +10,7 @@ use std::process::Abort;
 fn assert_from_oldest<R: RingBuffer<i64>>(rt: &impl Abort, ring: &mut R, items: &[i64]) {
     for (i, item) in items.iter().enumerate() {
         let found = (ring.get(i).copied(), ring.get_mut(i).copied());
-        assert_eq!(rt; found, (Some(*item), Some(*item)), "at {i}");
+        assert_equal(rt, (i, found), (i, (Some(*item), Some(*item))));
     }
 }
 
@@ -20,7 +20,7 @@ fn assert_at<R: RingBuffer<i64>>(rt: &impl Abort, ring: &mut R, index: isize, it
         ring.get_signed(index).copied(),
         ring.get_mut_signed(index).copied(),
     );
-    assert_eq!(rt; found, (Some(item), Some(item)), "at {index}");
+    assert_equal(rt, (index, found), (index, (Some(item), Some(item))));
 }
 
 /// The same for each of these positions, with the item beside it.
@@ -79,11 +79,11 @@ struct NamedEnds;
 impl<Rt: Abort + AllocGlobal> Case<Rt> for NamedEnds {
     fn on<R: RingBuffer<i64> + Drop>(&self, rt: &Rt, mut ring: R) -> Result<(), AllocError> {
         push_all(rt, &mut ring, &[1, 2]);
-        assert_eq!(rt; ring.peek().copied(), Some(1));
-        assert_eq!(rt; ring.front().copied(), Some(1));
-        assert_eq!(rt; ring.front_mut().copied(), Some(1));
-        assert_eq!(rt; ring.back().copied(), Some(2));
-        assert_eq!(rt; ring.back_mut().copied(), Some(2));
+        assert_equal(rt, ring.peek().copied(), Some(1));
+        assert_equal(rt, ring.front().copied(), Some(1));
+        assert_equal(rt, ring.front_mut().copied(), Some(1));
+        assert_equal(rt, ring.back().copied(), Some(2));
+        assert_equal(rt, ring.back_mut().copied(), Some(2));
         Ok(())
     }
 }
@@ -279,8 +279,8 @@ impl<Rt: Abort + AllocGlobal> Case<Rt> for ExtremePositions {
             push_all(rt, &mut ring, items);
             assert_at(rt, &mut ring, isize::MIN, at_least_signed);
             assert_at(rt, &mut ring, isize::MAX, at_greatest_signed);
-            assert_eq!(rt; ring.get(usize::MAX).copied(), Some(at_greatest));
-            assert_eq!(rt; ring.get_mut(usize::MAX).copied(), Some(at_greatest));
+            assert_equal(rt, ring.get(usize::MAX).copied(), Some(at_greatest));
+            assert_equal(rt, ring.get_mut(usize::MAX).copied(), Some(at_greatest));
             assert_gives(rt, &mut ring, items);
         }
         push_all(rt, &mut ring, &[7]);
@@ -340,14 +340,14 @@ impl Indexed for GrowableAllocRingBuffer<i64> {
 /// Reading and writing by an index, as by a position.
 fn assert_indexed<R: Indexed>(rt: &impl Abort, mut ring: R) {
     push_all(rt, &mut ring, &[2]);
-    assert_eq!(rt; ring.len(), 1);
-    assert_eq!(rt; ring.at(rt, 0), 2);
+    assert_equal(rt, ring.len(), 1);
+    assert_equal(rt, ring.at(rt, 0), 2);
     ring.write_at(rt, 0, 5);
-    assert_eq!(rt; ring.at(rt, 0), 5);
+    assert_equal(rt, ring.at(rt, 0), 5);
     push_all(rt, &mut ring, &[6, 7]);
-    assert_eq!(rt; ring.len(), 3);
+    assert_equal(rt, ring.len(), 3);
     ring.write_at(rt, 3, 9);
-    assert_eq!(rt; ring.at(rt, 5), 7);
+    assert_equal(rt, ring.at(rt, 5), 7);
     assert_holds(rt, &ring, &[9, 6, 7]);
 }
 
@@ -372,9 +372,9 @@ fn a_growable_ring_is_indexed_by_positions(rt: HostRuntime) -> Result<(), AllocE
 fn growable_writes_name_the_places_of_reads(rt: HostRuntime) {
     fn on<R: Indexed>(rt: &impl Abort, mut ring: R) {
         push_all(rt, &mut ring, &[1, 2, 3]);
-        assert_eq!(rt; ring.back_mut().copied(), Some(3));
-        assert_eq!(rt; ring.get_mut(4).copied(), Some(2));
-        assert_eq!(rt; ring.len(), 3);
+        assert_equal(rt, ring.back_mut().copied(), Some(3));
+        assert_equal(rt, ring.get_mut(4).copied(), Some(2));
+        assert_equal(rt, ring.len(), 3);
         ring.write_at(rt, 3, 9);
         assert_holds(rt, &ring, &[9, 2, 3]);
     }

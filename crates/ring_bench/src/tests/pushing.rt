@@ -3,7 +3,7 @@
 ghost use Rattle.std.specs.Prelude.{◌-◌};
 ghost use Rattle.std.specs.Iterator.{at_most};
 
-use super::{assert_gives, assert_holds, on_heap, push_all};
+use super::{assert_equal, assert_gives, assert_holds, on_heap, push_all};
 use ring_test_support::rings::{Case, Rings};
 use ringbuffer::{AllocRingBuffer, ConstGenericRingBuffer, RingBuffer};
 use std::alloc::AllocError;
@@ -12,7 +12,7 @@ use std::process::Abort;
 /// Pushes items, and each hands back what stands beside it.
 fn assert_pushes<R: RingBuffer<i64>>(rt: &impl Abort, ring: &mut R, pushes: &[(i64, Option<i64>)]) {
     for (item, overwritten) in pushes {
-        assert_eq!(rt; ring.push(*item), Ok(*overwritten), "the push of {item}");
+        assert_equal(rt, (*item, ring.push(*item)), (*item, Ok(*overwritten)));
     }
 }
 
@@ -21,13 +21,13 @@ struct KeepsTheNewest;
 impl<Rt: Abort + AllocGlobal> Case<Rt> for KeepsTheNewest {
     fn on<R: RingBuffer<i64> + Drop>(&self, rt: &Rt, mut ring: R) -> Result<(), AllocError> {
         push_all(rt, &mut ring, &[5]);
-        assert_eq!(rt; ring.back().copied(), Some(5));
+        assert_equal(rt, ring.back().copied(), Some(5));
         push_all(rt, &mut ring, &[42]);
-        assert_eq!(rt; ring.peek().copied(), Some(5));
+        assert_equal(rt, ring.peek().copied(), Some(5));
         assert!(rt; ring.is_full());
         push_all(rt, &mut ring, &[1]);
         let items = ring.to_vec(rt.alloc()).expect(rt, "memory");
-        assert_eq!(rt; items.as_slice(), [42, 1].as_slice());
+        assert_equal(rt, items.as_slice(), [42, 1].as_slice());
         Ok(())
     }
 }
@@ -44,8 +44,8 @@ struct HandsBack;
 impl<Rt: Abort + AllocGlobal> Case<Rt> for HandsBack {
     fn on<R: RingBuffer<i64> + Drop>(&self, rt: &Rt, mut ring: R) -> Result<(), AllocError> {
         assert_pushes(rt, &mut ring, &[(5, None), (42, None), (1, Some(5))]);
-        assert_eq!(rt; ring.enqueue(6), Ok(Some(42)));
-        assert_eq!(rt; ring.enqueue(7), Ok(Some(1)));
+        assert_equal(rt, ring.enqueue(6), Ok(Some(42)));
+        assert_equal(rt, ring.enqueue(7), Ok(Some(1)));
         Ok(())
     }
 }
@@ -60,7 +60,7 @@ struct PushesAfterADequeue;
 impl<Rt: Abort + AllocGlobal> Case<Rt> for PushesAfterADequeue {
     fn on<R: RingBuffer<i64> + Drop>(&self, rt: &Rt, mut ring: R) -> Result<(), AllocError> {
         push_all(rt, &mut ring, &[0, 1]);
-        assert_eq!(rt; ring.dequeue(), Some(0));
+        assert_equal(rt, ring.dequeue(), Some(0));
         assert_pushes(rt, &mut ring, &[(2, None), (3, None), (4, Some(1))]);
         assert_gives(rt, &mut ring, &[2, 3, 4]);
         Ok(())
@@ -112,8 +112,8 @@ struct New {
 
 impl<Rt: Abort + AllocGlobal> Case<Rt> for New {
     fn on<R: RingBuffer<i64> + Drop>(&self, rt: &Rt, ring: R) -> Result<(), AllocError> {
-        assert_eq!(rt; ring.capacity(), self.capacity);
-        assert_eq!(rt; ring.len(), 0);
+        assert_equal(rt, ring.capacity(), self.capacity);
+        assert_equal(rt, ring.len(), 0);
         Ok(())
     }
 }
@@ -144,7 +144,7 @@ impl<Rt: Abort + AllocGlobal> Case<Rt> for Lengths {
         for (item, before, after) in self.pushes {
             let found = ring.len();
             push_all(rt, &mut ring, &[*item]);
-            assert_eq!(rt; (found, ring.len()), (*before, *after), "around {item}");
+            assert_equal(rt, (*item, found, ring.len()), (*item, *before, *after));
         }
         Ok(())
     }
@@ -177,7 +177,7 @@ impl<Rt: Abort + AllocGlobal> Case<Rt> for Cleared {
         assert!(rt; !ring.is_empty());
         ring.clear();
         assert!(rt; ring.is_empty());
-        assert_eq!(rt; ring.len(), 0);
+        assert_equal(rt, ring.len(), 0);
         Ok(())
     }
 }
@@ -192,7 +192,7 @@ struct FullAtTwo;
 impl<Rt: Abort + AllocGlobal> Case<Rt> for FullAtTwo {
     fn on<R: RingBuffer<i64> + Drop>(&self, rt: &Rt, mut ring: R) -> Result<(), AllocError> {
         for (item, full_before) in [(1, false), (2, false), (3, true), (4, true)] {
-            assert_eq!(rt; ring.is_full(), full_before, "before {item}");
+            assert_equal(rt, (item, ring.is_full()), (item, full_before));
             push_all(rt, &mut ring, &[item]);
         }
         ring.skip();
@@ -211,11 +211,11 @@ struct LeavesInOrder;
 impl<Rt: Abort + AllocGlobal> Case<Rt> for LeavesInOrder {
     fn on<R: RingBuffer<i64> + Drop>(&self, rt: &Rt, mut ring: R) -> Result<(), AllocError> {
         push_all(rt, &mut ring, &[0, 1]);
-        assert_eq!(rt; ring.len(), 2);
-        assert_eq!(rt; ring.dequeue(), Some(0));
-        assert_eq!(rt; ring.dequeue(), Some(1));
-        assert_eq!(rt; ring.len(), 0);
-        assert_eq!(rt; ring.dequeue(), None);
+        assert_equal(rt, ring.len(), 2);
+        assert_equal(rt, ring.dequeue(), Some(0));
+        assert_equal(rt, ring.dequeue(), Some(1));
+        assert_equal(rt, ring.len(), 0);
+        assert_equal(rt, ring.dequeue(), None);
         Ok(())
     }
 }
@@ -233,7 +233,7 @@ impl<Rt: Abort + AllocGlobal> Case<Rt> for SkipsTheOldest {
         ring.skip();
         assert_holds(rt, &ring, &[1]);
         ring.skip();
-        assert_eq!(rt; ring.len(), 0);
+        assert_equal(rt, ring.len(), 0);
         Ok(())
     }
 }
@@ -251,10 +251,10 @@ impl<Rt: Abort + AllocGlobal> Case<Rt> for SkipsNothing {
             ring.skip();
         }
         push_all(rt, &mut ring, &[1]);
-        assert_eq!(rt; ring.dequeue(), Some(1));
-        assert_eq!(rt; ring.dequeue(), None);
+        assert_equal(rt, ring.dequeue(), Some(1));
+        assert_equal(rt, ring.dequeue(), None);
         ring.skip();
-        assert_eq!(rt; ring.dequeue(), None);
+        assert_equal(rt, ring.dequeue(), None);
         Ok(())
     }
 }
@@ -322,7 +322,7 @@ impl<Rt: Abort + AllocGlobal> Case<Rt> for KeepsTheLastTen {
             }
             assert!(rt; ring.is_full());
             for item in 990..1000 {
-                assert_eq!(rt; ring.dequeue(), Some(item));
+                assert_equal(rt, ring.dequeue(), Some(item));
             }
             assert!(rt; ring.is_empty());
         }
@@ -338,8 +338,8 @@ fn the_last_of_many_stay(rt: HostRuntime) -> Result<(), AllocError> {
 /// Pushes 1 and 2, and takes the two oldest items, which are 1 and 2 as well.
 fn come_and_go<R: RingBuffer<i64>>(rt: &impl Abort, ring: &mut R) {
     push_all(rt, ring, &[1, 2]);
-    assert_eq!(rt; ring.dequeue(), Some(1));
-    assert_eq!(rt; ring.dequeue(), Some(2));
+    assert_equal(rt, ring.dequeue(), Some(1));
+    assert_equal(rt, ring.dequeue(), Some(2));
 }
 
 struct ComesAndGoes;
@@ -351,7 +351,7 @@ impl<Rt: Abort + AllocGlobal> Case<Rt> for ComesAndGoes {
             come_and_go(rt, &mut ring);
             push_all(rt, &mut ring, &[1, 2]);
             let newest = (ring.get_signed(-1).copied(), ring.get_signed(-2).copied());
-            assert_eq!(rt; newest, (Some(2), Some(1)));
+            assert_equal(rt, newest, (Some(2), Some(1)));
         }
         Ok(())
     }
@@ -491,7 +491,7 @@ struct TakesForRoom;
 impl<Rt: Abort + AllocGlobal> Case<Rt> for TakesForRoom {
     fn on<R: RingBuffer<i64> + Drop>(&self, rt: &Rt, mut ring: R) -> Result<(), AllocError> {
         push_all(rt, &mut ring, &[0, 1]);
-        assert_eq!(rt; ring.dequeue(), Some(0));
+        assert_equal(rt, ring.dequeue(), Some(0));
         push_all(rt, &mut ring, &[2, 3]);
         assert_holds(rt, &ring, &[1, 2, 3]);
         push_all(rt, &mut ring, &[4]);
@@ -530,7 +530,7 @@ impl<Rt: Abort + AllocGlobal> Case<Rt> for GoesRound {
     fn on<R: RingBuffer<i64> + Drop>(&self, rt: &Rt, mut ring: R) -> Result<(), AllocError> {
         push_all(rt, &mut ring, &[0, 1, 2, 3, 4, 5, 6, 7, 8]);
         assert_holds(rt, &ring, &[4, 5, 6, 7, 8]);
-        assert_eq!(rt; ring.dequeue(), Some(4));
+        assert_equal(rt, ring.dequeue(), Some(4));
         push_all(rt, &mut ring, &[9, 10]);
         assert_holds(rt, &ring, &[6, 7, 8, 9, 10]);
         Ok(())
@@ -546,7 +546,7 @@ struct OneSlot;
 
 impl<Rt: Abort + AllocGlobal> Case<Rt> for OneSlot {
     fn on<R: RingBuffer<i64> + Drop>(&self, rt: &Rt, mut ring: R) -> Result<(), AllocError> {
-        assert_eq!(rt; ring.buffer_size(), 1);
+        assert_equal(rt, ring.buffer_size(), 1);
         push_all(rt, &mut ring, &[1, 2]);
         assert_holds(rt, &ring, &[2]);
         push_all(rt, &mut ring, &[3, 4, 5, 6, 7, 8, 9]);
@@ -562,7 +562,7 @@ fn a_ring_may_have_one_slot(rt: HostRuntime) -> Result<(), AllocError> {
 
 /// The ring has this capacity, and this number of slots.
 fn assert_sizes<R: RingBuffer<i64>>(rt: &impl Abort, ring: &R, capacity: usize, slots: usize) {
-    assert_eq!(rt; (ring.capacity(), ring.buffer_size()), (capacity, slots));
+    assert_equal(rt, (ring.capacity(), ring.buffer_size()), (capacity, slots));
 }
 
 #[test]
@@ -605,7 +605,7 @@ impl<Rt: Abort + AllocGlobal> Case<Rt> for SpareSlots {
         push_all(rt, &mut ring, self.pushed);
         assert!(rt; ring.is_full());
         assert_holds(rt, &ring, self.kept);
-        assert_eq!(rt; ring.buffer_size(), self.slots);
+        assert_equal(rt, ring.buffer_size(), self.slots);
         Ok(())
     }
 }
@@ -640,7 +640,7 @@ impl<Rt: Abort + AllocGlobal> Case<Rt> for PushesAThousand {
             push_all(rt, &mut ring, &[item]);
         }
         assert_holds(rt, &ring, &[997, 998, 999]);
-        assert_eq!(rt; ring.buffer_size(), 4);
+        assert_equal(rt, ring.buffer_size(), 4);
         Ok(())
     }
 }

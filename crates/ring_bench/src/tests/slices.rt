@@ -1,6 +1,6 @@
 //! Whole slices in and out.
 
-use super::{STARTS, assert_gives, assert_holds, lay, push_all};
+use super::{STARTS, assert_equal, assert_gives, assert_holds, lay, push_all};
 use ringbuffer::{AllocRingBuffer, GrowableAllocRingBuffer, RingBuffer};
 use std::alloc::AllocError;
 use std::process::Abort;
@@ -129,12 +129,12 @@ fn assert_copied<R: Slices>(
     lay(rt, ring, start, items);
     let mut output = [9; 6];
     let output = &mut output[..copied.len().min(6)];
-    assert_eq!(rt; ring.copy_to_slice(output), count);
-    assert_eq!(rt; &*output, copied);
+    assert_equal(rt, ring.copy_to_slice(output), count);
+    assert_equal(rt, &*output, copied);
     assert_holds(rt, ring, items);
     output.fill(9);
-    assert_eq!(rt; ring.dequeue_into(output), count);
-    assert_eq!(rt; &*output, copied);
+    assert_equal(rt, ring.dequeue_into(output), count);
+    assert_equal(rt, &*output, copied);
     push_all(rt, ring, &[8]);
     assert_dequeues(rt, ring, items, count);
     assert_gives(rt, ring, &[8]);
@@ -143,7 +143,7 @@ fn assert_copied<R: Slices>(
 /// Takes out the items of a list but for so many of its first.
 fn assert_dequeues<R: Slices>(rt: &impl Abort, ring: &mut R, items: &[i64], count: usize) {
     for item in items.iter().skip(count) {
-        assert_eq!(rt; ring.dequeue(), Some(*item));
+        assert_equal(rt, ring.dequeue(), Some(*item));
     }
 }
 
@@ -166,13 +166,13 @@ fn items_are_copied_to_slices(rt: HostRuntime) -> Result<(), AllocError> {
 /// Items of a heap ring in one slice, which are turned round there before one more is pushed.
 fn assert_turned(rt: &impl Abort, ring: &mut AllocRingBuffer<i64>, start: usize, items: &[i64]) {
     lay(rt, ring, start, items);
-    assert_eq!(rt; &*ring.make_contiguous(), items);
+    assert_equal(rt, &*ring.make_contiguous(), items);
     assert_holds(rt, ring, items);
     ring.make_contiguous().reverse();
     push_all(rt, ring, &[9]);
     let left = ring.capacity().min(items.len() + 1);
     for item in items.iter().rev().skip(items.len() + 1 - left) {
-        assert_eq!(rt; ring.dequeue(), Some(*item));
+        assert_equal(rt, ring.dequeue(), Some(*item));
     }
     assert_gives(rt, ring, &[9]);
 }

@@ -1,5 +1,6 @@
 //! Slots of both kinds, by themselves.
 
+use super::assert_equal;
 use ring_slots::{ArraySlots, HeapSlots, RingSlots};
 use std::alloc::AllocError;
 use std::cell::Cell;
@@ -21,12 +22,12 @@ fn array_slots_hold_items(rt: HostRuntime) {
     let mut slots = ArraySlots::<&str, 2>::new();
     slots.put(1, "b");
     slots.put(0, "a");
-    assert_eq!(rt; *slots.get(1), "b");
+    assert_equal(&rt, *slots.get(1), "b");
     *slots.get_mut(1) = "c";
-    assert_eq!(rt; slots.take(1), "c");
-    assert_eq!(rt; slots.take(0), "a");
+    assert_equal(&rt, slots.take(1), "c");
+    assert_equal(&rt, slots.take(0), "a");
     slots.put(1, "d");
-    assert_eq!(rt; slots.take(1), "d");
+    assert_equal(&rt, slots.take(1), "d");
 }
 
 #[test]
@@ -34,12 +35,12 @@ fn heap_slots_hold_items(rt: HostRuntime) -> Result<(), AllocError> {
     let mut slots = HeapSlots::new(rt.alloc(), 2)?;
     slots.put(1, "b");
     slots.put(0, "a");
-    assert_eq!(rt; *slots.get(1), "b");
+    assert_equal(&rt, *slots.get(1), "b");
     *slots.get_mut(1) = "c";
-    assert_eq!(rt; slots.take(1), "c");
-    assert_eq!(rt; slots.take(0), "a");
+    assert_equal(&rt, slots.take(1), "c");
+    assert_equal(&rt, slots.take(0), "a");
     slots.put(1, "d");
-    assert_eq!(rt; slots.take(1), "d");
+    assert_equal(&rt, slots.take(1), "d");
     slots.free();
     Ok(())
 }
@@ -48,10 +49,10 @@ fn heap_slots_hold_items(rt: HostRuntime) -> Result<(), AllocError> {
 fn items_may_have_no_size(rt: HostRuntime) -> Result<(), AllocError> {
     let mut array = ArraySlots::<(), 1>::new();
     array.put(0, ());
-    assert_eq!(rt; array.take(0), ());
+    assert_equal(&rt, array.take(0), ());
     let mut heap = HeapSlots::new(rt.alloc(), 3)?;
     heap.put(2, ());
-    assert_eq!(rt; heap.take(2), ());
+    assert_equal(&rt, heap.take(2), ());
     heap.free();
     Ok(())
 }
@@ -69,8 +70,8 @@ fn items_without_size_need_no_memory(rt: HostRuntime) -> Result<(), AllocError> 
 fn items_without_size_may_be_aligned(rt: HostRuntime) -> Result<(), AllocError> {
     let mut slots = HeapSlots::<[u64; 0]>::new(rt.alloc(), 2)?;
     slots.put(1, []);
-    assert_eq!(rt; slots.get(1).len(), 0);
-    assert_eq!(rt; slots.take(1).len(), 0);
+    assert_equal(&rt, slots.get(1).len(), 0);
+    assert_equal(&rt, slots.take(1).len(), 0);
     slots.free();
     Ok(())
 }
@@ -99,12 +100,12 @@ fn items_keep_their_places(rt: HostRuntime) -> Result<(), AllocError> {
     slots.put(3, [9, 10, 11]);
     slots.put(1, [3, 4, 5]);
     slots.get_mut(1)[2] = 50;
-    assert_eq!(rt; *slots.get(0), [0, 1, 2]);
-    assert_eq!(rt; *slots.get(1), [3, 4, 50]);
-    assert_eq!(rt; *slots.get(3), [9, 10, 11]);
-    assert_eq!(rt; slots.take(3), [9, 10, 11]);
-    assert_eq!(rt; slots.take(0), [0, 1, 2]);
-    assert_eq!(rt; slots.take(1), [3, 4, 50]);
+    assert_equal(&rt, *slots.get(0), [0, 1, 2]);
+    assert_equal(&rt, *slots.get(1), [3, 4, 50]);
+    assert_equal(&rt, *slots.get(3), [9, 10, 11]);
+    assert_equal(&rt, slots.take(3), [9, 10, 11]);
+    assert_equal(&rt, slots.take(0), [0, 1, 2]);
+    assert_equal(&rt, slots.take(1), [3, 4, 50]);
     slots.free();
     Ok(())
 }
@@ -116,11 +117,11 @@ fn an_item_that_was_taken_is_dropped_once(rt: HostRuntime) -> Result<(), AllocEr
     slots.put(0, Counted { drops: &drops });
     slots.put(1, Counted { drops: &drops });
     let first = slots.take(0);
-    assert_eq!(rt; drops.get(), 0);
+    assert_equal(&rt, drops.get(), 0);
     drop(first);
-    assert_eq!(rt; drops.get(), 1);
+    assert_equal(&rt, drops.get(), 1);
     let _second = slots.take(1);
     slots.free();
-    assert_eq!(rt; drops.get(), 1);
+    assert_equal(&rt, drops.get(), 1);
     Ok(())
 }

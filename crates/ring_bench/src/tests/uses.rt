@@ -1,5 +1,6 @@
 //! Each use once, on input as it comes in practice.
 
+use super::assert_equal;
 use ring_uses::array_pipe::ArrayPipe;
 use ring_uses::events::remember;
 use ring_uses::last_lines::tail;
@@ -24,7 +25,7 @@ const REQUEST: &[u8] = b"GET /status HTTP/1.1\r\nHost: example.org\r\n\r\n";
 
 #[test]
 fn last_two_of_three_numbers(rt: HostRuntime) {
-    assert_eq!(rt; newest_and_oldest(), (Some(1), Some(42)));
+    assert_equal(&rt, newest_and_oldest(), (Some(1), Some(42)));
 }
 
 #[test]
@@ -33,18 +34,18 @@ fn last_two_of_three_events(rt: HostRuntime) -> Result<(), AllocError> {
     for event in [7, 8, 9] {
         remember(&mut events, event);
     }
-    assert_eq!(rt; events.len(), 2);
-    assert_eq!(rt; events.get(0).copied(), Some(8));
-    assert_eq!(rt; events.get(1).copied(), Some(9));
+    assert_equal(&rt, events.len(), 2);
+    assert_equal(&rt, events.get(0).copied(), Some(8));
+    assert_equal(&rt, events.get(1).copied(), Some(9));
     Ok(())
 }
 
 #[test]
 fn window_of_three_temperatures(rt: HostRuntime) {
     let mut window = Window::<3>::new();
-    assert_eq!(rt; window.count(), 0);
-    assert_eq!(rt; window.least(), None);
-    assert_eq!(rt; window.greatest(), None);
+    assert_equal(&rt, window.count(), 0);
+    assert_equal(&rt, window.least(), None);
+    assert_equal(&rt, window.greatest(), None);
     let expected = [
         (1, 213, 213),
         (2, 213, 215),
@@ -57,15 +58,18 @@ fn window_of_three_temperatures(rt: HostRuntime) {
     ];
     for (sample, (count, least, greatest)) in TEMPERATURES.into_iter().zip(expected) {
         window.push(sample);
-        assert_eq!(rt; window.count(), count, "after {sample}");
-        assert_eq!(rt; window.least(), Some(least), "after {sample}");
-        assert_eq!(rt; window.greatest(), Some(greatest), "after {sample}");
+        let found = (window.count(), window.least(), window.greatest());
+        assert_equal(
+            &rt,
+            (sample, found),
+            (sample, (count, Some(least), Some(greatest))),
+        );
     }
     let mut at_once = Window::<3>::new();
     at_once.extend(&TEMPERATURES);
-    assert_eq!(rt; at_once.count(), 3);
-    assert_eq!(rt; at_once.least(), Some(218));
-    assert_eq!(rt; at_once.greatest(), Some(221));
+    assert_equal(&rt, at_once.count(), 3);
+    assert_equal(&rt, at_once.least(), Some(218));
+    assert_equal(&rt, at_once.greatest(), Some(221));
 }
 
 #[test]
@@ -80,46 +84,48 @@ fn tails_of_a_log(rt: HostRuntime) -> Result<(), Fail> {
     for n in 0..8usize {
         let last = tail(rt.alloc(), LOG, n)?;
         let expected = &all[all.len().saturating_sub(n)..];
-        assert_eq!(rt; last.as_slice(), expected, "the last {n}");
+        assert_equal(&rt, (n, last.as_slice()), (n, expected));
     }
-    assert_eq!(rt; tail(rt.alloc(), "", 3)?.len(), 0);
+    assert_equal(&rt, tail(rt.alloc(), "", 3)?.len(), 0);
     Ok(())
 }
 
 #[test]
 fn log_that_is_fed_a_line_at_a_time(rt: HostRuntime) -> Result<(), Fail> {
     let mut log = LogTail::new(rt.alloc(), 2)?;
-    assert_eq!(rt; log.iter().count(), 0);
+    assert_equal(&rt, log.iter().count(), 0);
     for line in LOG.lines() {
         log.feed(String::from_str(rt.alloc(), line)?);
     }
     let mut lines = log.iter();
-    assert_eq!(rt;
+    assert_equal(
+        &rt,
         lines.next().map(|line| line.as_str()),
-        Some("06:01:13 ERROR größe < 0")
+        Some("06:01:13 ERROR größe < 0"),
     );
-    assert_eq!(rt;
+    assert_equal(
+        &rt,
         lines.next().map(|line| line.as_str()),
-        Some("06:01:13 INFO  stopped")
+        Some("06:01:13 INFO  stopped"),
     );
-    assert_eq!(rt; lines.next().map(|line| line.as_str()), None);
+    assert_equal(&rt, lines.next().map(|line| line.as_str()), None);
     Ok(())
 }
 
 #[test]
 fn undo_of_typing(rt: HostRuntime) -> Result<(), AllocError> {
     let mut history = History::new(rt.alloc(), 3)?;
-    assert_eq!(rt; history.depth(), 3);
-    assert_eq!(rt; history.undo(), None);
+    assert_equal(&rt, history.depth(), 3);
+    assert_equal(&rt, history.undo(), None);
     for text in ["", "r", "ri", "rin"] {
         history.record(text);
     }
-    assert_eq!(rt; history.undo(), Some("rin"));
-    assert_eq!(rt; history.undo(), Some("ri"));
+    assert_equal(&rt, history.undo(), Some("rin"));
+    assert_equal(&rt, history.undo(), Some("ri"));
     history.record("ro");
-    assert_eq!(rt; history.undo(), Some("ro"));
-    assert_eq!(rt; history.undo(), Some("r"));
-    assert_eq!(rt; history.undo(), None);
+    assert_equal(&rt, history.undo(), Some("ro"));
+    assert_equal(&rt, history.undo(), Some("r"));
+    assert_equal(&rt, history.undo(), None);
     Ok(())
 }
 
@@ -132,45 +138,45 @@ fn undo_of_many_keystrokes(rt: HostRuntime) -> Result<(), AllocError> {
     history.undo_many(2);
     history.record("rib");
     history.forget_all_but(2);
-    assert_eq!(rt; history.undo(), Some("rib"));
-    assert_eq!(rt; history.undo(), Some("ri"));
-    assert_eq!(rt; history.undo(), None);
+    assert_equal(&rt, history.undo(), Some("rib"));
+    assert_equal(&rt, history.undo(), Some("ri"));
+    assert_equal(&rt, history.undo(), None);
     history.undo_many(1);
-    assert_eq!(rt; history.undo(), None);
+    assert_equal(&rt, history.undo(), None);
     Ok(())
 }
 
 #[test]
 fn pipe_that_is_too_small(rt: HostRuntime) -> Result<(), AllocError> {
     let mut pipe = Pipe::new(rt.alloc(), 8)?;
-    assert_eq!(rt; pipe.receive(b"GET /"), 5);
-    assert_eq!(rt; pipe.receive(b"status"), 3);
-    assert_eq!(rt; pipe.receive(b"tus"), 0);
+    assert_equal(&rt, pipe.receive(b"GET /"), 5);
+    assert_equal(&rt, pipe.receive(b"status"), 3);
+    assert_equal(&rt, pipe.receive(b"tus"), 0);
     let mut output = *b"..........";
-    assert_eq!(rt; pipe.peek(&mut output[..3]), 3);
-    assert_eq!(rt; output, *b"GET.......");
-    assert_eq!(rt; pipe.send(&mut output[..5]), 5);
-    assert_eq!(rt; output, *b"GET /.....");
-    assert_eq!(rt; pipe.receive(b"tus"), 3);
-    assert_eq!(rt; pipe.send(&mut output), 6);
-    assert_eq!(rt; output, *b"status....");
-    assert_eq!(rt; pipe.send(&mut output), 0);
-    assert_eq!(rt; output, *b"status....");
+    assert_equal(&rt, pipe.peek(&mut output[..3]), 3);
+    assert_equal(&rt, output, *b"GET.......");
+    assert_equal(&rt, pipe.send(&mut output[..5]), 5);
+    assert_equal(&rt, output, *b"GET /.....");
+    assert_equal(&rt, pipe.receive(b"tus"), 3);
+    assert_equal(&rt, pipe.send(&mut output), 6);
+    assert_equal(&rt, output, *b"status....");
+    assert_equal(&rt, pipe.send(&mut output), 0);
+    assert_equal(&rt, output, *b"status....");
     Ok(())
 }
 
 #[test]
 fn array_pipe_that_is_too_small(rt: HostRuntime) {
     let mut pipe = ArrayPipe::<8>::new();
-    assert_eq!(rt; pipe.receive(b"GET /"), 5);
-    assert_eq!(rt; pipe.receive(b"status"), 3);
-    assert_eq!(rt; pipe.receive(b"tus"), 0);
+    assert_equal(&rt, pipe.receive(b"GET /"), 5);
+    assert_equal(&rt, pipe.receive(b"status"), 3);
+    assert_equal(&rt, pipe.receive(b"tus"), 0);
     let mut output = *b"..........";
-    assert_eq!(rt; pipe.send(&mut output[..5]), 5);
-    assert_eq!(rt; output, *b"GET /.....");
-    assert_eq!(rt; pipe.receive(b"tus"), 3);
-    assert_eq!(rt; pipe.send(&mut output), 6);
-    assert_eq!(rt; output, *b"status....");
+    assert_equal(&rt, pipe.send(&mut output[..5]), 5);
+    assert_equal(&rt, output, *b"GET /.....");
+    assert_equal(&rt, pipe.receive(b"tus"), 3);
+    assert_equal(&rt, pipe.send(&mut output), 6);
+    assert_equal(&rt, output, *b"status....");
 }
 
 #[test]
@@ -178,7 +184,7 @@ fn request_through_pipes(rt: HostRuntime) -> Result<(), AllocError> {
     for capacity in [1, 16, REQUEST.len()] {
         let mut output = [0; REQUEST.len()];
         relay(&mut Pipe::new(rt.alloc(), capacity)?, REQUEST, &mut output);
-        assert_eq!(rt; output.as_slice(), REQUEST);
+        assert_equal(&rt, output.as_slice(), REQUEST);
     }
     Ok(())
 }
@@ -186,25 +192,27 @@ fn request_through_pipes(rt: HostRuntime) -> Result<(), AllocError> {
 #[test]
 fn two_seconds_of_a_signal(rt: HostRuntime) -> Result<(), Fail> {
     let mut buffer = SampleBuffer::new(rt.alloc(), 4, 2)?;
-    assert_eq!(rt; buffer.rate(), 4);
-    assert_eq!(rt; buffer.at(-1), None);
+    assert_equal(&rt, buffer.rate(), 4);
+    assert_equal(&rt, buffer.at(-1), None);
     for sample in [0, 71, 100, 71, 0, -71, -100, -71, 0, 71] {
         buffer.record(sample);
     }
-    assert_eq!(rt;
+    assert_equal(
+        &rt,
         buffer.last(rt.alloc(), 3)?.as_slice(),
-        [-71, 0, 71].as_slice()
+        [-71, 0, 71].as_slice(),
     );
-    assert_eq!(rt; buffer.last(rt.alloc(), 0)?.len(), 0);
-    assert_eq!(rt;
+    assert_equal(&rt, buffer.last(rt.alloc(), 0)?.len(), 0);
+    assert_equal(
+        &rt,
         buffer.last(rt.alloc(), 100)?.as_slice(),
-        [100, 71, 0, -71, -100, -71, 0, 71].as_slice()
+        [100, 71, 0, -71, -100, -71, 0, 71].as_slice(),
     );
-    assert_eq!(rt; buffer.at(-1), Some(71));
-    assert_eq!(rt; buffer.at(-3), Some(-71));
-    assert_eq!(rt; buffer.at(-8), Some(100));
+    assert_equal(&rt, buffer.at(-1), Some(71));
+    assert_equal(&rt, buffer.at(-3), Some(-71));
+    assert_equal(&rt, buffer.at(-8), Some(100));
     for time in [isize::MIN, -9, 0, 1, isize::MAX] {
-        assert_eq!(rt; buffer.at(time), None, "at {time}");
+        assert_equal(&rt, (time, buffer.at(time)), (time, None));
     }
     Ok(())
 }

@@ -1,5 +1,6 @@
 //! Windows over each type of ring.
 
+use super::assert_equal;
 use ringbuffer::{AllocRingBuffer, ConstGenericRingBuffer, GrowableAllocRingBuffer, RingBuffer};
 use std::alloc::AllocError;
 use std::process::Abort;
@@ -14,28 +15,29 @@ trait Case {
 fn three_samples_and_one_more(rt: HostRuntime) -> Result<(), AllocError> {
     let mut window = WindowSum::new(AllocRingBuffer::new(rt.alloc(), 3)?);
     for sample in [5, 7, 9] {
-        assert_eq!(rt; window.push(sample), Ok(None));
+        assert_equal(&rt, window.push(sample), Ok(None));
     }
-    assert_eq!(rt; window.sum(), 21);
-    assert_eq!(rt; window.push(1), Ok(Some(5)));
-    assert_eq!(rt; window.sum(), 17);
-    assert_eq!(rt; window.forget_oldest(), Some(7));
-    assert_eq!(rt; window.sum(), 10);
-    assert_eq!(rt; window.len(), 2);
+    assert_equal(&rt, window.sum(), 21);
+    assert_equal(&rt, window.push(1), Ok(Some(5)));
+    assert_equal(&rt, window.sum(), 17);
+    assert_equal(&rt, window.forget_oldest(), Some(7));
+    assert_equal(&rt, window.sum(), 10);
+    assert_equal(&rt, window.len(), 2);
     Ok(())
 }
 
 #[test]
 fn sums_past_an_i64(rt: HostRuntime) {
     let mut window = WindowSum::new(ConstGenericRingBuffer::<i64, 2>::new());
-    assert_eq!(rt; window.push(9223372036854775807), Ok(None));
-    assert_eq!(rt; window.push(9223372036854775807), Ok(None));
-    assert_eq!(rt; window.sum(), 18446744073709551614);
-    assert_eq!(rt;
+    assert_equal(&rt, window.push(9223372036854775807), Ok(None));
+    assert_equal(&rt, window.push(9223372036854775807), Ok(None));
+    assert_equal(&rt, window.sum(), 18446744073709551614);
+    assert_equal(
+        &rt,
         window.push(-9223372036854775808),
-        Ok(Some(9223372036854775807))
+        Ok(Some(9223372036854775807)),
     );
-    assert_eq!(rt; window.sum(), -1);
+    assert_equal(&rt, window.sum(), -1);
 }
 
 struct OverFull;
@@ -45,9 +47,9 @@ impl Case for OverFull {
         assert!(rt; ring.push(8).is_ok());
         assert!(rt; ring.push(9).is_ok());
         let mut window = WindowSum::new(ring);
-        assert_eq!(rt; window.sum(), 17);
-        assert_eq!(rt; window.push(1), Ok(Some(8)));
-        assert_eq!(rt; window.sum(), 10);
+        assert_equal(rt, window.sum(), 17);
+        assert_equal(rt, window.push(1), Ok(Some(8)));
+        assert_equal(rt, window.sum(), 10);
     }
 }
 
@@ -62,13 +64,13 @@ fn window_over_a_full_ring(rt: HostRuntime) -> Result<(), AllocError> {
 fn window_over_a_ring_without_a_limit(rt: HostRuntime) -> Result<(), AllocError> {
     let mut ring = GrowableAllocRingBuffer::new(rt.alloc());
     for sample in [1, 2, 3] {
-        assert_eq!(rt; ring.push(sample), Ok(None));
+        assert_equal(&rt, ring.push(sample), Ok(None));
     }
     let mut window = WindowSum::new(ring);
-    assert_eq!(rt; window.sum(), 6);
-    assert_eq!(rt; window.push(4), Ok(None));
-    assert_eq!(rt; window.sum(), 10);
-    assert_eq!(rt; window.len(), 4);
+    assert_equal(&rt, window.sum(), 6);
+    assert_equal(&rt, window.push(4), Ok(None));
+    assert_equal(&rt, window.sum(), 10);
+    assert_equal(&rt, window.len(), 4);
     Ok(())
 }
 
@@ -77,9 +79,9 @@ struct OverNone;
 impl Case for OverNone {
     fn on<R: RingBuffer<i64> + Drop>(rt: &impl Abort, ring: R) {
         let mut window = WindowSum::new(ring);
-        assert_eq!(rt; window.sum(), 0);
-        assert_eq!(rt; window.forget_oldest(), None);
-        assert_eq!(rt; window.sum(), 0);
+        assert_equal(rt, window.sum(), 0);
+        assert_equal(rt, window.forget_oldest(), None);
+        assert_equal(rt, window.sum(), 0);
     }
 }
 
@@ -132,12 +134,9 @@ impl Case for MovingAverage {
                 sum = sum.wrapping_add(i128::from(*recent));
                 count = count.wrapping_add(1);
             }
-            assert_eq!(rt; window.sum(), sum, "at {i}");
-            assert_eq!(rt;
-                window.sum().checked_div(window.len() as i128),
-                sum.checked_div(count),
-                "at {i}"
-            );
+            assert_equal(rt, (i, window.sum()), (i, sum));
+            let mean = window.sum().checked_div(window.len() as i128);
+            assert_equal(rt, (i, mean), (i, sum.checked_div(count)));
         }
     }
 }

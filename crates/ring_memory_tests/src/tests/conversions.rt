@@ -1,6 +1,6 @@
 //! Rings made of other collections.
 
-use super::{assert_gives, assert_holds, push_all};
+use super::{assert_equal, assert_gives, assert_holds, push_all};
 use ringbuffer::{AllocRingBuffer, ConstGenericRingBuffer, GrowableAllocRingBuffer, RingBuffer};
 use std::alloc::AllocError;
 use std::collections::{LinkedList, VecDeque};
@@ -13,9 +13,13 @@ fn assert_made<R: RingBuffer<char> + PartialEq + Drop>(
     mut ring: R,
     pushed: &[char],
 ) -> Result<(), AllocError> {
-    assert_eq!(rt; ring.to_vec(rt.alloc())?.as_slice(), ['1', '2'].as_slice());
+    assert_equal(
+        rt,
+        ring.to_vec(rt.alloc())?.as_slice(),
+        ['1', '2'].as_slice(),
+    );
     assert!(rt; ring.push('3').is_ok());
-    assert_eq!(rt; ring.to_vec(rt.alloc())?.as_slice(), pushed);
+    assert_equal(rt, ring.to_vec(rt.alloc())?.as_slice(), pushed);
     assert!(rt; ring == ring);
     Ok(())
 }
@@ -146,9 +150,9 @@ fn an_array_ring_holds_numbers_of_each_source(rt: HostRuntime) -> Result<(), All
 fn an_array_ring_holds_the_characters_of_a_text(rt: HostRuntime) -> Result<(), AllocError> {
     fn on(rt: &impl Abort, mut ring: ConstGenericRingBuffer<char, 3>) {
         for letter in ['a', 'b', 'c'] {
-            assert_eq!(rt; ring.dequeue(), Some(letter));
+            assert_equal(rt, ring.dequeue(), Some(letter));
         }
-        assert_eq!(rt; ring.dequeue(), None);
+        assert_equal(rt, ring.dequeue(), None);
     }
     let string = String::from_str(rt.alloc(), "abc")?;
     on(&rt, ConstGenericRingBuffer::from_string(string));
@@ -159,7 +163,7 @@ fn an_array_ring_holds_the_characters_of_a_text(rt: HostRuntime) -> Result<(), A
 #[test]
 fn a_heap_ring_has_room_for_its_source(rt: HostRuntime) -> Result<(), AllocError> {
     fn on(rt: &impl Abort, ring: AllocRingBuffer<i64>) {
-        assert_eq!(rt; ring.capacity(), 4);
+        assert_equal(rt, ring.capacity(), 4);
         assert_holds(rt, &ring, &[1, 2, 3, 4]);
     }
     let items = [1, 2, 3, 4];
@@ -215,11 +219,11 @@ fn the_deque_of_a_growable_ring_has_its_items(rt: HostRuntime) -> Result<(), All
 #[test]
 fn a_ring_takes_all_of_an_iterator(rt: HostRuntime) -> Result<(), AllocError> {
     fn on<R: RingBuffer<i64> + Drop>(rt: &impl Abort, mut ring: R) {
-        assert_eq!(rt; ring.len(), 1024);
+        assert_equal(rt, ring.len(), 1024);
         for _ in 0..1024 {
-            assert_eq!(rt; ring.dequeue(), Some(1));
+            assert_equal(rt, ring.dequeue(), Some(1));
         }
-        assert_eq!(rt; ring.dequeue(), None);
+        assert_equal(rt, ring.dequeue(), None);
     }
     on(
         &rt,
@@ -245,7 +249,7 @@ fn an_array_ring_keeps_the_last_of_a_source(rt: HostRuntime) -> Result<(), Alloc
     ] {
         let ring = ConstGenericRingBuffer::<i64, 3>::from_slice(items)?;
         assert_holds(&rt, &ring, held);
-        assert_eq!(rt; ring.is_full(), full);
+        assert_equal(&rt, ring.is_full(), full);
     }
     Ok(())
 }
@@ -253,9 +257,9 @@ fn an_array_ring_keeps_the_last_of_a_source(rt: HostRuntime) -> Result<(), Alloc
 #[test]
 fn a_long_text_is_taken_whole(rt: HostRuntime) -> Result<(), AllocError> {
     fn on<R: RingBuffer<char> + Drop>(rt: &impl Abort, ring: R) {
-        assert_eq!(rt; ring.len(), 26);
-        assert_eq!(rt; ring.front(), Some(&'a'));
-        assert_eq!(rt; ring.back(), Some(&'z'));
+        assert_equal(rt, ring.len(), 26);
+        assert_equal(rt, ring.front(), Some(&'a'));
+        assert_equal(rt, ring.back(), Some(&'z'));
     }
     let text = "abcdefghijklmnopqrstuvwxyz";
     on(&rt, ConstGenericRingBuffer::<char, 26>::from_text(text));
@@ -267,21 +271,21 @@ fn a_long_text_is_taken_whole(rt: HostRuntime) -> Result<(), AllocError> {
 #[test]
 fn a_ring_of_a_text_beyond_ascii_has_spare_room(rt: HostRuntime) -> Result<(), AllocError> {
     let mut ring = AllocRingBuffer::from_text(rt.alloc(), "\u{e9}1")?;
-    assert_eq!(rt; ring.capacity(), 3);
-    assert_eq!(rt; ring.len(), 2);
-    assert_eq!(rt; ring.buffer_size(), 4);
+    assert_equal(&rt, ring.capacity(), 3);
+    assert_equal(&rt, ring.len(), 2);
+    assert_equal(&rt, ring.buffer_size(), 4);
     assert!(rt; !ring.is_full());
-    assert_eq!(rt; ring.dequeue(), Some('\u{e9}'));
-    assert_eq!(rt; ring.dequeue(), Some('1'));
+    assert_equal(&rt, ring.dequeue(), Some('\u{e9}'));
+    assert_equal(&rt, ring.dequeue(), Some('1'));
     Ok(())
 }
 
 #[test]
 fn an_array_ring_keeps_the_last_characters(rt: HostRuntime) -> Result<(), AllocError> {
     let mut ring = ConstGenericRingBuffer::<char, 2>::from_text("\u{e9}1z");
-    assert_eq!(rt; ring.dequeue(), Some('1'));
-    assert_eq!(rt; ring.dequeue(), Some('z'));
-    assert_eq!(rt; ring.dequeue(), None);
+    assert_equal(&rt, ring.dequeue(), Some('1'));
+    assert_equal(&rt, ring.dequeue(), Some('z'));
+    assert_equal(&rt, ring.dequeue(), None);
     let nothing = String::from_str(rt.alloc(), "")?;
     assert!(rt; ConstGenericRingBuffer::<char, 4>::from_string(nothing).is_empty());
     Ok(())
@@ -293,7 +297,7 @@ fn a_heap_ring_of_an_array_ring_has_room_for_its_items(rt: HostRuntime) -> Resul
     push_all(&rt, &mut array, &[1, 2]);
     assert_eq!(rt; array.len(), 2);
     let ring = AllocRingBuffer::from_const(rt.alloc(), array)?;
-    assert_eq!(rt; ring.capacity(), 2);
+    assert_equal(&rt, ring.capacity(), 2);
     assert_holds(&rt, &ring, &[1, 2]);
     Ok(())
 }
@@ -301,8 +305,8 @@ fn a_heap_ring_of_an_array_ring_has_room_for_its_items(rt: HostRuntime) -> Resul
 #[test]
 fn a_heap_ring_of_a_growable_ring_is_full(rt: HostRuntime) -> Result<(), AllocError> {
     fn on<R: RingBuffer<i64> + Drop>(rt: &impl Abort, ring: R) {
-        assert_eq!(rt; ring.capacity(), 3);
-        assert_eq!(rt; ring.buffer_size(), 4);
+        assert_equal(rt, ring.capacity(), 3);
+        assert_equal(rt, ring.buffer_size(), 4);
         assert!(rt; ring.is_full());
         assert_holds(rt, &ring, &[1, 2, 3]);
     }

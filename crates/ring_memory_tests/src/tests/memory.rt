@@ -1,7 +1,7 @@
 //! How large a ring may be, memory that is refused to it, and calls that ask for none.
 
 use super::runs::{REPLIES_OF_TWO, every_command};
-use super::{assert_gives, assert_holds, push_all};
+use super::{assert_equal, assert_gives, assert_holds, push_all};
 use ring_test_support::drought::Drought;
 use ring_test_support::rings::{Case, Rings};
 use ringbuffer::{
@@ -34,7 +34,7 @@ fn more_bytes_than_there_can_be_are_refused(rt: HostRuntime) {
 fn rings_of_a_gibibyte_give_back_their_memory(rt: HostRuntime) -> Result<(), AllocError> {
     for _ in 0..150_000 {
         let ring = AllocRingBuffer::<u64>::new(rt.alloc(), 1 << 27)?;
-        assert_eq!(rt; ring.buffer_size(), 1 << 27);
+        assert_equal(&rt, ring.buffer_size(), 1 << 27);
     }
     Ok(())
 }
@@ -47,7 +47,7 @@ fn large_capacities_are_had_where_there_is_memory(rt: HostRuntime) -> Result<(),
     }
     for capacity in [(1 << 16) + 1, (1 << 20) + 1, 1 << 24, (1 << 24) + 1] {
         let heap = AllocRingBuffer::new(rt.alloc(), capacity)?;
-        assert_eq!(rt; heap.capacity(), capacity);
+        assert_equal(&rt, heap.capacity(), capacity);
         on(&rt, heap);
         let growable = GrowableAllocRingBuffer::with_capacity(rt.alloc(), capacity)?;
         assert!(rt; growable.capacity() >= capacity);
@@ -61,8 +61,8 @@ fn items_may_be_large(rt: HostRuntime) -> Result<(), AllocError> {
     fn on<R: RingBuffer<[u64; 512]> + Drop>(rt: &impl Abort, mut ring: R) {
         assert!(rt; ring.push([1; 512]).is_ok());
         assert!(rt; ring.push([2; 512]).is_ok());
-        assert_eq!(rt; ring.back().map(|item| item[511]), Some(2));
-        assert_eq!(rt; ring.dequeue().map(|item| item[0]), Some(1));
+        assert_equal(rt, ring.back().map(|item| item[511]), Some(2));
+        assert_equal(rt, ring.dequeue().map(|item| item[0]), Some(1));
     }
     on(&rt, ConstGenericRingBuffer::<[u64; 512], 2>::new());
     on(&rt, AllocRingBuffer::new(rt.alloc(), 2)?);
@@ -82,11 +82,11 @@ fn a_ring_of_items_without_size_has_any_capacity(rt: HostRuntime) -> Result<(), 
     ];
     for (capacity, slots) in cases {
         let ring = AllocRingBuffer::<()>::new(rt.alloc(), capacity)?;
-        assert_eq!(rt; ring.capacity(), capacity);
-        assert_eq!(rt; ring.buffer_size(), slots);
+        assert_equal(&rt, ring.capacity(), capacity);
+        assert_equal(&rt, ring.buffer_size(), slots);
     }
     let ring = AllocRingBuffer::<()>::with_capacity_power_of_2(rt.alloc(), 63)?;
-    assert_eq!(rt; ring.capacity(), greatest);
+    assert_equal(&rt, ring.capacity(), greatest);
     Ok(())
 }
 
@@ -112,13 +112,13 @@ fn ring_of_items_without_size_asks_for_no_memory(rt: HostRuntime) -> Result<(), 
     for _ in 0..7 {
         assert!(rt; ring.push(()).is_ok());
     }
-    assert_eq!(rt; ring.len(), 5);
-    assert_eq!(rt; ring.capacity(), 5);
-    assert_eq!(rt; ring.buffer_size(), 8);
+    assert_equal(&rt, ring.len(), 5);
+    assert_equal(&rt, ring.capacity(), 5);
+    assert_equal(&rt, ring.buffer_size(), 8);
     for _ in 0..5 {
-        assert_eq!(rt; ring.dequeue(), Some(()));
+        assert_equal(&rt, ring.dequeue(), Some(()));
     }
-    assert_eq!(rt; ring.dequeue(), None);
+    assert_equal(&rt, ring.dequeue(), None);
     Ok(())
 }
 
@@ -128,9 +128,9 @@ fn a_refused_push_can_be_tried_again(rt: HostRuntime) -> Result<(), AllocError> 
     let mut ring = GrowableAllocRingBuffer::new(rt.alloc());
     let refused = ring.push(7);
     drop(drought);
-    assert_eq!(rt; refused.err(), Some(7));
-    assert_eq!(rt; ring.len(), 0);
-    assert_eq!(rt; ring.push(7), Ok(None));
+    assert_equal(&rt, refused.err(), Some(7));
+    assert_equal(&rt, ring.len(), 0);
+    assert_equal(&rt, ring.push(7), Ok(None));
     assert_holds(&rt, &ring, &[7]);
     Ok(())
 }
@@ -173,8 +173,8 @@ fn slices_of_a_heap_ring_take_no_memory(rt: HostRuntime) -> Result<(), AllocErro
     ring.make_contiguous().reverse();
     let count = ring.dequeue_into(&mut output);
     drop(drought);
-    assert_eq!(rt; count, 2);
-    assert_eq!(rt; output, [6, 5]);
+    assert_equal(&rt, count, 2);
+    assert_equal(&rt, output, [6, 5]);
     assert_holds(&rt, &ring, &[4]);
     Ok(())
 }
@@ -211,13 +211,13 @@ impl<Rt: Abort + AllocGlobal> Case<Rt> for LooksTakeNone {
         push_all(rt, &mut ring, &[1, 2, 3]);
         let drought = Drought::total(rt.alloc())?;
         assert!(rt; !ring.is_empty());
-        assert_eq!(rt; ring.is_full(), ring.len() == ring.capacity());
+        assert_equal(rt, ring.is_full(), ring.len() == ring.capacity());
         assert!(rt; ring.buffer_size() >= 3);
-        assert_eq!(rt; ring.get(4).copied(), Some(2));
-        assert_eq!(rt; ring.get_signed(-1).copied(), Some(3));
-        assert_eq!(rt; ring.peek().copied(), Some(1));
-        assert_eq!(rt; ring.front().copied(), Some(1));
-        assert_eq!(rt; ring.back().copied(), Some(3));
+        assert_equal(rt, ring.get(4).copied(), Some(2));
+        assert_equal(rt, ring.get_signed(-1).copied(), Some(3));
+        assert_equal(rt, ring.peek().copied(), Some(1));
+        assert_equal(rt, ring.front().copied(), Some(1));
+        assert_equal(rt, ring.back().copied(), Some(3));
         assert!(rt; ring.contains(&2));
         assert!(rt; !ring.contains(&4));
         drop(drought);
@@ -244,11 +244,11 @@ impl<Rt: Abort + AllocGlobal> Case<Rt> for ChangesTakeNone {
         *ring.back_mut().expect(rt, "an item") = 7;
         assert_holds(rt, &ring, &[4, 5, 7]);
         ring.skip();
-        assert_eq!(rt; ring.dequeue(), Some(5));
+        assert_equal(rt, ring.dequeue(), Some(5));
         ring.clear();
         assert!(rt; ring.is_empty());
         ring.skip();
-        assert_eq!(rt; ring.dequeue(), None);
+        assert_equal(rt, ring.dequeue(), None);
         drop(drought);
         Ok(())
     }
@@ -292,7 +292,7 @@ fn assert_drains_first<R: RingBuffer<i64>>(
     rt: &impl Abort,
     mut walk: RingBufferDrainingIterator<'_, i64, R>,
 ) {
-    assert_eq!(rt; walk.next(), Some(4));
+    assert_equal(rt, walk.next(), Some(4));
 }
 
 fn assert_rest<R: RingBuffer<i64> + Drop>(rt: &impl Abort, walk: RingBufferIntoIterator<i64, R>) {
@@ -306,7 +306,7 @@ macro_rules! assert_own_calls_take_none {
         push_all(&$rt, &mut ring, &[1, 2, 3]);
         assert_eq!($rt; ring.len(), 3);
         let drought = Drought::total($rt.alloc())?;
-        assert_eq!($rt; ring[4], 2);
+        assert_equal(&$rt, ring[4], 2);
         ring[4] = 5;
         assert_read(&$rt, ring.iter());
         write_first(&$rt, ring.iter_mut());
@@ -339,8 +339,8 @@ fn the_deque_of_a_growable_ring_is_lent_without_memory(rt: HostRuntime) -> Resul
     let mut ring = GrowableAllocRingBuffer::with_capacity(rt.alloc(), 3)?;
     push_all(&rt, &mut ring, &[1, 2, 3]);
     let drought = Drought::total(rt.alloc())?;
-    assert_eq!(rt; ring.as_ref().len(), 3);
-    assert_eq!(rt; ring.as_mut().pop_back(), Some(3));
+    assert_equal(&rt, ring.as_ref().len(), 3);
+    assert_equal(&rt, ring.as_mut().pop_back(), Some(3));
     drop(drought);
     assert_holds(&rt, &ring, &[1, 2]);
     Ok(())
@@ -354,13 +354,18 @@ impl<Rt: Abort + AllocGlobal> Case<Rt> for RunsTakeNone {
         let commands = vec![in rt.alloc(); Command::Extend(extension), Command::Dequeue]?;
         let other_extension = vec![in rt.alloc(); 4, 5]?;
         let mut places = [const { None }; 2];
-        assert_eq!(rt; commands.len(), 2);
+        assert_equal(rt, commands.len(), 2);
         let drought = Drought::total(rt.alloc())?;
-        assert_eq!(rt; apply(&mut ring, Command::Push(1)), Ok(Reply::Pushed(None)));
-        assert_eq!(rt; run_into(&mut ring, commands, &mut places), Ok(()));
-        assert_eq!(rt;
+        assert_equal(
+            rt,
+            apply(&mut ring, Command::Push(1)),
+            Ok(Reply::Pushed(None)),
+        );
+        assert_equal(rt, run_into(&mut ring, commands, &mut places), Ok(()));
+        assert_equal(
+            rt,
             apply(&mut ring, Command::Extend(other_extension)),
-            Ok(Reply::Extended)
+            Ok(Reply::Extended),
         );
         drop(drought);
         assert!(rt; places == [Some(Reply::Extended), Some(Reply::Dequeued(Some(2)))]);
@@ -426,7 +431,7 @@ impl<Rt: Abort + AllocGlobal> Case<Rt> for RunWithRoomForReplies {
         let answered = run(rt.alloc(), &mut ring, commands);
         drop(drought);
         let replies = answered.expect(rt, "no request but for the replies");
-        assert_eq!(rt; replies.as_slice(), REPLIES_OF_TWO.as_slice());
+        assert_equal(rt, replies.as_slice(), REPLIES_OF_TWO.as_slice());
         assert_holds(rt, &ring, &[]);
         Ok(())
     }

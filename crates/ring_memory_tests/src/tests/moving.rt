@@ -1,6 +1,6 @@
 //! Moves of one ring's items onto another.
 
-use super::{assert_holds, push_all};
+use super::{assert_equal, assert_holds, push_all};
 use ring_test_support::drought::Drought;
 use ring_test_support::rings::{Case, Rings};
 use ringbuffer::{
@@ -42,7 +42,7 @@ fn a_refused_move_hands_one_back_and_leaves_the_rest(rt: HostRuntime) -> Result<
     let drought = Drought::total(rt.alloc())?;
     let moved = move_all(&mut to, &mut from);
     drop(drought);
-    assert_eq!(rt; moved, Err(1));
+    assert_equal(&rt, moved, Err(1));
     assert_holds(&rt, &to, &[]);
     assert_holds(&rt, &from, &[2, 3]);
     Ok(())

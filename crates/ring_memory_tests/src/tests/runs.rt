@@ -1,6 +1,6 @@
 //! Commands, one by one and in runs.
 
-use super::{assert_holds, push_all};
+use super::{assert_equal, assert_holds, push_all};
 use ring_test_support::rings::{Case, Rings};
 use ringbuffer::{
     Command, Refused, Reply, RingBuffer, RunFault, Stopped, apply, run, run_into, runs_join,
@@ -52,9 +52,9 @@ fn assert_run_into<R: RingBuffer<i64>>(
         places.push(Some(Reply::Cleared))?;
     }
     assert_eq!(rt; places.len(), commands.len());
-    assert_eq!(rt; run_into(ring, commands, places.as_mut_slice()), Ok(()));
+    assert_equal(rt, run_into(ring, commands, places.as_mut_slice()), Ok(()));
     for (i, place) in places.iter().enumerate() {
-        assert_eq!(rt; place.as_ref(), replies.get(i), "at {i}");
+        assert_equal(rt, (i, place.as_ref()), (i, replies.get(i)));
     }
     Ok(())
 }
@@ -67,7 +67,7 @@ fn assert_run<R: RingBuffer<i64>>(
     replies: &[Reply<i64>],
 ) {
     let answered = run(rt.alloc(), ring, commands).expect(rt, "memory for the replies");
-    assert_eq!(rt; answered.as_slice(), replies);
+    assert_equal(rt, answered.as_slice(), replies);
 }
 
 /// A run into places finds these replies, and leaves nothing.
@@ -195,23 +195,30 @@ struct EachCommand;
 
 impl<Rt: Abort + AllocGlobal> Case<Rt> for EachCommand {
     fn on<R: RingBuffer<i64> + Drop>(&self, rt: &Rt, mut ring: R) -> Result<(), AllocError> {
-        assert_eq!(rt; apply(&mut ring, Command::Push(1)), Ok(Reply::Pushed(None)));
+        assert_equal(
+            rt,
+            apply(&mut ring, Command::Push(1)),
+            Ok(Reply::Pushed(None)),
+        );
         let extension = vec![in rt.alloc(); 2, 3, 4]?;
-        assert_eq!(rt;
+        assert_equal(
+            rt,
             apply(&mut ring, Command::Extend(extension)),
-            Ok(Reply::Extended)
+            Ok(Reply::Extended),
         );
         assert_holds(rt, &ring, &[1, 2, 3, 4]);
-        assert_eq!(rt;
+        assert_equal(
+            rt,
             apply(&mut ring, Command::Dequeue),
-            Ok(Reply::Dequeued(Some(1)))
+            Ok(Reply::Dequeued(Some(1))),
         );
-        assert_eq!(rt; apply(&mut ring, Command::Skip), Ok(Reply::Skipped));
+        assert_equal(rt, apply(&mut ring, Command::Skip), Ok(Reply::Skipped));
         assert_holds(rt, &ring, &[3, 4]);
-        assert_eq!(rt; apply(&mut ring, Command::Clear), Ok(Reply::Cleared));
-        assert_eq!(rt;
+        assert_equal(rt, apply(&mut ring, Command::Clear), Ok(Reply::Cleared));
+        assert_equal(
+            rt,
             apply(&mut ring, Command::Dequeue),
-            Ok(Reply::Dequeued(None))
+            Ok(Reply::Dequeued(None)),
         );
         Ok(())
     }

@@ -1,5 +1,6 @@
 //! A window whose ring is refused memory.
 
+use super::assert_equal;
 use ring_test_support::drought::Drought;
 use ringbuffer::GrowableAllocRingBuffer;
 use std::alloc::AllocError;
@@ -11,8 +12,8 @@ fn a_refused_push_leaves_the_sum(rt: HostRuntime) -> Result<(), AllocError> {
     let drought = Drought::total(rt.alloc())?;
     let answer = window.push(7);
     drop(drought);
-    assert_eq!(rt; answer, Err(7));
-    assert_eq!(rt; window.sum(), 0);
-    assert_eq!(rt; window.len(), 0);
+    assert_equal(&rt, answer, Err(7));
+    assert_equal(&rt, window.sum(), 0);
+    assert_equal(&rt, window.len(), 0);
     Ok(())
 }

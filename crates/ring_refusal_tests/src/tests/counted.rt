@@ -2,6 +2,7 @@
 
 ghost use Rattle.std.specs.Prelude.{◌<◌, ◌^◌};
 
+use super::assert_equal;
 use ring_test_support::rings::Twin;
 use ringbuffer::{AllocRingBuffer, ConstGenericRingBuffer, GrowableAllocRingBuffer, RingBuffer};
 use std::alloc::{AllocError, Global};
@@ -89,7 +90,7 @@ impl Supply {
     /// The item of this number was dropped so often.
     pub fn assert_drops(&self, rt: &impl Abort, number: usize, wanted: u8) {
         let drops = self.drops.get(number).expect(rt, "a count for the item");
-        assert_eq!(rt; drops.get(), wanted, "item {number}");
+        assert_equal(rt, (number, drops.get()), (number, wanted));
     }
 
     // Counts a drop of the item of this number.
@@ -160,7 +161,7 @@ pub fn push_items<'a, R: RingBuffer<Counted<'a>>>(
 pub fn assert_numbered<'a, R: RingBuffer<Counted<'a>>>(rt: &impl Abort, ring: &R, first: usize) {
     for i in 0..ring.len() {
         let number = ring.get(i).expect(rt, "an item").number;
-        assert_eq!(rt; number, i.saturating_add(first));
+        assert_equal(rt, number, i.saturating_add(first));
     }
 }
 

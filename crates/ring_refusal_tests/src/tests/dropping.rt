@@ -1,5 +1,6 @@
 //! What becomes of items: each is dropped exactly once, also where items have no size.
 
+use super::assert_equal;
 use super::counted::{
     Counted, CountedCase, Supply, assert_numbered, on_each, on_fixed, on_growable, push_items,
 };
@@ -32,7 +33,7 @@ impl<'a> CountedCase<Counted<'a>, &'a Supply> for HandsBack {
             match overwritten {
                 Some(item) => {
                     assert!(rt; self.overwrites);
-                    assert_eq!(rt; item.number, old);
+                    assert_equal(rt, item.number, old);
                     drop(item);
                     supply.assert_drops(rt, old, 1);
                 }
@@ -129,7 +130,7 @@ impl<'a> CountedCase<Counted<'a>, &'a Supply> for EndsWrapped {
         ring.skip();
         push_items(rt, &mut ring, supply, 2);
         assert_numbered(rt, &ring, 2);
-        assert_eq!(rt; ring.len(), 3);
+        assert_equal(rt, ring.len(), 3);
         drop(ring);
         supply.assert_each_dropped(rt);
         supply.assert_dropped_in_order(rt);
@@ -185,7 +186,7 @@ fn what_is_not_kept_is_dropped_at_once(rt: HostRuntime) -> Result<(), AllocError
         supply.assert_drops(&rt, number, drops);
     }
     let newest = ring.pop_back().expect(&rt, "an item");
-    assert_eq!(rt; newest.number, 6);
+    assert_equal(&rt, newest.number, 6);
     supply.assert_drops(&rt, 6, 0);
     drop(newest);
     drop(ring);
@@ -259,7 +260,7 @@ impl<'a> CountedCase<Counted<'a>, &'a Supply> for Drains {
         push_items(rt, &mut ring, supply, 4);
         let mut walk = RingBufferDrainingIterator::new(&mut ring);
         let taken = walk.next().expect(rt, "an item");
-        assert_eq!(rt; taken.number, 0);
+        assert_equal(rt, taken.number, 0);
         supply.assert_drops(rt, 0, 0);
         drop(walk);
         supply.assert_drops(rt, 1, 0);
@@ -338,12 +339,12 @@ fn items_may_have_no_size(rt: HostRuntime) -> Result<(), AllocError> {
         for _ in 0..7 {
             assert!(rt; ring.push(()).is_ok());
         }
-        assert_eq!(rt; ring.len(), kept);
-        assert_eq!(rt; ring.get_signed(-1).copied(), Some(()));
+        assert_equal(rt, ring.len(), kept);
+        assert_equal(rt, ring.get_signed(-1).copied(), Some(()));
         for _ in 0..kept {
-            assert_eq!(rt; ring.dequeue(), Some(()));
+            assert_equal(rt, ring.dequeue(), Some(()));
         }
-        assert_eq!(rt; ring.dequeue(), None);
+        assert_equal(rt, ring.dequeue(), None);
     }
     on(&rt, ConstGenericRingBuffer::<(), 5>::new(), 5);
     on(&rt, AllocRingBuffer::new(rt.alloc(), 5)?, 5);

@@ -5,7 +5,7 @@ use super::counted::{
     Counted, CountedCase, Supply, assert_numbered, on_each, on_growable, push_items,
 };
 use super::scarce::{MOST_STEPS, is_cloned, spared};
-use super::{assert_holds, push_all};
+use super::{assert_equal, assert_holds, push_all};
 use ring_test_support::drought::Drought;
 use ring_test_support::rings::{Case, Rings, Twin};
 use ringbuffer::{
@@ -31,7 +31,7 @@ fn hold_first<'a, R: RingBuffer<Counted<'a>>>(
 
 /// The ring still holds the first three items of their supply.
 fn assert_unchanged<'a, R: RingBuffer<Counted<'a>>>(rt: &impl Abort, ring: &R) {
-    assert_eq!(rt; ring.len(), 3);
+    assert_equal(rt, ring.len(), 3);
     assert_numbered(rt, ring, 0);
 }
 
@@ -47,7 +47,7 @@ impl<'a> CountedCase<Counted<'a>, &'a Supply> for ClonesItems {
         for clones in 0..4 {
             hold_first(rt, &mut ring, supply, 3, clones + 3);
             let made = ring.twin();
-            assert_eq!(rt; is_cloned(rt, made, supply), clones == 3);
+            assert_equal(rt, is_cloned(rt, made, supply), clones == 3);
             assert_unchanged(rt, &ring);
         }
         drop(ring);
@@ -93,9 +93,9 @@ fn a_clone_is_refused_in_turn(rt: HostRuntime) -> Result<(), AllocError> {
 fn is_listed(rt: &impl Abort, made: Result<Vec<Counted<'_>>, AllocError>, supply: &Supply) -> bool {
     let is_made = made.is_ok();
     if let Ok(items) = made {
-        assert_eq!(rt; items.len(), 3);
+        assert_equal(rt, items.len(), 3);
         for (i, item) in items.iter().enumerate() {
-            assert_eq!(rt; item.number, i.saturating_add(3));
+            assert_equal(rt, item.number, i.saturating_add(3));
         }
     }
     supply.assert_all_dropped_but(rt, 3);
@@ -114,7 +114,7 @@ impl<'a> CountedCase<Counted<'a>, &'a Supply> for ListsClones {
         for clones in 0..4 {
             hold_first(rt, &mut ring, supply, 3, clones + 3);
             let made = ring.to_vec(rt.alloc());
-            assert_eq!(rt; is_listed(rt, made, supply), clones == 3);
+            assert_equal(rt, is_listed(rt, made, supply), clones == 3);
             assert_unchanged(rt, &ring);
         }
         drop(ring);
@@ -174,10 +174,10 @@ impl<'a> CountedCase<Counted<'a>, &'a Supply> for FillsByClones {
         for clones in 0..capacity.saturating_add(2) {
             hold_first(rt, &mut ring, supply, 2, clones.saturating_add(3));
             let filled = ring.fill(supply.item(rt));
-            assert_eq!(rt; filled.is_ok(), clones >= capacity, "of {clones} clones");
-            assert_eq!(rt; ring.len(), clones.min(capacity));
+            assert_equal(rt, (clones, filled.is_ok()), (clones, clones >= capacity));
+            assert_equal(rt, ring.len(), clones.min(capacity));
             assert_numbered(rt, &ring, 3);
-            assert_eq!(rt; supply.given(), ring.len().saturating_add(3));
+            assert_equal(rt, supply.given(), ring.len().saturating_add(3));
             supply.assert_drops(rt, 2, 1);
         }
         drop(ring);
@@ -216,7 +216,7 @@ impl<'a> CountedCase<Counted<'a>, &'a Supply> for FillsInADrought {
         };
         drop(drought);
         assert!(rt; ring.len() <= capacity);
-        assert_eq!(rt; filled.is_ok(), ring.len() == capacity);
+        assert_equal(rt, filled.is_ok(), ring.len() == capacity);
         assert_numbered(rt, &ring, self.first);
         drop(ring);
         supply.assert_each_dropped(rt);
@@ -264,9 +264,9 @@ impl<Rt: Abort + AllocGlobal> Case<Rt> for FillsTakeNone {
 
 /// The ring holds one item so many times.
 fn assert_holds_all<R: RingBuffer<i64>>(rt: &impl Abort, ring: &R, times: usize, item: i64) {
-    assert_eq!(rt; ring.len(), times);
+    assert_equal(rt, ring.len(), times);
     for i in 0..times {
-        assert_eq!(rt; ring.get(i).copied(), Some(item));
+        assert_equal(rt, ring.get(i).copied(), Some(item));
     }
 }
 
@@ -327,10 +327,10 @@ fn a_fill_of_a_growable_ring_is_refused_at_each_clone(rt: HostRuntime) -> Result
         let filled = ring.fill(value);
         drop(drought);
         let held = ring.len();
-        assert_eq!(rt; filled.is_ok(), held == capacity);
+        assert_equal(rt, filled.is_ok(), held == capacity);
         for i in 0..held {
             let number = ring.get(i).expect(rt, "an item").item.number;
-            assert_eq!(rt; number, i.saturating_add(3));
+            assert_equal(rt, number, i.saturating_add(3));
         }
         drop(ring);
         supply.assert_each_dropped(rt);
@@ -362,7 +362,7 @@ fn texts_and_empty_rings_need_no_memory(rt: HostRuntime) -> Result<(), AllocErro
     let array = ConstGenericRingBuffer::<i64, 2>::default();
     let growable = GrowableAllocRingBuffer::<i64>::default(rt.alloc());
     drop(drought);
-    assert_eq!(rt; of_text.len(), 2);
+    assert_equal(&rt, of_text.len(), 2);
     assert!(rt; of_text == of_string);
     assert!(rt; array.is_empty());
     assert!(rt; growable.is_empty());
@@ -427,8 +427,8 @@ impl<'a> CountedCase<Counted<'a>, &'a Supply> for PushesOntoFull {
         let Err(Refused::Push(item)) = applied else {
             panic!(rt; "the push was not refused");
         };
-        assert_eq!(rt; item.number, room);
-        assert_eq!(rt; ring.len(), room);
+        assert_equal(rt, item.number, room);
+        assert_equal(rt, ring.len(), room);
         assert_numbered(rt, &ring, 0);
         drop((ring, item));
         supply.assert_each_dropped(rt);
@@ -472,7 +472,7 @@ fn assert_extended_at_last(
         };
         drop(drought);
         assert!(rt; (2..MANY + 3).contains(&ring.len()));
-        assert_eq!(rt; is_done, ring.len() == MANY + 2);
+        assert_equal(rt, is_done, ring.len() == MANY + 2);
         assert_numbered(rt, &ring, 0);
         drop(ring);
         supply.assert_each_dropped(rt);
@@ -581,7 +581,7 @@ impl Script {
             4 => self.items(),
             _ => panic!(rt; "command {done} takes no memory"),
         };
-        assert_eq!(rt; ring.len().saturating_add(first), end);
+        assert_equal(rt, ring.len().saturating_add(first), end);
         assert_numbered(rt, &ring, first);
     }
 }
@@ -617,7 +617,7 @@ fn run_in_a_drought<'a, R: RingBuffer<Counted<'a>> + Drop>(
             (Ended::NoRoom, 0, Vec::new(rt.alloc()))
         }
     };
-    assert_eq!(rt; replies.len(), done);
+    assert_equal(rt, replies.len(), done);
     for (i, reply) in replies.iter().enumerate() {
         assert!(rt; script.is_reply(reply, i), "at {i}");
     }

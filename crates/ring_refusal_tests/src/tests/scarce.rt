@@ -1,5 +1,6 @@
 //! Memory and clones that are refused to makers and conversions. Items count their drops, and each is dropped exactly once.
 
+use super::assert_equal;
 use super::counted::{Counted, Supply, assert_numbered};
 use ring_test_support::drought::Drought;
 use ringbuffer::{AllocRingBuffer, ConstGenericRingBuffer, GrowableAllocRingBuffer, RingBuffer};
@@ -163,7 +164,7 @@ fn is_made<'a, R: RingBuffer<Counted<'a>> + Drop>(
 ) -> bool {
     let is_made = made.is_ok();
     if let Ok(ring) = made {
-        assert_eq!(rt; ring.len(), 3);
+        assert_equal(rt, ring.len(), 3);
         assert_numbered(rt, &ring, 0);
         supply.assert_all_dropped_but(rt, 3);
     }
@@ -348,7 +349,7 @@ fn is_spelled_in_a_drought<R: RingBuffer<char> + MadeOfText + Drop>(
         return Ok(false);
     };
     for letter in ['a', 'b', 'c'] {
-        assert_eq!(rt; ring.dequeue(), Some(letter));
+        assert_equal(rt, ring.dequeue(), Some(letter));
     }
     assert!(rt; ring.is_empty());
     Ok(true)
@@ -504,7 +505,7 @@ pub fn is_cloned<'a, R: RingBuffer<Counted<'a>> + Drop>(
 ) -> bool {
     let is_made = made.is_ok();
     if let Ok(ring) = made {
-        assert_eq!(rt; ring.len(), 3);
+        assert_equal(rt, ring.len(), 3);
         assert_numbered(rt, &ring, 3);
     }
     supply.assert_all_dropped_but(rt, 3);

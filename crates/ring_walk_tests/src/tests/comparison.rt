@@ -2,7 +2,7 @@
 
 ghost use Rattle.std.specs.Prelude.{◌<◌, ◌^◌};
 
-use super::{assert_holds, push_all};
+use super::{assert_equal, assert_holds, push_all};
 use ring_test_support::rings::Twin;
 use ringbuffer::{AllocRingBuffer, ConstGenericRingBuffer, GrowableAllocRingBuffer, RingBuffer};
 use std::alloc::AllocError;
@@ -205,7 +205,7 @@ fn an_empty_heap_ring_is_cloned_with_its_capacity(rt: HostRuntime) -> Result<(),
         let ring = AllocRingBuffer::new(rt.alloc(), capacity)?;
         let twin = twin_of(&ring)?;
         assert!(rt; twin == ring);
-        assert_eq!(rt; twin.capacity(), capacity);
+        assert_equal(&rt, twin.capacity(), capacity);
     }
     Ok(())
 }
@@ -224,8 +224,8 @@ impl TwinCase for FullTwin {
         ring.fill(4)?;
         let mut twin = ring.twin()?;
         assert!(rt; twin == ring);
-        assert_eq!(rt; twin.capacity(), 5);
-        assert_eq!(rt; twin.buffer_size(), 8);
+        assert_equal(rt, twin.capacity(), 5);
+        assert_equal(rt, twin.buffer_size(), 8);
         push_all(rt, &mut twin, &[1]);
         assert_holds(rt, &ring, &[4, 4, 4, 4, 4]);
         assert_holds(rt, &twin, &[4, 4, 4, 4, 1]);

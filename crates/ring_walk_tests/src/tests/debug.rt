@@ -1,6 +1,6 @@
 //! What `{:?}` writes.
 
-use super::push_all;
+use super::{assert_equal, push_all};
 use ringbuffer::{AllocRingBuffer, ConstGenericRingBuffer, GrowableAllocRingBuffer, RingBuffer};
 use std::alloc::AllocError;
 use std::fmt::Debug;
@@ -15,7 +15,7 @@ fn assert_writes<R: RingBuffer<i64> + Debug + Drop>(
 ) -> Result<(), AllocError> {
     push_all(rt, &mut ring, items);
     let written = format!(in rt.alloc(); "{ring:?}")?;
-    assert_eq!(rt; written.as_str(), text);
+    assert_equal(rt, written.as_str(), text);
     Ok(())
 }
 

@@ -1,6 +1,6 @@
 //! Walks over the items: reading, writing and taking; lists of the items.
 
-use super::{assert_holds, push_all};
+use super::{assert_equal, assert_holds, push_all};
 use End::{Back, Front};
 use ring_test_support::rings::{Case, Rings};
 use ringbuffer::{
@@ -19,7 +19,7 @@ enum End {
 
 /// So many items are still to come before this one.
 fn assert_to_come(rt: &impl Abort, hint: (usize, Option<usize>), left: usize, item: Option<i64>) {
-    assert_eq!(rt; hint, (left, Some(left)), "before {item:?}");
+    assert_equal(rt, (item, hint), (item, (left, Some(left))));
 }
 
 /// What a step of a reading walk finds.
@@ -44,8 +44,8 @@ fn assert_reads<R: RingBuffer<i64>>(rt: &impl Abort, ring: &R, steps: &[(End, Op
     let mut left = ring.len();
     for (end, found) in steps {
         assert_to_come(rt, walk.size_hint(), left, *found);
-        assert_eq!(rt; walk.len(), left);
-        assert_eq!(rt; read(&mut walk, *end), *found);
+        assert_equal(rt, walk.len(), left);
+        assert_equal(rt, read(&mut walk, *end), *found);
         left = left.saturating_sub(1);
     }
 }
@@ -56,7 +56,7 @@ fn assert_lends<R: RingBuffer<i64>>(rt: &impl Abort, ring: &mut R, steps: &[(End
     let mut walk = RingBufferMutIterator::new(ring);
     for (end, found) in steps {
         assert_to_come(rt, walk.size_hint(), left, *found);
-        assert_eq!(rt; lend(&mut walk, *end), *found);
+        assert_equal(rt, lend(&mut walk, *end), *found);
         left = left.saturating_sub(1);
     }
 }
@@ -64,7 +64,7 @@ fn assert_lends<R: RingBuffer<i64>>(rt: &impl Abort, ring: &mut R, steps: &[(End
 /// The list of all items is this one.
 fn assert_lists<R: RingBuffer<i64>>(rt: &(impl Abort + AllocGlobal), ring: &R, items: &[i64]) {
     let listed = ring.to_vec(rt.alloc()).expect(rt, "memory");
-    assert_eq!(rt; listed.as_slice(), items);
+    assert_equal(rt, listed.as_slice(), items);
 }
 
 /// Adds a number to the item that a cursor lends at one end.
@@ -179,9 +179,9 @@ fn a_walk_reads_in_order(rt: HostRuntime) -> Result<(), AllocError> {
 /// A walk over the items from 1 to 7 passes over some from the front, until too few are left.
 fn assert_passes<R: RingBuffer<i64>>(rt: &impl Abort, ring: &R) {
     let mut walk = RingBufferIterator::new(ring);
-    assert_eq!(rt; walk.nth(0).copied(), Some(1));
-    assert_eq!(rt; walk.nth(2).copied(), Some(4));
-    assert_eq!(rt; walk.next_back().copied(), Some(7));
+    assert_equal(rt, walk.nth(0).copied(), Some(1));
+    assert_equal(rt, walk.nth(2).copied(), Some(4));
+    assert_equal(rt, walk.next_back().copied(), Some(7));
     assert!(rt; walk.nth(2).is_none(), "5 and 6 are left");
     assert!(rt; walk.next().is_none());
     assert!(rt; walk.next_back().is_none());
@@ -192,15 +192,15 @@ fn assert_passes_all<R: RingBuffer<i64>>(rt: &impl Abort, ring: &R) {
     let mut walk = RingBufferIterator::new(ring);
     assert!(rt; walk.nth(usize::MAX).is_none());
     assert!(rt; walk.next_back().is_none());
-    assert_eq!(rt; walk.count(), 0);
+    assert_equal(rt, walk.count(), 0);
 }
 
 /// A walk over the items from 1 to 7 counts what is left, and finds the last.
 fn assert_counts<R: RingBuffer<i64>>(rt: &impl Abort, ring: &R) {
     let mut walk = RingBufferIterator::new(ring);
     let _ = walk.next();
-    assert_eq!(rt; walk.count(), 6);
-    assert_eq!(rt; RingBufferIterator::new(ring).last().copied(), Some(7));
+    assert_equal(rt, walk.count(), 6);
+    assert_equal(rt, RingBufferIterator::new(ring).last().copied(), Some(7));
 }
 
 struct PassesOver;
@@ -235,7 +235,7 @@ fn assert_takes<R: RingBuffer<i64> + Drop>(
     item: i64,
 ) {
     assert_to_come(rt, walk.size_hint(), left, Some(item));
-    assert_eq!(rt; walk.next(), Some(item));
+    assert_equal(rt, walk.next(), Some(item));
 }
 
 struct TakesInOrder;
@@ -247,7 +247,7 @@ impl<Rt: Abort + AllocGlobal> Case<Rt> for TakesInOrder {
         for (item, left) in [(1, 7), (2, 6), (3, 5), (4, 4), (5, 3), (6, 2), (7, 1)] {
             assert_takes(rt, &mut walk, left, item);
         }
-        assert_eq!(rt; walk.size_hint(), (0, Some(0)));
+        assert_equal(rt, walk.size_hint(), (0, Some(0)));
         assert!(rt; walk.next().is_none());
         Ok(())
     }
@@ -302,7 +302,7 @@ fn push_references<'a, R: RingBuffer<&'a i64>>(rt: &impl Abort, ring: &mut R, nu
 fn assert_refers<'a, R: RingBuffer<&'a i64>>(rt: &impl Abort, ring: &R, numbers: &[i64]) {
     let mut walk = RingBufferIterator::new(ring);
     for number in numbers {
-        assert_eq!(rt; **walk.next().expect(rt, "an item to come"), *number);
+        assert_equal(rt, **walk.next().expect(rt, "an item to come"), *number);
     }
 }
 
@@ -313,8 +313,8 @@ fn items_may_be_references(rt: HostRuntime) -> Result<(), AllocError> {
         assert_refers(rt, &ring, numbers);
         let oldest = ring.dequeue().expect(rt, "an item");
         *ring.back_mut().expect(rt, "a newest item") = oldest;
-        assert_eq!(rt; **ring.get(0).expect(rt, "an item"), 2);
-        assert_eq!(rt; **ring.get(1).expect(rt, "an item"), 1);
+        assert_equal(rt, **ring.get(0).expect(rt, "an item"), 2);
+        assert_equal(rt, **ring.get(1).expect(rt, "an item"), 1);
     }
     let numbers = [1, 2, 3];
     on(&rt, ConstGenericRingBuffer::<&i64, 3>::new(), &numbers);
@@ -335,8 +335,8 @@ impl<Rt: Abort + AllocGlobal> Case<Rt> for SideBySide {
         let mut one = RingBufferIterator::new(&ring);
         let mut other = RingBufferIterator::new(&ring);
         for item in [1, 2, 3] {
-            assert_eq!(rt; read(&mut one, Front), Some(item));
-            assert_eq!(rt; read(&mut other, Front), Some(item));
+            assert_equal(rt, read(&mut one, Front), Some(item));
+            assert_equal(rt, read(&mut other, Front), Some(item));
         }
         Ok(())
     }
@@ -415,7 +415,7 @@ impl<Rt: Abort + AllocGlobal> Case<Rt> for WritesFromBothEnds {
         let mut walk = RingBufferMutIterator::new(&mut ring);
         add(rt, &mut walk, Front, 10);
         add(rt, &mut walk, Back, 20);
-        assert_eq!(rt; walk.size_hint(), (2, Some(2)));
+        assert_equal(rt, walk.size_hint(), (2, Some(2)));
         drop(walk);
         assert_holds(rt, &ring, &[11, 2, 3, 24]);
         Ok(())
@@ -451,7 +451,7 @@ fn assert_drains<R: RingBuffer<i64>>(rt: &impl Abort, ring: &mut R, items: &[i64
     let mut walk = RingBufferDrainingIterator::new(ring);
     for item in items {
         assert_to_come(rt, walk.size_hint(), left, Some(*item));
-        assert_eq!(rt; walk.next(), Some(*item));
+        assert_equal(rt, walk.next(), Some(*item));
         left = left.saturating_sub(1);
     }
     assert!(rt; walk.next().is_none());
@@ -462,9 +462,9 @@ struct DrainsAll;
 impl<Rt: Abort + AllocGlobal> Case<Rt> for DrainsAll {
     fn on<R: RingBuffer<i64> + Drop>(&self, rt: &Rt, mut ring: R) -> Result<(), AllocError> {
         push_all(rt, &mut ring, &[0, 1, 2, 3, 4, 5, 6, 7]);
-        assert_eq!(rt; ring.len(), 8);
+        assert_equal(rt, ring.len(), 8);
         assert_drains(rt, &mut ring, &[0, 1, 2, 3, 4, 5, 6, 7]);
-        assert_eq!(rt; ring.len(), 0);
+        assert_equal(rt, ring.len(), 0);
         Ok(())
     }
 }
@@ -478,7 +478,7 @@ fn a_drain_empties_the_ring(rt: HostRuntime) -> Result<(), AllocError> {
 fn drain<R: RingBuffer<i64>>(rt: &impl Abort, ring: &mut R, items: &[i64]) {
     let mut walk = RingBufferDrainingIterator::new(ring);
     for item in items {
-        assert_eq!(rt; walk.next(), Some(*item));
+        assert_equal(rt, walk.next(), Some(*item));
     }
 }
 
@@ -706,7 +706,7 @@ fn assert_looped<R: Walked>(rt: &impl Abort, ring: &R) {
         assert!(rt; last < *item);
         last = *item;
     }
-    assert_eq!(rt; last, 3);
+    assert_equal(rt, last, 3);
 }
 
 /// Loops over the ring, by reference and by value, go from 1 to 3.
@@ -720,7 +720,7 @@ impl WalkedCase for LoopedOver {
         for item in ring.given() {
             last = last.wrapping_sub(item);
         }
-        assert_eq!(rt; last, -3);
+        assert_equal(rt, last, -3);
     }
 }
 
