@@ -26,10 +26,14 @@ fn push_all<R: RingBuffer<i64>>(rt: &impl Abort, ring: &mut R, items: &[i64]) {
 }
 
 /// The ring holds these items and no other, in order.
-fn assert_holds<R: RingBuffer<i64>>(rt: &impl Abort, ring: &R, items: &[i64]) {
+fn assert_holds<T: PartialEq + Debug + Drop, R: RingBuffer<T>>(
+    rt: &impl Abort,
+    ring: &R,
+    items: &[T],
+) {
     assert_equal(rt, ring.len(), items.len());
     for (i, item) in items.iter().enumerate() {
-        assert_equal(rt, (i, ring.get(i).copied()), (i, Some(*item)));
+        assert_equal(rt, (i, ring.get(i)), (i, Some(item)));
     }
 }
 

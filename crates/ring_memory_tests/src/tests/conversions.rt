@@ -9,112 +9,104 @@ use std::process::Abort;
 
 /// A ring that was made of '1' and '2'. A push of '3' leaves the characters that follow.
 fn assert_made<R: RingBuffer<char> + PartialEq + Drop>(
-    rt: &(impl Abort + AllocGlobal),
+    rt: &impl Abort,
     mut ring: R,
     pushed: &[char],
-) -> Result<(), AllocError> {
-    assert_equal(
-        rt,
-        ring.to_vec(rt.alloc())?.as_slice(),
-        ['1', '2'].as_slice(),
-    );
+) {
+    assert_holds(rt, &ring, &['1', '2']);
     assert!(rt; ring.push('3').is_ok());
-    assert_equal(rt, ring.to_vec(rt.alloc())?.as_slice(), pushed);
+    assert_holds(rt, &ring, pushed);
     assert!(rt; ring == ring);
-    Ok(())
 }
 
 #[test]
 fn an_array_ring_is_made_of_each_source(rt: HostRuntime) -> Result<(), AllocError> {
-    fn on(
-        rt: &(impl Abort + AllocGlobal),
-        ring: ConstGenericRingBuffer<char, 2>,
-    ) -> Result<(), AllocError> {
-        assert_made(rt, ring, &['2', '3'])
+    fn on(rt: &impl Abort, ring: ConstGenericRingBuffer<char, 2>) {
+        assert_made(rt, ring, &['2', '3']);
     }
     let alloc = rt.alloc();
     let vector = vec![in alloc; '1', '2']?;
-    on(&rt, ConstGenericRingBuffer::from_vec(vector))?;
+    on(&rt, ConstGenericRingBuffer::from_vec(vector));
     let list = LinkedList::from_array(alloc, ['1', '2'])?;
-    on(&rt, ConstGenericRingBuffer::from_linked_list(list))?;
+    on(&rt, ConstGenericRingBuffer::from_linked_list(list));
     let deque = VecDeque::from_array(alloc, ['1', '2'])?;
-    on(&rt, ConstGenericRingBuffer::from_deque(deque))?;
+    on(&rt, ConstGenericRingBuffer::from_deque(deque));
     let string = String::from_str(alloc, "12")?;
-    on(&rt, ConstGenericRingBuffer::from_string(string))?;
-    on(&rt, ConstGenericRingBuffer::from_text("12"))?;
-    on(&rt, ConstGenericRingBuffer::from_slice(&['1', '2'])?)?;
-    on(&rt, ConstGenericRingBuffer::from_array_ref(&['1', '2'])?)?;
+    on(&rt, ConstGenericRingBuffer::from_string(string));
+    on(&rt, ConstGenericRingBuffer::from_text("12"));
+    on(&rt, ConstGenericRingBuffer::from_slice(&['1', '2'])?);
+    on(&rt, ConstGenericRingBuffer::from_array_ref(&['1', '2'])?);
     on(
         &rt,
         ConstGenericRingBuffer::from_array([Some('1'), Some('2')]),
-    )?;
+    );
     let growable = GrowableAllocRingBuffer::from_array(alloc, [Some('1'), Some('2')])?;
-    on(&rt, ConstGenericRingBuffer::from_growable(growable))?;
+    on(&rt, ConstGenericRingBuffer::from_growable(growable));
     let heap = AllocRingBuffer::from_array(alloc, [Some('1'), Some('2')])?;
-    on(&rt, ConstGenericRingBuffer::from_alloc(heap))
+    on(&rt, ConstGenericRingBuffer::from_alloc(heap));
+    Ok(())
 }
 
 #[test]
 fn a_heap_ring_is_made_of_each_source(rt: HostRuntime) -> Result<(), AllocError> {
-    fn on(rt: &(impl Abort + AllocGlobal), ring: AllocRingBuffer<char>) -> Result<(), AllocError> {
-        assert_made(rt, ring, &['2', '3'])
+    fn on(rt: &impl Abort, ring: AllocRingBuffer<char>) {
+        assert_made(rt, ring, &['2', '3']);
     }
     let alloc = rt.alloc();
     let vector = vec![in alloc; '1', '2']?;
-    on(&rt, AllocRingBuffer::from_vec(alloc, vector)?)?;
+    on(&rt, AllocRingBuffer::from_vec(alloc, vector)?);
     let list = LinkedList::from_array(alloc, ['1', '2'])?;
-    on(&rt, AllocRingBuffer::from_linked_list(alloc, list)?)?;
+    on(&rt, AllocRingBuffer::from_linked_list(alloc, list)?);
     let deque = VecDeque::from_array(alloc, ['1', '2'])?;
-    on(&rt, AllocRingBuffer::from_deque(alloc, deque)?)?;
+    on(&rt, AllocRingBuffer::from_deque(alloc, deque)?);
     let string = String::from_str(alloc, "12")?;
-    on(&rt, AllocRingBuffer::from_string(alloc, string)?)?;
-    on(&rt, AllocRingBuffer::from_text(alloc, "12")?)?;
-    on(&rt, AllocRingBuffer::from_slice(alloc, &['1', '2'])?)?;
-    on(&rt, AllocRingBuffer::from_array_ref(alloc, &['1', '2'])?)?;
+    on(&rt, AllocRingBuffer::from_string(alloc, string)?);
+    on(&rt, AllocRingBuffer::from_text(alloc, "12")?);
+    on(&rt, AllocRingBuffer::from_slice(alloc, &['1', '2'])?);
+    on(&rt, AllocRingBuffer::from_array_ref(alloc, &['1', '2'])?);
     on(
         &rt,
         AllocRingBuffer::from_array(alloc, [Some('1'), Some('2')])?,
-    )?;
+    );
     let array = ConstGenericRingBuffer::<char, 2>::from_array([Some('1'), Some('2')]);
-    on(&rt, AllocRingBuffer::from_const(alloc, array)?)?;
+    on(&rt, AllocRingBuffer::from_const(alloc, array)?);
     let growable = GrowableAllocRingBuffer::from_array(alloc, [Some('1'), Some('2')])?;
-    on(&rt, AllocRingBuffer::from_growable(alloc, growable)?)
+    on(&rt, AllocRingBuffer::from_growable(alloc, growable)?);
+    Ok(())
 }
 
 #[test]
 fn a_growable_ring_is_made_of_each_source(rt: HostRuntime) -> Result<(), AllocError> {
-    fn on(
-        rt: &(impl Abort + AllocGlobal),
-        ring: GrowableAllocRingBuffer<char>,
-    ) -> Result<(), AllocError> {
-        assert_made(rt, ring, &['1', '2', '3'])
+    fn on(rt: &impl Abort, ring: GrowableAllocRingBuffer<char>) {
+        assert_made(rt, ring, &['1', '2', '3']);
     }
     let alloc = rt.alloc();
     let vector = vec![in alloc; '1', '2']?;
-    on(&rt, GrowableAllocRingBuffer::from_vec(alloc, vector)?)?;
+    on(&rt, GrowableAllocRingBuffer::from_vec(alloc, vector)?);
     let list = LinkedList::from_array(alloc, ['1', '2'])?;
-    on(&rt, GrowableAllocRingBuffer::from_linked_list(alloc, list)?)?;
+    on(&rt, GrowableAllocRingBuffer::from_linked_list(alloc, list)?);
     let deque = VecDeque::from_array(alloc, ['1', '2'])?;
-    on(&rt, GrowableAllocRingBuffer::from(deque))?;
+    on(&rt, GrowableAllocRingBuffer::from(deque));
     let string = String::from_str(alloc, "12")?;
-    on(&rt, GrowableAllocRingBuffer::from_string(alloc, string)?)?;
-    on(&rt, GrowableAllocRingBuffer::from_text(alloc, "12")?)?;
+    on(&rt, GrowableAllocRingBuffer::from_string(alloc, string)?);
+    on(&rt, GrowableAllocRingBuffer::from_text(alloc, "12")?);
     on(
         &rt,
         GrowableAllocRingBuffer::from_slice(alloc, &['1', '2'])?,
-    )?;
+    );
     on(
         &rt,
         GrowableAllocRingBuffer::from_array_ref(alloc, &['1', '2'])?,
-    )?;
+    );
     on(
         &rt,
         GrowableAllocRingBuffer::from_array(alloc, [Some('1'), Some('2')])?,
-    )?;
+    );
     let array = ConstGenericRingBuffer::<char, 2>::from_array([Some('1'), Some('2')]);
-    on(&rt, GrowableAllocRingBuffer::from_const(alloc, array)?)?;
+    on(&rt, GrowableAllocRingBuffer::from_const(alloc, array)?);
     let heap = AllocRingBuffer::from_array(alloc, [Some('1'), Some('2')])?;
-    on(&rt, GrowableAllocRingBuffer::from_alloc(alloc, heap)?)
+    on(&rt, GrowableAllocRingBuffer::from_alloc(alloc, heap)?);
+    Ok(())
 }
 
 #[test]
