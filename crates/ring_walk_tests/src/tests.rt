@@ -10,8 +10,8 @@ use ringbuffer::RingBuffer;
 use std::fmt::Debug;
 use std::process::Abort;
 
-/// Both are equal. As a call it is proved once, where each `assert_eq!` takes a second or two: that stands where the proof
-/// goes on from what it found. A failure names the test and both values, not the line.
+/// Both are equal. A call of it is proved at once, where each `assert_eq!` takes a second or two: use `assert_eq!` only
+/// where the proof goes on from what it found. A failure names the test and both values, not the line.
 fn assert_equal<T: PartialEq + Debug + Drop>(rt: &impl Abort, found: T, wanted: T) {
     assert_eq!(rt; found, wanted);
 }
