@@ -74,12 +74,16 @@ module _ {T : Type 0} {limit : Option ℕ} {start : List T} {all done todo : Lis
       → replies_to limit start (done ++ c ∷ []) ≡ replies_to limit start done ++ r ∷ []
   replies_to-turn c r h is = rw (is, h.same_limit, h.left) (replies_to-append limit start done (c ∷ []))
 
+  -- The next command is one of all.
+  pub HasDone-next : (c : Command T) (rest : List (Command T)) → HasDone limit start all done todo at limit' now before after → todo ≡ c ∷ rest → at < length all
+  HasDone-next c rest h first =
+      let sum : length all ≡ length done + length (c ∷ rest) = rw (← h.parts, first) (length-append done (c ∷ rest)) in
+      omega (arith, h.count)
+
   -- While a command is to do, fewer are answered than there are.
   pub length-replies_so_far : (c : Command T) (rest : List (Command T)) → HasDone limit start all done todo at limit' now before after → todo ≡ c ∷ rest
       → length (replies_to limit start done) < length all
-  length-replies_so_far c rest h first =
-      let sum : length all ≡ length done + length (c ∷ rest) = rw (← h.parts, first) (length-append done (c ∷ rest)) in
-      omega (arith, length-replies_to limit start done)
+  length-replies_so_far c rest h first = omega (arith, HasDone-next c rest h first, h.count, length-replies_to limit start done)
 
   -- Its reply goes into the place with its number.
   pub places-turn : (c : Command T) (rest : List (Command T)) (replies next : List (Option (Reply T))) (r : Reply T) → HasDone limit start all done todo at limit' now before after → todo ≡ c ∷ rest

@@ -77,16 +77,9 @@ pub record IsWindow (limit : Option ℕ) (set : ℕ → Bool) (f n : ℕ) : Type
 IsWindow-next : {T : Type 0} (limit : Option ℕ) (set : ℕ → Bool) (f n : ℕ) (step : Option (Step T)) → IsWindow limit set f n
     → IsWindow limit (held_next limit n set step) (first_next limit n f step) (n + length (pushed_by step))
 IsWindow-next limit set f n None w = rw add-zero w
-IsWindow-next None set f n (Some (pushes x)) w = record {
-  order = omega arith;
-  room = tt;
-  is = λ i. rw (w.is i) (grind (arith, nat_tests));
-}
-IsWindow-next (Some capacity) set f n (Some (pushes x)) w = record {
-  order = omega arith;
-  room = (w.room.0, omega (arith, w.room.1));
-  is = λ i. rw (w.is i) (grind (arith, nat_tests));
-}
+IsWindow-next None set f n (Some (pushes x)) w = record { order = omega arith; room = tt; is = λ i. rw (w.is i) (grind (arith, nat_tests)) }
+IsWindow-next (Some capacity) set f n (Some (pushes x)) w =
+    record { order = omega arith; room = (w.room.0, omega (arith, w.room.1)); is = λ i. rw (w.is i) (grind (arith, nat_tests)) }
 IsWindow-next limit set f n (Some takes) w = record {
   order = omega arith;
   room = IfSome_then limit w.room (λ c r. (r.0, omega (arith, r.1)));
@@ -151,11 +144,8 @@ module _ {T : Type 0} (limit : Option ℕ) (start : List T) (ss : List (Step T))
 
   -- By induction on the number of steps.
   pub IsWindow-held : (k : ℕ) → IsWindow limit (held limit start ss k) (first limit start ss k) (number start ss k)
-  IsWindow-held zero = record {
-    order = omega arith;
-    room = rw add-zero ((IsWithin-drop limit 0 start).0 within);
-    is = λ i. grind (arith, nat_tests);
-  }
+  IsWindow-held zero =
+      record { order = omega arith; room = rw add-zero ((IsWithin-drop limit 0 start).0 within); is = λ i. grind (arith, nat_tests) }
   IsWindow-held (suc k) = rw (number-suc k) (IsWindow-next limit _ _ _ (slice_get ss k) (IsWindow-held k))
 
   -- The least of a window's numbers is its first.

@@ -2,7 +2,7 @@
 use Rattle.std.proofs.Common.{◌<◌, length, arith, rules}
 use Rattle.ring_core.specs.History.{steps}
 use Rattle.ring_core.proofs.HeldWindow.{KeepsToNumbers-held}
-use Rattle.ring_core.proofs.CommandLoop.{HasDone-end, HasDone-stops, HasDone-turn, length-replies_so_far, replies_to-turn}
+use Rattle.ring_core.proofs.CommandLoop.{HasDone-end, HasDone-next, HasDone-stops, HasDone-turn, length-replies_so_far, replies_to-turn}
 use Rattle.ring_core.proofs.runs.run.Goals as goal
 
 pub store-requires : goal.store-requires
@@ -11,6 +11,9 @@ store-requires g c =
     let room : length c.loop-command.replies.items < length c.args.commands.items =
     rw so_far.answered (length-replies_so_far c.in-Some.command _ so_far.done c.in-Some.ensures.steps.0) in
     omega (arith, c.loop-command.replies.ok.0)
+
+pub overflow_add-at : goal.overflow_add-at
+overflow_add-at g c = omega (arith, HasDone-next c.in-Some.command _ c.loop-command.invariant.done c.in-Some.ensures.steps.0, c.args.commands.ok.0, c.args.commands.small)
 
 pub loop-command-preserved : goal.loop-command-preserved
 loop-command-preserved g c =
@@ -45,8 +48,6 @@ returns g c =
       stopped = tt;
       replies_before = tt;
     }
-
--- ---- where the run stopped, and where there was no room
 
 pub returns-in_default-apply-clause-numbers : goal.returns-in_default-apply-clause-numbers
 returns-in_default-apply-clause-numbers g c = KeepsToNumbers-held _ _ (steps c.args.commands.items) c.len.ensures.within

@@ -1,10 +1,16 @@
 -- One turn of the loop, its end, and its stop at a refusal.
-use Rattle.std.proofs.Common.{rules}
+use Rattle.std.proofs.Common.{arith, rules}
 use Rattle.ring_core.specs.History.{steps}
 use Rattle.ring_core.proofs.RunParts.{places_all}
 use Rattle.ring_core.proofs.HeldWindow.{KeepsToNumbers-held}
-use Rattle.ring_core.proofs.CommandLoop.{HasDone-end, HasDone-stops, HasDone-turn, places-turn}
+use Rattle.ring_core.proofs.CommandLoop.{HasDone-end, HasDone-next, HasDone-stops, HasDone-turn, places-turn}
 use Rattle.ring_core.proofs.runs.run_into.Goals as goal
+
+pub put-requires : goal.put-requires
+put-requires g c = rw (c.loop-command.auto.replies, c.empty.auto.replies, c.requires) (HasDone-next c.in-Some.command _ c.loop-command.invariant.done c.in-Some.ensures.steps.0)
+
+pub overflow_add-at : goal.overflow_add-at
+overflow_add-at g c = omega (arith, HasDone-next c.in-Some.command _ c.loop-command.invariant.done c.in-Some.ensures.steps.0, c.args.commands.ok.0, c.args.commands.small)
 
 pub loop-command-preserved : goal.loop-command-preserved
 loop-command-preserved g c =
