@@ -1,6 +1,7 @@
 //! Tests of the rings by their public calls.
 //!
-//! The body of a test is generic over the ring, and a driver gives it a ring of each type.
+//! A test is a list of calls with their answers, or a body that is generic over the ring. A driver gives it a ring of
+//! each type.
 
 mod ends;
 mod fills;
@@ -12,22 +13,74 @@ mod sums;
 mod uses;
 mod windows;
 
-ghost use Rattle.std.specs.Prelude.{◌<◌};
+ghost use Rattle.std.specs.Prelude.{◌<◌, ◌^◌};
 
-use ring_test_support::rings::Case;
+use ring_test_support::rings::{Case, Rings};
+use ring_test_support::steps::{Step, first_fault};
 use ringbuffer::{AllocRingBuffer, RingBuffer};
 use std::alloc::AllocError;
 use std::fmt::Debug;
 use std::process::Abort;
 
+/// These calls, each of which answers what its step says.
+#[derive(Drop)]
+struct Steps {
+    steps: &'static [Step],
+}
+
+impl<Rt: Abort + AllocGlobal> Case<Rt> for Steps {
+    fn on<R: RingBuffer<i64> + Drop>(&self, rt: &Rt, mut ring: R) -> Result<(), AllocError> {
+        assert_equal(rt, first_fault(&mut ring, self.steps), None);
+        Ok(())
+    }
+}
+
+/// The calls on a ring of each type.
+fn each<const CAP: usize>(rt: &(impl Abort + AllocGlobal), steps: &'static [Step])
+    requires some { 0 < CAP }
+    requires few { CAP < 2 ^ 16 }
+{
+    Rings::<CAP>::each(rt, &Steps { steps }).expect(rt, "memory");
+}
+
+/// The calls on a ring of each type that has a limit.
+fn fixed<const CAP: usize>(rt: &(impl Abort + AllocGlobal), steps: &'static [Step])
+    requires some { 0 < CAP }
+    requires few { CAP < 2 ^ 16 }
+{
+    Rings::<CAP>::fixed(rt, &Steps { steps }).expect(rt, "memory");
+}
+
+/// The calls on a growable ring.
+fn growable<const CAP: usize>(rt: &(impl Abort + AllocGlobal), steps: &'static [Step]) {
+    Rings::<CAP>::growable(rt, &Steps { steps }).expect(rt, "memory");
+}
+
+/// The same calls on a ring that has so many slots before and after.
+#[derive(Drop)]
+struct InSlots {
+    slots: usize,
+    steps: &'static [Step],
+}
+
+impl<Rt: Abort + AllocGlobal> Case<Rt> for InSlots {
+    fn on<R: RingBuffer<i64> + Drop>(&self, rt: &Rt, mut ring: R) -> Result<(), AllocError> {
+        let found = (
+            ring.buffer_size(),
+            first_fault(&mut ring, self.steps),
+            ring.buffer_size(),
+        );
+        assert_equal(rt, found, (self.slots, None, self.slots));
+        Ok(())
+    }
+}
+
 /// The case on a heap ring of this capacity.
-fn on_heap<const CAP: usize, Rt: Abort + AllocGlobal>(
-    rt: &Rt,
-    case: &impl Case<Rt>,
-) -> Result<(), AllocError>
+fn on_heap<const CAP: usize, Rt: Abort + AllocGlobal>(rt: &Rt, case: &impl Case<Rt>)
     requires some { 0 < CAP }
 {
-    case.on(rt, AllocRingBuffer::new(rt.alloc(), CAP)?)
+    let ring = AllocRingBuffer::new(rt.alloc(), CAP).expect(rt, "memory");
+    case.on(rt, ring).expect(rt, "memory");
 }
 
 /// Both are equal. A call of it is proved at once, where each `assert_eq!` takes a second or two: use `assert_eq!` only
@@ -43,8 +96,8 @@ fn push_all<R: RingBuffer<i64>>(rt: &impl Abort, ring: &mut R, items: &[i64]) {
     }
 }
 
-/// Where the items of a ring begin: so many places after the first slot.
-const STARTS: [usize; 8] = [0, 1, 2, 3, 4, 5, 6, 7];
+/// How many places the items of a ring begin at: from the first slot on.
+const STARTS: usize = 8;
 
 /// The ring holds these items and no other, which begin so many places after the first slot.
 fn lay<R: RingBuffer<i64>>(rt: &impl Abort, ring: &mut R, start: usize, items: &[i64]) {

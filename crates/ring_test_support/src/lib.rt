@@ -3,3 +3,4 @@
 
 pub mod drought;
 pub mod rings;
+pub mod steps;

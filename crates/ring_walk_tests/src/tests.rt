@@ -6,6 +6,7 @@ mod comparison;
 mod debug;
 mod walks;
 
+use ring_test_support::steps::{Step, first_fault};
 use ringbuffer::RingBuffer;
 use std::fmt::Debug;
 use std::process::Abort;
@@ -14,6 +15,11 @@ use std::process::Abort;
 /// where the proof goes on from what it found. A failure names the test and both values, not the line.
 fn assert_equal<T: PartialEq + Debug + Drop>(rt: &impl Abort, found: T, wanted: T) {
     assert_eq!(rt; found, wanted);
+}
+
+/// Each of the calls answers what its step says.
+fn assert_steps<R: RingBuffer<i64>>(rt: &impl Abort, ring: &mut R, steps: &[Step]) {
+    assert_equal(rt, first_fault(ring, steps), None);
 }
 
 /// Pushes the items in order. None is refused.

@@ -94,14 +94,23 @@ fn answer_by_array<I: Read>(alloc: Global, capacity: usize, input: &mut I) -> Re
     ensures whole_input { IfLinesRead result (IsAtEnd (I.remaining input.new)) }
 {
     match capacity {
-        1 => answer_by(&mut ConstGenericRingBuffer::<i64, 1>::new(), alloc, input),
-        2 => answer_by(&mut ConstGenericRingBuffer::<i64, 2>::new(), alloc, input),
-        3 => answer_by(&mut ConstGenericRingBuffer::<i64, 3>::new(), alloc, input),
-        4 => answer_by(&mut ConstGenericRingBuffer::<i64, 4>::new(), alloc, input),
-        8 => answer_by(&mut ConstGenericRingBuffer::<i64, 8>::new(), alloc, input),
-        10 => answer_by(&mut ConstGenericRingBuffer::<i64, 10>::new(), alloc, input),
+        1 => answer_in_array::<1, I>(alloc, input),
+        2 => answer_in_array::<2, I>(alloc, input),
+        3 => answer_in_array::<3, I>(alloc, input),
+        4 => answer_in_array::<4, I>(alloc, input),
+        8 => answer_in_array::<8, I>(alloc, input),
+        10 => answer_in_array::<10, I>(alloc, input),
         _ => Err(Fault::BadArguments),
     }
+}
+
+fn answer_in_array<const CAP: usize, I: Read>(alloc: Global, input: &mut I) -> Result<String, Fault>
+    requires some { 0 < CAP }
+    requires few { CAP < 2 ^ 16 }
+    ensures faults { IfErr result (λ fault. fault ≢ Fault.BadArguments) }
+    ensures whole_input { IfLinesRead result (IsAtEnd (I.remaining input.new)) }
+{
+    answer_by(&mut ConstGenericRingBuffer::<i64, CAP>::new(), alloc, input)
 }
 
 fn answer_by_heap<I: Read>(alloc: Global, capacity: usize, input: &mut I) -> Result<String, Fault>

@@ -1,6 +1,8 @@
 //! Taking the newest item, and keeping the items of one end.
 
-use super::{STARTS, assert_equal, assert_gives, assert_holds, lay, push_all};
+use super::{STARTS, assert_equal, lay};
+use ring_test_support::steps::Step::{DequeueAll, Holds, PushAll, Skip};
+use ring_test_support::steps::first_fault;
 use ringbuffer::{AllocRingBuffer, ConstGenericRingBuffer, GrowableAllocRingBuffer, RingBuffer};
 use std::alloc::AllocError;
 use std::process::Abort;
@@ -57,7 +59,7 @@ impl Ends for GrowableAllocRingBuffer<i64> {
 }
 
 /// The items of a ring, what `pop_back` answers, and what is left.
-const POPS: [(&[i64], Option<i64>, &[i64]); 4] = [
+const POPS: &[(&[i64], Option<i64>, &[i64])] = &[
     (&[], None, &[]),
     (&[7], Some(7), &[]),
     (&[1, 2], Some(2), &[1]),
@@ -65,7 +67,7 @@ const POPS: [(&[i64], Option<i64>, &[i64]); 4] = [
 ];
 
 /// The items of a ring, how many are to be kept, the oldest of them and the newest of them.
-const KEPT: [(&[i64], usize, &[i64], &[i64]); 11] = [
+const KEPT: &[(&[i64], usize, &[i64], &[i64])] = &[
     (&[], 0, &[], &[]),
     (&[], 3, &[], &[]),
     (&[7], 0, &[], &[]),
@@ -85,14 +87,13 @@ const KEPT: [(&[i64], usize, &[i64], &[i64]); 11] = [
 ];
 
 /// The ring holds these items and no other, and an item that is pushed then comes behind them.
-fn assert_left<R: RingBuffer<i64>>(rt: &impl Abort, ring: &mut R, items: &[i64]) {
-    assert_holds(rt, ring, items);
-    ring.skip();
-    push_all(rt, ring, &[8]);
+fn assert_left<R: RingBuffer<i64>>(rt: &impl Abort, ring: &mut R, items: &'static [i64]) {
+    let steps = [Holds(items), Skip, PushAll(&[8])];
+    assert_equal(rt, first_fault(ring, &steps), None);
     for item in items.iter().skip(1) {
         assert_equal(rt, ring.dequeue(), Some(*item));
     }
-    assert_gives(rt, ring, &[8]);
+    assert_equal(rt, first_fault(ring, &[DequeueAll(&[8])]), None);
 }
 
 /// What a test does with a ring that is new.
@@ -116,9 +117,9 @@ struct Pops;
 impl EndsCase for Pops {
     fn on<R: Ends + Drop>(&self, rt: &impl Abort, mut ring: R) {
         for (items, popped, left) in POPS {
-            for start in STARTS {
+            for start in 0..STARTS {
                 lay(rt, &mut ring, start, items);
-                assert_equal(rt, (start, ring.pop_back()), (start, popped));
+                assert_equal(rt, (start, ring.pop_back()), (start, *popped));
                 assert_left(rt, &mut ring, left);
             }
         }
@@ -136,12 +137,12 @@ struct Keeps;
 impl EndsCase for Keeps {
     fn on<R: Ends + Drop>(&self, rt: &impl Abort, mut ring: R) {
         for (items, len, oldest, newest) in KEPT {
-            for start in STARTS {
+            for start in 0..STARTS {
                 lay(rt, &mut ring, start, items);
-                ring.truncate(len);
+                ring.truncate(*len);
                 assert_left(rt, &mut ring, oldest);
                 lay(rt, &mut ring, start, items);
-                ring.keep_newest(len);
+                ring.keep_newest(*len);
                 assert_left(rt, &mut ring, newest);
             }
         }

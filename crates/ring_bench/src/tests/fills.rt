@@ -1,58 +1,49 @@
 //! Fills.
 
-use super::{assert_equal, assert_gives, assert_holds, on_heap, push_all};
+use super::{InSlots, assert_equal, assert_holds, on_heap, push_all};
 use ring_test_support::rings::{Case, Rings};
+use ring_test_support::steps::Step::{
+    Capacity, DequeueAll, Fill, FillDefault, Holds, IsFull, Len, PushAll,
+};
+use ring_test_support::steps::{Step, first_fault};
 use ringbuffer::{AllocRingBuffer, GrowableAllocRingBuffer, RingBuffer};
 use std::alloc::AllocError;
 use std::process::Abort;
 
-/// Pushes an item so many times.
-fn push_ones<R: RingBuffer<i64>>(rt: &impl Abort, ring: &mut R, times: usize) {
-    for _ in 0..times {
-        push_all(rt, ring, &[1]);
-    }
+/// This fill of a ring of capacity 4, over none to three items, and the items that are then there.
+#[derive(Drop)]
+struct FillsFromAnyLength {
+    fill: Step,
+    filled: &'static [i64],
 }
 
-/// A ring that was filled over some items holds these, and gives them up.
-fn assert_filled<R: RingBuffer<i64>>(rt: &impl Abort, ring: &mut R, held: usize, items: &[i64]) {
-    assert_equal(rt, (held, ring.len()), (held, items.len()));
-    assert_gives(rt, ring, items);
-}
-
-struct FillsByDefault;
-
-impl<Rt: Abort + AllocGlobal> Case<Rt> for FillsByDefault {
+impl<Rt: Abort + AllocGlobal> Case<Rt> for FillsFromAnyLength {
     fn on<R: RingBuffer<i64> + Drop>(&self, rt: &Rt, mut ring: R) -> Result<(), AllocError> {
-        for held in 0..4 {
-            push_ones(rt, &mut ring, held);
-            assert!(rt; ring.fill_default().is_ok());
-            assert_filled(rt, &mut ring, held, &[0, 0, 0, 0]);
+        let over: [&'static [i64]; 4] = [&[], &[1], &[1, 1], &[1, 1, 1]];
+        for held in over {
+            let steps = [PushAll(held), self.fill, Len(4), DequeueAll(self.filled)];
+            assert_equal(rt, (held, first_fault(&mut ring, &steps)), (held, None));
         }
         Ok(())
     }
 }
 
 #[test]
-fn a_default_fill_fills_from_any_length(rt: HostRuntime) -> Result<(), AllocError> {
-    Rings::<4>::fixed(&rt, &FillsByDefault)
-}
-
-struct FillsByClones;
-
-impl<Rt: Abort + AllocGlobal> Case<Rt> for FillsByClones {
-    fn on<R: RingBuffer<i64> + Drop>(&self, rt: &Rt, mut ring: R) -> Result<(), AllocError> {
-        for held in 0..4 {
-            push_ones(rt, &mut ring, held);
-            assert!(rt; ring.fill(3).is_ok());
-            assert_filled(rt, &mut ring, held, &[3, 3, 3, 3]);
-        }
-        Ok(())
-    }
+fn a_default_fill_fills_from_any_length(rt: HostRuntime) {
+    let case = FillsFromAnyLength {
+        fill: FillDefault,
+        filled: &[0, 0, 0, 0],
+    };
+    Rings::<4>::fixed(&rt, &case).expect(&rt, "memory");
 }
 
 #[test]
-fn a_fill_of_clones_fills_from_any_length(rt: HostRuntime) -> Result<(), AllocError> {
-    Rings::<4>::fixed(&rt, &FillsByClones)
+fn a_fill_of_clones_fills_from_any_length(rt: HostRuntime) {
+    let case = FillsFromAnyLength {
+        fill: Fill(3),
+        filled: &[3, 3, 3, 3],
+    };
+    Rings::<4>::fixed(&rt, &case).expect(&rt, "memory");
 }
 
 #[test]
@@ -130,24 +121,19 @@ fn a_fill_keeps_the_state_of_its_closure(rt: HostRuntime) -> Result<(), AllocErr
     Rings::<4>::fixed(&rt, &FillsByTurns)
 }
 
-/// A ring of capacity 5 in eight slots keeps both.
-struct FillsBeforeSpareSlots;
-
-impl<Rt: Abort + AllocGlobal> Case<Rt> for FillsBeforeSpareSlots {
-    fn on<R: RingBuffer<i64> + Drop>(&self, rt: &Rt, mut ring: R) -> Result<(), AllocError> {
-        push_all(rt, &mut ring, &[0, 1, 2, 3, 4, 5, 6]);
-        assert!(rt; ring.fill(4).is_ok());
-        assert_holds(rt, &ring, &[4, 4, 4, 4, 4]);
-        assert!(rt; ring.is_full());
-        assert_equal(rt, ring.capacity(), 5);
-        assert_equal(rt, ring.buffer_size(), 8);
-        Ok(())
-    }
-}
-
 #[test]
-fn a_filled_heap_ring_keeps_its_capacity(rt: HostRuntime) -> Result<(), AllocError> {
-    on_heap::<5, _>(&rt, &FillsBeforeSpareSlots)
+fn a_filled_heap_ring_keeps_its_capacity(rt: HostRuntime) {
+    let case = InSlots {
+        slots: 8,
+        steps: &[
+            PushAll(&[0, 1, 2, 3, 4, 5, 6]),
+            Fill(4),
+            Holds(&[4, 4, 4, 4, 4]),
+            IsFull(true),
+            Capacity(5),
+        ],
+    };
+    on_heap::<5, _>(&rt, &case);
 }
 
 /// A growable ring is full exactly where its length is its capacity, and has as many slots.

@@ -44,7 +44,7 @@ impl Slices for GrowableAllocRingBuffer<i64> {
 }
 
 /// The items of a ring, a slice that it is extended by, and all of them in order.
-const EXTENSIONS: [(&[i64], &[i64], &[i64]); 10] = [
+const EXTENSIONS: &[(&[i64], &[i64], &[i64])] = &[
     (&[], &[], &[]),
     (&[1, 2], &[], &[1, 2]),
     (&[], &[1, 2, 3], &[1, 2, 3]),
@@ -70,7 +70,7 @@ const EXTENSIONS: [(&[i64], &[i64], &[i64]); 10] = [
 ];
 
 /// The items of a ring, and a slice of nines after as many of them as it has places for were copied to it.
-const COPIES: [(&[i64], usize, &[i64]); 8] = [
+const COPIES: &[(&[i64], usize, &[i64])] = &[
     (&[], 0, &[]),
     (&[], 0, &[9, 9]),
     (&[1, 2, 3], 0, &[]),
@@ -81,21 +81,24 @@ const COPIES: [(&[i64], usize, &[i64]); 8] = [
     (&[1, 2, 3, 4, 5], 5, &[1, 2, 3, 4, 5, 9]),
 ];
 
-/// An extension by the slice of a row, or by its items, leaves the last of all items that the limit allows.
+/// An extension by a slice, or by its items, leaves the last of all items that the limit allows.
 fn assert_extended<R: Slices>(
     rt: &impl Abort,
     ring: &mut R,
-    start: usize,
     limit: usize,
-    (items, slice, all): (&[i64], &[i64], &[i64]),
+    items: &[i64],
+    slice: &[i64],
+    all: &[i64],
 ) -> Result<(), AllocError> {
     let left = &all[all.len().saturating_sub(limit)..];
-    lay(rt, ring, start, items);
-    ring.extend_from_slice(slice)?;
-    assert_gives(rt, ring, left);
-    lay(rt, ring, start, items);
-    ring.extend(slice.iter().copied())?;
-    assert_gives(rt, ring, left);
+    for start in 0..STARTS {
+        lay(rt, ring, start, items);
+        ring.extend_from_slice(slice)?;
+        assert_gives(rt, ring, left);
+        lay(rt, ring, start, items);
+        ring.extend(slice.iter().copied())?;
+        assert_gives(rt, ring, left);
+    }
     Ok(())
 }
 
@@ -104,10 +107,8 @@ fn assert_extends<R: Slices + Drop>(
     mut ring: R,
     limit: usize,
 ) -> Result<(), AllocError> {
-    for row in EXTENSIONS {
-        for start in STARTS {
-            assert_extended(rt, &mut ring, start, limit, row)?;
-        }
+    for (items, slice, all) in EXTENSIONS {
+        assert_extended(rt, &mut ring, limit, items, slice, all)?;
     }
     Ok(())
 }
@@ -119,12 +120,14 @@ fn slices_are_put_behind_the_items(rt: HostRuntime) -> Result<(), AllocError> {
     assert_extends(&rt, GrowableAllocRingBuffer::new(rt.alloc()), usize::MAX)
 }
 
-/// `copy_to_slice` and `dequeue_into` on a row, and what the second leaves.
+/// `copy_to_slice` and `dequeue_into` on the items of a row, and what the second leaves.
 fn assert_copied<R: Slices>(
     rt: &impl Abort,
     ring: &mut R,
     start: usize,
-    (items, count, copied): (&[i64], usize, &[i64]),
+    items: &[i64],
+    count: usize,
+    copied: &[i64],
 ) {
     lay(rt, ring, start, items);
     let mut output = [9; 6];
@@ -148,9 +151,9 @@ fn assert_dequeues<R: Slices>(rt: &impl Abort, ring: &mut R, items: &[i64], coun
 }
 
 fn assert_copies<R: Slices + Drop>(rt: &impl Abort, mut ring: R) {
-    for row in COPIES {
-        for start in STARTS {
-            assert_copied(rt, &mut ring, start, row);
+    for (items, count, copied) in COPIES {
+        for start in 0..STARTS {
+            assert_copied(rt, &mut ring, start, items, *count, copied);
         }
     }
 }
@@ -181,7 +184,7 @@ fn assert_turned(rt: &impl Abort, ring: &mut AllocRingBuffer<i64>, start: usize,
 fn assert_one_slice(rt: &impl Abort, mut ring: AllocRingBuffer<i64>) {
     for len in 0..=ring.capacity().min(8) {
         let (items, _) = [1, 2, 3, 4, 5, 6, 7, 8].split_at(len);
-        for start in STARTS {
+        for start in 0..STARTS {
             assert_turned(rt, &mut ring, start, items);
         }
     }
@@ -198,7 +201,7 @@ fn items_of_a_heap_ring_are_made_one_slice(rt: HostRuntime) -> Result<(), AllocE
 #[test]
 fn items_of_a_growable_ring_are_made_one_slice(rt: HostRuntime) -> Result<(), AllocError> {
     let mut ring = GrowableAllocRingBuffer::with_capacity(rt.alloc(), 5)?;
-    for start in STARTS {
+    for start in 0..STARTS {
         lay(&rt, &mut ring, start, &[1, 2, 3, 4, 5]);
         let all = ring.make_contiguous();
         assert_eq!(rt; &*all, [1, 2, 3, 4, 5].as_slice());

@@ -1,9 +1,15 @@
 //! How large a ring may be, memory that is refused to it, and calls that ask for none.
 
 use super::runs::{REPLIES_OF_TWO, every_command};
-use super::{assert_equal, assert_gives, assert_holds, push_all};
+use super::{assert_equal, assert_holds, push_all};
 use ring_test_support::drought::Drought;
 use ring_test_support::rings::{Case, Rings};
+use ring_test_support::steps::Step::{
+    Back, Clear, Contains, Dequeue, DequeueAll, Enqueue, Extend, Fill, FillDefault, FillWith,
+    Front, Get, GetSigned, Holds, IsEmpty, Peek, PushAll, Skip, Write, WriteBack, WriteFront,
+    WriteSigned,
+};
+use ring_test_support::steps::{Step, first_fault};
 use ringbuffer::{
     AllocRingBuffer, Command, ConstGenericRingBuffer, GrowableAllocRingBuffer, Reply, RingBuffer,
     RingBufferDrainingIterator, RingBufferIntoIterator, RingBufferIterator, RingBufferMutIterator,
@@ -179,84 +185,100 @@ fn slices_of_a_heap_ring_take_no_memory(rt: HostRuntime) -> Result<(), AllocErro
     Ok(())
 }
 
-struct FixedTakesNone;
+/// Calls in a drought on a ring that holds these items.
+#[derive(Drop)]
+struct TakesNone {
+    items: &'static [i64],
+    steps: &'static [Step],
+}
 
-impl<Rt: Abort + AllocGlobal> Case<Rt> for FixedTakesNone {
+impl<Rt: Abort + AllocGlobal> Case<Rt> for TakesNone {
     fn on<R: RingBuffer<i64> + Drop>(&self, rt: &Rt, mut ring: R) -> Result<(), AllocError> {
+        push_all(rt, &mut ring, self.items);
         let drought = Drought::total(rt.alloc())?;
-        push_all(rt, &mut ring, &[1, 2, 3]);
-        assert!(rt; ring.enqueue(4).is_ok());
-        assert!(rt; ring.extend([5, 6, 7]).is_ok());
-        assert_holds(rt, &ring, &[6, 7]);
-        assert!(rt; ring.fill_default().is_ok());
-        assert_gives(rt, &mut ring, &[0, 0]);
-        assert!(rt; ring.fill(9).is_ok());
-        assert_gives(rt, &mut ring, &[9, 9]);
-        assert!(rt; ring.fill_with(|| 8).is_ok());
-        assert_gives(rt, &mut ring, &[8, 8]);
+        let fault = first_fault(&mut ring, self.steps);
         drop(drought);
+        assert_equal(rt, fault, None);
         Ok(())
     }
 }
 
 #[test]
 fn fixed_rings_take_no_memory(rt: HostRuntime) -> Result<(), AllocError> {
-    Rings::<2>::fixed(&rt, &FixedTakesNone)
+    let calls = TakesNone {
+        items: &[],
+        steps: &[
+            PushAll(&[1, 2, 3]),
+            Enqueue(4, Some(2)),
+            Extend(&[5, 6, 7]),
+            Holds(&[6, 7]),
+            FillDefault,
+            DequeueAll(&[0, 0]),
+            Fill(9),
+            DequeueAll(&[9, 9]),
+            FillWith(8),
+            DequeueAll(&[8, 8]),
+        ],
+    };
+    Rings::<2>::fixed(&rt, &calls)
 }
 
-struct LooksTakeNone;
+/// What a ring has of room takes no memory to know.
+struct RoomTakesNone;
 
-impl<Rt: Abort + AllocGlobal> Case<Rt> for LooksTakeNone {
+impl<Rt: Abort + AllocGlobal> Case<Rt> for RoomTakesNone {
     fn on<R: RingBuffer<i64> + Drop>(&self, rt: &Rt, mut ring: R) -> Result<(), AllocError> {
         push_all(rt, &mut ring, &[1, 2, 3]);
         let drought = Drought::total(rt.alloc())?;
-        assert!(rt; !ring.is_empty());
-        assert_equal(rt, ring.is_full(), ring.len() == ring.capacity());
-        assert!(rt; ring.buffer_size() >= 3);
-        assert_equal(rt, ring.get(4).copied(), Some(2));
-        assert_equal(rt, ring.get_signed(-1).copied(), Some(3));
-        assert_equal(rt, ring.peek().copied(), Some(1));
-        assert_equal(rt, ring.front().copied(), Some(1));
-        assert_equal(rt, ring.back().copied(), Some(3));
-        assert!(rt; ring.contains(&2));
-        assert!(rt; !ring.contains(&4));
+        let is_full = ring.is_full();
+        let slots = ring.buffer_size();
         drop(drought);
-        assert_holds(rt, &ring, &[1, 2, 3]);
+        assert_equal(rt, is_full, ring.len() == ring.capacity());
+        assert!(rt; slots >= 3);
         Ok(())
     }
 }
 
 #[test]
 fn looking_at_a_ring_takes_no_memory(rt: HostRuntime) -> Result<(), AllocError> {
-    Rings::<3>::each(&rt, &LooksTakeNone)
-}
-
-struct ChangesTakeNone;
-
-impl<Rt: Abort + AllocGlobal> Case<Rt> for ChangesTakeNone {
-    fn on<R: RingBuffer<i64> + Drop>(&self, rt: &Rt, mut ring: R) -> Result<(), AllocError> {
-        push_all(rt, &mut ring, &[1, 2, 3]);
-        let drought = Drought::total(rt.alloc())?;
-        *ring.get_mut(4).expect(rt, "an item") = 5;
-        *ring.get_mut_signed(-1).expect(rt, "an item") = 6;
-        assert_holds(rt, &ring, &[1, 5, 6]);
-        *ring.front_mut().expect(rt, "an item") = 4;
-        *ring.back_mut().expect(rt, "an item") = 7;
-        assert_holds(rt, &ring, &[4, 5, 7]);
-        ring.skip();
-        assert_equal(rt, ring.dequeue(), Some(5));
-        ring.clear();
-        assert!(rt; ring.is_empty());
-        ring.skip();
-        assert_equal(rt, ring.dequeue(), None);
-        drop(drought);
-        Ok(())
-    }
+    let looks = TakesNone {
+        items: &[1, 2, 3],
+        steps: &[
+            IsEmpty(false),
+            Get(4, Some(2)),
+            GetSigned(-1, Some(3)),
+            Peek(Some(1)),
+            Front(Some(1)),
+            Back(Some(3)),
+            Contains(2, true),
+            Contains(4, false),
+            Holds(&[1, 2, 3]),
+        ],
+    };
+    Rings::<3>::each(&rt, &looks)?;
+    Rings::<3>::each(&rt, &RoomTakesNone)
 }
 
 #[test]
 fn writing_and_taking_take_no_memory(rt: HostRuntime) -> Result<(), AllocError> {
-    Rings::<3>::each(&rt, &ChangesTakeNone)
+    let changes = TakesNone {
+        items: &[1, 2, 3],
+        steps: &[
+            Write(4, 5),
+            WriteSigned(-1, 6),
+            Holds(&[1, 5, 6]),
+            WriteFront(4),
+            WriteBack(7),
+            Holds(&[4, 5, 7]),
+            Skip,
+            Dequeue(Some(5)),
+            Clear,
+            IsEmpty(true),
+            Skip,
+            Dequeue(None),
+        ],
+    };
+    Rings::<3>::each(&rt, &changes)
 }
 
 struct WalksTakeNone;

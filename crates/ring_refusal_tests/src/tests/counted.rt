@@ -5,7 +5,7 @@ ghost use Rattle.std.specs.Prelude.{◌<◌, ◌^◌};
 use super::assert_equal;
 use ring_test_support::rings::Twin;
 use ringbuffer::{AllocRingBuffer, ConstGenericRingBuffer, GrowableAllocRingBuffer, RingBuffer};
-use std::alloc::{AllocError, Global};
+use std::alloc::AllocError;
 use std::cell::Cell;
 use std::process::Abort;
 
@@ -21,18 +21,18 @@ pub struct Supply {
 
 impl Supply {
     /// A supply of so many items.
-    pub fn new(alloc: Global, items: usize) -> Result<Supply, AllocError> {
-        let mut drops = Vec::with_capacity(alloc, items)?;
+    pub fn new(rt: &(impl Abort + AllocGlobal), items: usize) -> Supply {
+        let mut drops = Vec::new(rt.alloc());
         for _ in 0..items {
-            drops.push(Cell::new(0))?;
+            drops.push(Cell::new(0)).expect(rt, "memory");
         }
-        Ok(Supply {
+        Supply {
             drops,
             most: Cell::new(items),
             given: Cell::new(0),
             last_dropped: Cell::new(0),
             in_order: Cell::new(true),
-        })
+        }
     }
 
     /// Forgets the items that were given out, and has as many as at first.
@@ -70,16 +70,12 @@ impl Supply {
     }
 
     /// So many items.
-    pub fn items(
-        &self,
-        rt: &(impl Abort + AllocGlobal),
-        count: usize,
-    ) -> Result<Vec<Counted<'_>>, AllocError> {
+    pub fn items(&self, rt: &(impl Abort + AllocGlobal), count: usize) -> Vec<Counted<'_>> {
         let mut items = Vec::new(rt.alloc());
         for _ in 0..count {
-            items.push(self.item(rt))?;
+            items.push(self.item(rt)).expect(rt, "memory");
         }
-        Ok(items)
+        items
     }
 
     /// How many items were given out, clones among them.
@@ -91,6 +87,13 @@ impl Supply {
     pub fn assert_drops(&self, rt: &impl Abort, number: usize, wanted: u8) {
         let drops = self.drops.get(number).expect(rt, "a count for the item");
         assert_equal(rt, (number, drops.get()), (number, wanted));
+    }
+
+    /// The items from this number on were dropped so often.
+    pub fn assert_drops_from(&self, rt: &impl Abort, first: usize, wanted: &[u8]) {
+        for (i, drops) in wanted.iter().enumerate() {
+            self.assert_drops(rt, i.saturating_add(first), *drops);
+        }
     }
 
     // Counts a drop of the item of this number.
@@ -107,6 +110,12 @@ impl Supply {
     /// Each item that was given out was dropped exactly once.
     pub fn assert_each_dropped(&self, rt: &impl Abort) {
         self.assert_all_dropped_but(rt, 0);
+    }
+
+    /// The ring ends, and then each item that was given out was dropped exactly once.
+    pub fn assert_each_dropped_with<R: Drop>(&self, rt: &impl Abort, ring: R) {
+        drop(ring);
+        self.assert_each_dropped(rt);
     }
 
     /// The first items were not dropped yet. All others that were given out were dropped exactly once.
@@ -165,6 +174,12 @@ pub fn assert_numbered<'a, R: RingBuffer<Counted<'a>>>(rt: &impl Abort, ring: &R
     }
 }
 
+/// The ring holds three items, which are numbered in order from this number on.
+pub fn assert_three<'a, R: RingBuffer<Counted<'a>>>(rt: &impl Abort, ring: &R, first: usize) {
+    assert_equal(rt, ring.len(), 3);
+    assert_numbered(rt, ring, first);
+}
+
 /// What a test does with a ring that is new, and items that count their drops.
 pub trait CountedCase<T: Drop, S> {
     fn on<R: RingBuffer<T> + Twin + Drop>(
@@ -172,7 +187,7 @@ pub trait CountedCase<T: Drop, S> {
         rt: &(impl Abort + AllocGlobal),
         ring: R,
         supply: S,
-    ) -> Result<(), AllocError>;
+    );
 }
 
 /// The case on a ring of each type that has a limit. Each begins with the whole supply.
@@ -180,14 +195,26 @@ pub fn on_fixed<'a, const CAP: usize>(
     rt: &(impl Abort + AllocGlobal),
     supply: &'a Supply,
     case: &impl CountedCase<Counted<'a>, &'a Supply>,
-) -> Result<(), AllocError>
+)
     requires some { 0 < CAP }
     requires few { CAP < 2 ^ 16 }
 {
     supply.begin_again();
-    case.on(rt, ConstGenericRingBuffer::<Counted, CAP>::new(), supply)?;
+    case.on(rt, ConstGenericRingBuffer::<Counted, CAP>::new(), supply);
+    on_heap::<CAP>(rt, supply, case);
+}
+
+/// The case on a heap ring of this capacity.
+pub fn on_heap<'a, const CAP: usize>(
+    rt: &(impl Abort + AllocGlobal),
+    supply: &'a Supply,
+    case: &impl CountedCase<Counted<'a>, &'a Supply>,
+)
+    requires some { 0 < CAP }
+{
     supply.begin_again();
-    case.on(rt, AllocRingBuffer::new(rt.alloc(), CAP)?, supply)
+    let ring = AllocRingBuffer::new(rt.alloc(), CAP).expect(rt, "memory");
+    case.on(rt, ring, supply);
 }
 
 /// The case on a growable ring, which has room for so many items.
@@ -195,10 +222,10 @@ pub fn on_growable<'a, const CAP: usize>(
     rt: &(impl Abort + AllocGlobal),
     supply: &'a Supply,
     case: &impl CountedCase<Counted<'a>, &'a Supply>,
-) -> Result<(), AllocError> {
+) {
     supply.begin_again();
-    let ring = GrowableAllocRingBuffer::with_capacity(rt.alloc(), CAP)?;
-    case.on(rt, ring, supply)
+    let ring = GrowableAllocRingBuffer::with_capacity(rt.alloc(), CAP).expect(rt, "memory");
+    case.on(rt, ring, supply);
 }
 
 /// The case on a ring of each type.
@@ -206,10 +233,10 @@ pub fn on_each<'a, const CAP: usize>(
     rt: &(impl Abort + AllocGlobal),
     supply: &'a Supply,
     case: &impl CountedCase<Counted<'a>, &'a Supply>,
-) -> Result<(), AllocError>
+)
     requires some { 0 < CAP }
     requires few { CAP < 2 ^ 16 }
 {
-    on_fixed::<CAP>(rt, supply, case)?;
-    on_growable::<CAP>(rt, supply, case)
+    on_fixed::<CAP>(rt, supply, case);
+    on_growable::<CAP>(rt, supply, case);
 }

@@ -2,14 +2,13 @@
 
 use super::assert_equal;
 use super::counted::{
-    Counted, CountedCase, Supply, assert_numbered, on_each, on_fixed, on_growable, push_items,
+    Counted, CountedCase, Supply, assert_three, on_each, on_fixed, on_growable, push_items,
 };
 use ring_test_support::rings::Twin;
 use ringbuffer::{
     AllocRingBuffer, Command, ConstGenericRingBuffer, GrowableAllocRingBuffer, RingBuffer,
     RingBufferDrainingIterator, RingBufferIntoIterator, apply,
 };
-use std::alloc::AllocError;
 use std::process::Abort;
 
 #[derive(Drop)]
@@ -23,7 +22,7 @@ impl<'a> CountedCase<Counted<'a>, &'a Supply> for HandsBack {
         rt: &(impl Abort + AllocGlobal),
         mut ring: R,
         supply: &'a Supply,
-    ) -> Result<(), AllocError> {
+    ) {
         push_items(rt, &mut ring, supply, 1);
         for (old, number) in [(0, 1), (1, 2)] {
             let Ok(overwritten) = ring.push(supply.item(rt)) else {
@@ -32,26 +31,23 @@ impl<'a> CountedCase<Counted<'a>, &'a Supply> for HandsBack {
             supply.assert_drops(rt, old, 0);
             match overwritten {
                 Some(item) => {
-                    assert!(rt; self.overwrites);
-                    assert_equal(rt, item.number, old);
+                    assert_equal(rt, (self.overwrites, item.number), (true, old));
                     drop(item);
                     supply.assert_drops(rt, old, 1);
                 }
-                None => assert!(rt; !self.overwrites),
+                None => assert_equal(rt, self.overwrites, false),
             }
             supply.assert_drops(rt, number, 0);
         }
-        drop(ring);
-        supply.assert_each_dropped(rt);
-        Ok(())
+        supply.assert_each_dropped_with(rt, ring);
     }
 }
 
 #[test]
-fn what_a_push_hands_back_lives_until_it_is_dropped(rt: HostRuntime) -> Result<(), AllocError> {
-    let supply = Supply::new(rt.alloc(), 3)?;
-    on_fixed::<1>(&rt, &supply, &HandsBack { overwrites: true })?;
-    on_growable::<1>(&rt, &supply, &HandsBack { overwrites: false })
+fn what_a_push_hands_back_lives_until_it_is_dropped(rt: HostRuntime) {
+    let supply = Supply::new(&rt, 3);
+    on_fixed::<1>(&rt, &supply, &HandsBack { overwrites: true });
+    on_growable::<1>(&rt, &supply, &HandsBack { overwrites: false });
 }
 
 #[derive(Drop)]
@@ -65,30 +61,23 @@ impl<'a> CountedCase<Counted<'a>, &'a Supply> for HandsBackToNobody {
         rt: &(impl Abort + AllocGlobal),
         mut ring: R,
         supply: &'a Supply,
-    ) -> Result<(), AllocError> {
+    ) {
         push_items(rt, &mut ring, supply, 1);
         let _ = ring.push(supply.item(rt));
-        supply.assert_drops(rt, 0, self.overwritten);
-        supply.assert_drops(rt, 1, 0);
+        supply.assert_drops_from(rt, 0, &[self.overwritten, 0]);
         let _ = ring.enqueue(supply.item(rt));
-        supply.assert_drops(rt, 1, self.overwritten);
-        supply.assert_drops(rt, 2, 0);
+        supply.assert_drops_from(rt, 1, &[self.overwritten, 0]);
         let _ = apply(&mut ring, Command::Push(supply.item(rt)));
-        supply.assert_drops(rt, 2, self.overwritten);
-        supply.assert_drops(rt, 3, 0);
-        drop(ring);
-        supply.assert_each_dropped(rt);
-        Ok(())
+        supply.assert_drops_from(rt, 2, &[self.overwritten, 0]);
+        supply.assert_each_dropped_with(rt, ring);
     }
 }
 
 #[test]
-fn what_a_push_hands_back_is_dropped_at_once_if_nobody_takes_it(
-    rt: HostRuntime,
-) -> Result<(), AllocError> {
-    let supply = Supply::new(rt.alloc(), 4)?;
-    on_fixed::<1>(&rt, &supply, &HandsBackToNobody { overwritten: 1 })?;
-    on_growable::<1>(&rt, &supply, &HandsBackToNobody { overwritten: 0 })
+fn what_a_push_hands_back_is_dropped_at_once_if_nobody_takes_it(rt: HostRuntime) {
+    let supply = Supply::new(&rt, 4);
+    on_fixed::<1>(&rt, &supply, &HandsBackToNobody { overwritten: 1 });
+    on_growable::<1>(&rt, &supply, &HandsBackToNobody { overwritten: 0 });
 }
 
 struct Ends;
@@ -99,21 +88,19 @@ impl<'a> CountedCase<Counted<'a>, &'a Supply> for Ends {
         rt: &(impl Abort + AllocGlobal),
         mut ring: R,
         supply: &'a Supply,
-    ) -> Result<(), AllocError> {
+    ) {
         push_items(rt, &mut ring, supply, 5);
         let taken = ring.dequeue().expect(rt, "an item");
         supply.assert_drops(rt, taken.number, 0);
         drop(taken);
-        drop(ring);
-        supply.assert_each_dropped(rt);
-        Ok(())
+        supply.assert_each_dropped_with(rt, ring);
     }
 }
 
 #[test]
-fn a_ring_that_ends_drops_its_items(rt: HostRuntime) -> Result<(), AllocError> {
-    let supply = Supply::new(rt.alloc(), 5)?;
-    on_each::<3>(&rt, &supply, &Ends)
+fn a_ring_that_ends_drops_its_items(rt: HostRuntime) {
+    let supply = Supply::new(&rt, 5);
+    on_each::<3>(&rt, &supply, &Ends);
 }
 
 struct EndsWrapped;
@@ -124,24 +111,21 @@ impl<'a> CountedCase<Counted<'a>, &'a Supply> for EndsWrapped {
         rt: &(impl Abort + AllocGlobal),
         mut ring: R,
         supply: &'a Supply,
-    ) -> Result<(), AllocError> {
+    ) {
         push_items(rt, &mut ring, supply, 3);
         ring.skip();
         ring.skip();
         push_items(rt, &mut ring, supply, 2);
-        assert_numbered(rt, &ring, 2);
-        assert_equal(rt, ring.len(), 3);
-        drop(ring);
-        supply.assert_each_dropped(rt);
+        assert_three(rt, &ring, 2);
+        supply.assert_each_dropped_with(rt, ring);
         supply.assert_dropped_in_order(rt);
-        Ok(())
     }
 }
 
 #[test]
-fn a_ring_that_ends_drops_the_oldest_item_first(rt: HostRuntime) -> Result<(), AllocError> {
-    let supply = Supply::new(rt.alloc(), 5)?;
-    on_each::<3>(&rt, &supply, &EndsWrapped)
+fn a_ring_that_ends_drops_the_oldest_item_first(rt: HostRuntime) {
+    let supply = Supply::new(&rt, 5);
+    on_each::<3>(&rt, &supply, &EndsWrapped);
 }
 
 struct SkipsAndClears;
@@ -152,46 +136,37 @@ impl<'a> CountedCase<Counted<'a>, &'a Supply> for SkipsAndClears {
         rt: &(impl Abort + AllocGlobal),
         mut ring: R,
         supply: &'a Supply,
-    ) -> Result<(), AllocError> {
+    ) {
         push_items(rt, &mut ring, supply, 4);
         ring.skip();
-        supply.assert_drops(rt, 0, 1);
-        supply.assert_drops(rt, 1, 0);
-        assert!(rt; ring.push(supply.item(rt)).is_ok());
+        supply.assert_drops_from(rt, 0, &[1, 0]);
+        push_items(rt, &mut ring, supply, 1);
         ring.clear();
         supply.assert_each_dropped(rt);
-        drop(ring);
-        supply.assert_each_dropped(rt);
-        Ok(())
+        supply.assert_each_dropped_with(rt, ring);
     }
 }
 
 #[test]
-fn a_skip_and_a_clear_drop_at_once(rt: HostRuntime) -> Result<(), AllocError> {
-    let supply = Supply::new(rt.alloc(), 5)?;
-    on_each::<4>(&rt, &supply, &SkipsAndClears)
+fn a_skip_and_a_clear_drop_at_once(rt: HostRuntime) {
+    let supply = Supply::new(&rt, 5);
+    on_each::<4>(&rt, &supply, &SkipsAndClears);
 }
 
 #[test]
-fn what_is_not_kept_is_dropped_at_once(rt: HostRuntime) -> Result<(), AllocError> {
-    let supply = Supply::new(rt.alloc(), 8)?;
-    let mut ring = AllocRingBuffer::new(rt.alloc(), 5)?;
+fn what_is_not_kept_is_dropped_at_once(rt: HostRuntime) {
+    let supply = Supply::new(&rt, 8);
+    let mut ring = AllocRingBuffer::new(rt.alloc(), 5).expect(&rt, "memory");
     push_items(&rt, &mut ring, &supply, 8);
     ring.truncate(4);
-    for (number, drops) in [(3, 0), (4, 0), (5, 0), (6, 0), (7, 1)] {
-        supply.assert_drops(&rt, number, drops);
-    }
+    supply.assert_drops_from(&rt, 3, &[0, 0, 0, 0, 1]);
     ring.keep_newest(2);
-    for (number, drops) in [(3, 1), (4, 1), (5, 0), (6, 0)] {
-        supply.assert_drops(&rt, number, drops);
-    }
+    supply.assert_drops_from(&rt, 3, &[1, 1, 0, 0]);
     let newest = ring.pop_back().expect(&rt, "an item");
     assert_equal(&rt, newest.number, 6);
     supply.assert_drops(&rt, 6, 0);
     drop(newest);
-    drop(ring);
-    supply.assert_each_dropped(&rt);
-    Ok(())
+    supply.assert_each_dropped_with(&rt, ring);
 }
 
 #[derive(Drop)]
@@ -205,22 +180,19 @@ impl<'a> CountedCase<Counted<'a>, &'a Supply> for Extends {
         rt: &(impl Abort + AllocGlobal),
         mut ring: R,
         supply: &'a Supply,
-    ) -> Result<(), AllocError> {
+    ) {
         push_items(rt, &mut ring, supply, 1);
-        ring.extend(supply.items(rt, 4)?)?;
-        supply.assert_drops(rt, 2, self.overwritten);
-        supply.assert_drops(rt, 3, 0);
-        drop(ring);
-        supply.assert_each_dropped(rt);
-        Ok(())
+        ring.extend(supply.items(rt, 4)).expect(rt, "memory");
+        supply.assert_drops_from(rt, 2, &[self.overwritten, 0]);
+        supply.assert_each_dropped_with(rt, ring);
     }
 }
 
 #[test]
-fn an_extension_drops_what_it_overwrites(rt: HostRuntime) -> Result<(), AllocError> {
-    let supply = Supply::new(rt.alloc(), 5)?;
-    on_fixed::<2>(&rt, &supply, &Extends { overwritten: 1 })?;
-    on_growable::<2>(&rt, &supply, &Extends { overwritten: 0 })
+fn an_extension_drops_what_it_overwrites(rt: HostRuntime) {
+    let supply = Supply::new(&rt, 5);
+    on_fixed::<2>(&rt, &supply, &Extends { overwritten: 1 });
+    on_growable::<2>(&rt, &supply, &Extends { overwritten: 0 });
 }
 
 struct Writes;
@@ -231,21 +203,18 @@ impl<'a> CountedCase<Counted<'a>, &'a Supply> for Writes {
         rt: &(impl Abort + AllocGlobal),
         mut ring: R,
         supply: &'a Supply,
-    ) -> Result<(), AllocError> {
+    ) {
         push_items(rt, &mut ring, supply, 2);
         *ring.get_mut(1).expect(rt, "an item") = supply.item(rt);
-        supply.assert_drops(rt, 1, 1);
-        supply.assert_drops(rt, 2, 0);
-        drop(ring);
-        supply.assert_each_dropped(rt);
-        Ok(())
+        supply.assert_drops_from(rt, 1, &[1, 0]);
+        supply.assert_each_dropped_with(rt, ring);
     }
 }
 
 #[test]
-fn a_write_drops_the_item_before_it(rt: HostRuntime) -> Result<(), AllocError> {
-    let supply = Supply::new(rt.alloc(), 3)?;
-    on_each::<2>(&rt, &supply, &Writes)
+fn a_write_drops_the_item_before_it(rt: HostRuntime) {
+    let supply = Supply::new(&rt, 3);
+    on_each::<2>(&rt, &supply, &Writes);
 }
 
 struct Drains;
@@ -256,7 +225,7 @@ impl<'a> CountedCase<Counted<'a>, &'a Supply> for Drains {
         rt: &(impl Abort + AllocGlobal),
         mut ring: R,
         supply: &'a Supply,
-    ) -> Result<(), AllocError> {
+    ) {
         push_items(rt, &mut ring, supply, 4);
         let mut walk = RingBufferDrainingIterator::new(&mut ring);
         let taken = walk.next().expect(rt, "an item");
@@ -268,14 +237,13 @@ impl<'a> CountedCase<Counted<'a>, &'a Supply> for Drains {
         supply.assert_drops(rt, 0, 0);
         drop(taken);
         supply.assert_each_dropped(rt);
-        Ok(())
     }
 }
 
 #[test]
-fn a_drain_hands_its_items_over(rt: HostRuntime) -> Result<(), AllocError> {
-    let supply = Supply::new(rt.alloc(), 4)?;
-    on_each::<4>(&rt, &supply, &Drains)
+fn a_drain_hands_its_items_over(rt: HostRuntime) {
+    let supply = Supply::new(&rt, 4);
+    on_each::<4>(&rt, &supply, &Drains);
 }
 
 struct WalksAndEnds;
@@ -286,22 +254,29 @@ impl<'a> CountedCase<Counted<'a>, &'a Supply> for WalksAndEnds {
         rt: &(impl Abort + AllocGlobal),
         mut ring: R,
         supply: &'a Supply,
-    ) -> Result<(), AllocError> {
+    ) {
         push_items(rt, &mut ring, supply, 4);
         let mut walk = RingBufferIntoIterator::new(ring);
         drop(walk.next());
-        supply.assert_drops(rt, 0, 1);
-        supply.assert_drops(rt, 1, 0);
+        supply.assert_drops_from(rt, 0, &[1, 0]);
         drop(walk);
         supply.assert_each_dropped(rt);
-        Ok(())
     }
 }
 
 #[test]
-fn an_owning_walk_that_ends_drops_the_rest(rt: HostRuntime) -> Result<(), AllocError> {
-    let supply = Supply::new(rt.alloc(), 4)?;
-    on_each::<4>(&rt, &supply, &WalksAndEnds)
+fn an_owning_walk_that_ends_drops_the_rest(rt: HostRuntime) {
+    let supply = Supply::new(&rt, 4);
+    on_each::<4>(&rt, &supply, &WalksAndEnds);
+}
+
+/// The command is not refused.
+fn assert_applied<'a, R: RingBuffer<Counted<'a>>>(
+    rt: &impl Abort,
+    ring: &mut R,
+    command: Command<Counted<'a>>,
+) {
+    assert!(rt; apply(ring, command).is_ok());
 }
 
 struct Commands;
@@ -312,46 +287,40 @@ impl<'a> CountedCase<Counted<'a>, &'a Supply> for Commands {
         rt: &(impl Abort + AllocGlobal),
         mut ring: R,
         supply: &'a Supply,
-    ) -> Result<(), AllocError> {
-        assert!(rt; apply(&mut ring, Command::Push(supply.item(rt))).is_ok());
-        let extension = supply.items(rt, 3)?;
-        assert!(rt; apply(&mut ring, Command::Extend(extension)).is_ok());
+    ) {
+        assert_applied(rt, &mut ring, Command::Push(supply.item(rt)));
+        assert_applied(rt, &mut ring, Command::Extend(supply.items(rt, 3)));
         supply.assert_drops(rt, 3, 0);
         let dequeued = apply(&mut ring, Command::Dequeue);
-        assert!(rt; apply(&mut ring, Command::Clear).is_ok());
+        assert_applied(rt, &mut ring, Command::Clear);
         supply.assert_drops(rt, 3, 1);
         drop(dequeued);
-        drop(ring);
-        supply.assert_each_dropped(rt);
-        Ok(())
+        supply.assert_each_dropped_with(rt, ring);
     }
 }
 
 #[test]
-fn commands_hand_their_items_to_the_ring(rt: HostRuntime) -> Result<(), AllocError> {
-    let supply = Supply::new(rt.alloc(), 4)?;
-    on_each::<2>(&rt, &supply, &Commands)
+fn commands_hand_their_items_to_the_ring(rt: HostRuntime) {
+    let supply = Supply::new(&rt, 4);
+    on_each::<2>(&rt, &supply, &Commands);
 }
 
 #[test]
-fn items_may_have_no_size(rt: HostRuntime) -> Result<(), AllocError> {
+fn items_may_have_no_size(rt: HostRuntime) {
     fn on<R: RingBuffer<()> + Drop>(rt: &impl Abort, mut ring: R, kept: usize) {
         for _ in 0..7 {
             assert!(rt; ring.push(()).is_ok());
         }
-        assert_equal(rt, ring.len(), kept);
-        assert_equal(rt, ring.get_signed(-1).copied(), Some(()));
+        let newest = ring.get_signed(-1).copied();
+        assert_equal(rt, (ring.len(), newest), (kept, Some(())));
         for _ in 0..kept {
             assert_equal(rt, ring.dequeue(), Some(()));
         }
         assert_equal(rt, ring.dequeue(), None);
     }
     on(&rt, ConstGenericRingBuffer::<(), 5>::new(), 5);
-    on(&rt, AllocRingBuffer::new(rt.alloc(), 5)?, 5);
-    on(
-        &rt,
-        GrowableAllocRingBuffer::with_capacity(rt.alloc(), 5)?,
-        7,
-    );
-    Ok(())
+    let heap = AllocRingBuffer::new(rt.alloc(), 5).expect(&rt, "memory");
+    on(&rt, heap, 5);
+    let growable = GrowableAllocRingBuffer::with_capacity(rt.alloc(), 5).expect(&rt, "memory");
+    on(&rt, growable, 7);
 }

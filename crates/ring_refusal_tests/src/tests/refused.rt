@@ -2,17 +2,18 @@
 //! count their drops, and each is dropped exactly once.
 
 use super::counted::{
-    Counted, CountedCase, Supply, assert_numbered, on_each, on_growable, push_items,
+    Counted, CountedCase, Supply, assert_numbered, assert_three, on_each, on_growable, on_heap,
+    push_items,
 };
-use super::scarce::{MOST_STEPS, is_cloned, spared};
+use super::scarce::{MOST_STEPS, drought, is_cloned, spared};
 use super::{assert_equal, assert_holds, push_all};
-use ring_test_support::drought::Drought;
 use ring_test_support::rings::{Case, Rings, Twin};
 use ringbuffer::{
     AllocRingBuffer, Command, ConstGenericRingBuffer, GrowableAllocRingBuffer, Refused, Reply,
     RingBuffer, RunFault, Stopped, apply, run, run_into,
 };
 use std::alloc::{AllocError, Global};
+use std::cell::Cell;
 use std::mem::size_of;
 use std::process::Abort;
 
@@ -29,12 +30,6 @@ fn hold_first<'a, R: RingBuffer<Counted<'a>>>(
     push_items(rt, ring, supply, held);
 }
 
-/// The ring still holds the first three items of their supply.
-fn assert_unchanged<'a, R: RingBuffer<Counted<'a>>>(rt: &impl Abort, ring: &R) {
-    assert_equal(rt, ring.len(), 3);
-    assert_numbered(rt, ring, 0);
-}
-
 struct ClonesItems;
 
 impl<'a> CountedCase<Counted<'a>, &'a Supply> for ClonesItems {
@@ -43,49 +38,53 @@ impl<'a> CountedCase<Counted<'a>, &'a Supply> for ClonesItems {
         rt: &(impl Abort + AllocGlobal),
         mut ring: R,
         supply: &'a Supply,
-    ) -> Result<(), AllocError> {
+    ) {
         for clones in 0..4 {
             hold_first(rt, &mut ring, supply, 3, clones + 3);
             let made = ring.twin();
             assert_equal(rt, is_cloned(rt, made, supply), clones == 3);
-            assert_unchanged(rt, &ring);
+            assert_three(rt, &ring, 0);
         }
-        drop(ring);
-        supply.assert_each_dropped(rt);
-        Ok(())
+        supply.assert_each_dropped_with(rt, ring);
     }
 }
 
 #[test]
-fn a_refused_clone_of_an_item_ends_a_clone(rt: HostRuntime) -> Result<(), AllocError> {
-    let supply = Supply::new(rt.alloc(), 6)?;
-    on_each::<3>(&rt, &supply, &ClonesItems)
+fn a_refused_clone_of_an_item_ends_a_clone(rt: HostRuntime) {
+    let supply = Supply::new(&rt, 6);
+    on_each::<3>(&rt, &supply, &ClonesItems);
 }
 
-#[test]
-fn a_clone_is_refused_in_turn(rt: HostRuntime) -> Result<(), AllocError> {
-    fn on<'a, R: RingBuffer<Counted<'a>> + Twin + Drop>(
+struct ClonesInADrought;
+
+impl<'a> CountedCase<Counted<'a>, &'a Supply> for ClonesInADrought {
+    fn on<R: RingBuffer<Counted<'a>> + Twin + Drop>(
+        &self,
         rt: &(impl Abort + AllocGlobal),
         mut ring: R,
         supply: &'a Supply,
-    ) -> Result<(), AllocError> {
+    ) {
         for step in 0..MOST_STEPS {
             hold_first(rt, &mut ring, supply, 3, 6);
-            let drought = Drought::but_for(rt.alloc(), spared(step))?;
+            let drought = drought(rt, spared(step));
             let made = ring.twin();
             drop(drought);
             let is_made = is_cloned(rt, made, supply);
-            assert_unchanged(rt, &ring);
+            assert_three(rt, &ring, 0);
             if is_made {
                 assert!(rt; step > 0);
-                return Ok(());
+                return;
             }
         }
         panic!(rt; "each attempt was refused")
     }
-    let supply = Supply::new(rt.alloc(), 6)?;
-    on(&rt, AllocRingBuffer::new(rt.alloc(), 3)?, &supply)?;
-    on(&rt, GrowableAllocRingBuffer::new(rt.alloc()), &supply)
+}
+
+#[test]
+fn a_clone_is_refused_in_turn(rt: HostRuntime) {
+    let supply = Supply::new(&rt, 6);
+    on_heap::<3>(&rt, &supply, &ClonesInADrought);
+    on_growable::<0>(&rt, &supply, &ClonesInADrought);
 }
 
 /// A list of clones of three items has them in order, and where it was refused they were dropped. Returns whether the
@@ -110,23 +109,21 @@ impl<'a> CountedCase<Counted<'a>, &'a Supply> for ListsClones {
         rt: &(impl Abort + AllocGlobal),
         mut ring: R,
         supply: &'a Supply,
-    ) -> Result<(), AllocError> {
+    ) {
         for clones in 0..4 {
             hold_first(rt, &mut ring, supply, 3, clones + 3);
             let made = ring.to_vec(rt.alloc());
             assert_equal(rt, is_listed(rt, made, supply), clones == 3);
-            assert_unchanged(rt, &ring);
+            assert_three(rt, &ring, 0);
         }
-        drop(ring);
-        supply.assert_each_dropped(rt);
-        Ok(())
+        supply.assert_each_dropped_with(rt, ring);
     }
 }
 
 #[test]
-fn a_refused_clone_of_an_item_ends_a_list(rt: HostRuntime) -> Result<(), AllocError> {
-    let supply = Supply::new(rt.alloc(), 6)?;
-    on_each::<3>(&rt, &supply, &ListsClones)
+fn a_refused_clone_of_an_item_ends_a_list(rt: HostRuntime) {
+    let supply = Supply::new(&rt, 6);
+    on_each::<3>(&rt, &supply, &ListsClones);
 }
 
 struct ListsInADrought;
@@ -137,17 +134,17 @@ impl<'a> CountedCase<Counted<'a>, &'a Supply> for ListsInADrought {
         rt: &(impl Abort + AllocGlobal),
         mut ring: R,
         supply: &'a Supply,
-    ) -> Result<(), AllocError> {
+    ) {
         for step in 0..MOST_STEPS {
             hold_first(rt, &mut ring, supply, 3, 6);
-            let drought = Drought::but_for(rt.alloc(), spared(step))?;
+            let drought = drought(rt, spared(step));
             let made = ring.to_vec(rt.alloc());
             drop(drought);
             let is_made = is_listed(rt, made, supply);
-            assert_unchanged(rt, &ring);
+            assert_three(rt, &ring, 0);
             if is_made {
                 assert!(rt; step > 0);
-                return Ok(());
+                return;
             }
         }
         panic!(rt; "each attempt was refused")
@@ -155,9 +152,9 @@ impl<'a> CountedCase<Counted<'a>, &'a Supply> for ListsInADrought {
 }
 
 #[test]
-fn a_list_is_refused_in_turn(rt: HostRuntime) -> Result<(), AllocError> {
-    let supply = Supply::new(rt.alloc(), 6)?;
-    on_each::<3>(&rt, &supply, &ListsInADrought)
+fn a_list_is_refused_in_turn(rt: HostRuntime) {
+    let supply = Supply::new(&rt, 6);
+    on_each::<3>(&rt, &supply, &ListsInADrought);
 }
 
 struct FillsByClones;
@@ -168,28 +165,30 @@ impl<'a> CountedCase<Counted<'a>, &'a Supply> for FillsByClones {
         rt: &(impl Abort + AllocGlobal),
         mut ring: R,
         supply: &'a Supply,
-    ) -> Result<(), AllocError> {
+    ) {
         let capacity = ring.capacity();
         // Up to one clone more than there is room for.
         for clones in 0..capacity.saturating_add(2) {
             hold_first(rt, &mut ring, supply, 2, clones.saturating_add(3));
             let filled = ring.fill(supply.item(rt));
-            assert_equal(rt, (clones, filled.is_ok()), (clones, clones >= capacity));
-            assert_equal(rt, ring.len(), clones.min(capacity));
+            let held = clones.min(capacity);
+            let found = (filled.is_ok(), ring.len(), supply.given());
+            assert_equal(
+                rt,
+                found,
+                (clones >= capacity, held, held.saturating_add(3)),
+            );
             assert_numbered(rt, &ring, 3);
-            assert_equal(rt, supply.given(), ring.len().saturating_add(3));
             supply.assert_drops(rt, 2, 1);
         }
-        drop(ring);
-        supply.assert_each_dropped(rt);
-        Ok(())
+        supply.assert_each_dropped_with(rt, ring);
     }
 }
 
 #[test]
-fn a_refused_clone_of_the_value_ends_a_fill(rt: HostRuntime) -> Result<(), AllocError> {
-    let supply = Supply::new(rt.alloc(), 40)?;
-    on_each::<3>(&rt, &supply, &FillsByClones)
+fn a_refused_clone_of_the_value_ends_a_fill(rt: HostRuntime) {
+    let supply = Supply::new(&rt, 40);
+    on_each::<3>(&rt, &supply, &FillsByClones);
 }
 
 /// A fill in a drought leaves a beginning of the new items, which are numbered from `first` on, or all of them.
@@ -205,10 +204,10 @@ impl<'a> CountedCase<Counted<'a>, &'a Supply> for FillsInADrought {
         rt: &(impl Abort + AllocGlobal),
         mut ring: R,
         supply: &'a Supply,
-    ) -> Result<(), AllocError> {
+    ) {
         push_items(rt, &mut ring, supply, 2);
         let capacity = ring.capacity();
-        let drought = Drought::total(rt.alloc())?;
+        let drought = drought(rt, 0);
         let filled = if self.by_clones {
             ring.fill(supply.item(rt))
         } else {
@@ -218,30 +217,28 @@ impl<'a> CountedCase<Counted<'a>, &'a Supply> for FillsInADrought {
         assert!(rt; ring.len() <= capacity);
         assert_equal(rt, filled.is_ok(), ring.len() == capacity);
         assert_numbered(rt, &ring, self.first);
-        drop(ring);
-        supply.assert_each_dropped(rt);
-        Ok(())
+        supply.assert_each_dropped_with(rt, ring);
     }
 }
 
 #[test]
-fn a_fill_by_a_closure_meets_a_drought(rt: HostRuntime) -> Result<(), AllocError> {
-    let supply = Supply::new(rt.alloc(), 40)?;
+fn a_fill_by_a_closure_meets_a_drought(rt: HostRuntime) {
+    let supply = Supply::new(&rt, 40);
     let case = FillsInADrought {
         by_clones: false,
         first: 2,
     };
-    on_each::<3>(&rt, &supply, &case)
+    on_each::<3>(&rt, &supply, &case);
 }
 
 #[test]
-fn a_fill_of_clones_meets_a_drought(rt: HostRuntime) -> Result<(), AllocError> {
-    let supply = Supply::new(rt.alloc(), 40)?;
+fn a_fill_of_clones_meets_a_drought(rt: HostRuntime) {
+    let supply = Supply::new(&rt, 40);
     let case = FillsInADrought {
         by_clones: true,
         first: 3,
     };
-    on_each::<3>(&rt, &supply, &case)
+    on_each::<3>(&rt, &supply, &case);
 }
 
 struct FillsTakeNone;
@@ -250,7 +247,7 @@ impl<Rt: Abort + AllocGlobal> Case<Rt> for FillsTakeNone {
     fn on<R: RingBuffer<i64> + Drop>(&self, rt: &Rt, mut ring: R) -> Result<(), AllocError> {
         push_all(rt, &mut ring, &[1, 2]);
         let capacity = ring.capacity();
-        let drought = Drought::total(rt.alloc())?;
+        let drought = drought(rt, 0);
         assert!(rt; ring.fill_default().is_ok());
         assert_holds_all(rt, &ring, capacity, 0);
         assert!(rt; ring.fill(7).is_ok());
@@ -272,8 +269,8 @@ fn assert_holds_all<R: RingBuffer<i64>>(rt: &impl Abort, ring: &R, times: usize,
 
 // A fill puts into a ring what it had room for before, so memory is refused to nothing but a clone.
 #[test]
-fn a_fill_asks_for_no_memory_of_its_own(rt: HostRuntime) -> Result<(), AllocError> {
-    Rings::<3>::each(&rt, &FillsTakeNone)
+fn a_fill_asks_for_no_memory_of_its_own(rt: HostRuntime) {
+    Rings::<3>::each(&rt, &FillsTakeNone).expect(&rt, "memory");
 }
 
 /// An item whose clone takes memory.
@@ -309,100 +306,98 @@ impl<'a> Clone for Costly<'a> {
     }
 }
 
-#[test]
-fn a_fill_of_a_growable_ring_is_refused_at_each_clone(rt: HostRuntime) -> Result<(), AllocError> {
-    /// Fills the ring in a drought that spares so many bytes. Returns how many items it then held.
-    fn fills<'a, R: RingBuffer<Costly<'a>> + Drop>(
-        rt: &(impl Abort + AllocGlobal),
-        mut ring: R,
-        supply: &'a Supply,
-        spare: usize,
-    ) -> Result<usize, AllocError> {
-        for _ in 0..2 {
-            assert!(rt; ring.push(Costly::next(rt, supply)).is_ok());
-        }
-        let capacity = ring.capacity();
-        let value = Costly::next(rt, supply);
-        let drought = Drought::but_for(rt.alloc(), spare)?;
-        let filled = ring.fill(value);
-        drop(drought);
-        let held = ring.len();
-        assert_equal(rt, filled.is_ok(), held == capacity);
-        for i in 0..held {
-            let number = ring.get(i).expect(rt, "an item").item.number;
-            assert_equal(rt, number, i.saturating_add(3));
-        }
-        drop(ring);
-        supply.assert_each_dropped(rt);
-        Ok(held)
+/// Fills a ring in a drought that spares so many bytes. Returns how many items it then held.
+fn held_after_fill<'a, R: RingBuffer<Costly<'a>> + Drop>(
+    rt: &(impl Abort + AllocGlobal),
+    mut ring: R,
+    supply: &'a Supply,
+    spare: usize,
+) -> usize {
+    for _ in 0..2 {
+        assert!(rt; ring.push(Costly::next(rt, supply)).is_ok());
     }
-    let supply = Supply::new(rt.alloc(), 40)?;
+    let capacity = ring.capacity();
+    let value = Costly::next(rt, supply);
+    let drought = drought(rt, spare);
+    let filled = ring.fill(value);
+    drop(drought);
+    let held = ring.len();
+    assert_equal(rt, filled.is_ok(), held == capacity);
+    for i in 0..held {
+        let number = ring.get(i).expect(rt, "an item").item.number;
+        assert_equal(rt, number, i.saturating_add(3));
+    }
+    supply.assert_each_dropped_with(rt, ring);
+    held
+}
+
+#[test]
+fn a_fill_of_a_growable_ring_is_refused_at_each_clone(rt: HostRuntime) {
+    let supply = Supply::new(&rt, 40);
     let mut held = 0;
     for step in 0..MOST_STEPS {
         supply.begin_again();
-        let ring = GrowableAllocRingBuffer::with_capacity(rt.alloc(), 4)?;
+        let ring = GrowableAllocRingBuffer::with_capacity(rt.alloc(), 4).expect(&rt, "memory");
         let capacity = ring.capacity();
-        let now = fills(&rt, ring, &supply, step * (COST / 2))?;
+        let now = held_after_fill(&rt, ring, &supply, step * (COST / 2));
         // No point is passed over.
         assert!(rt; now == held || now == held.saturating_add(1));
         held = now;
         if held == capacity {
-            return Ok(());
+            return;
         }
     }
     panic!(rt; "each attempt was refused")
 }
 
 #[test]
-fn texts_and_empty_rings_need_no_memory(rt: HostRuntime) -> Result<(), AllocError> {
-    let string = String::from_str(rt.alloc(), "ab")?;
-    let drought = Drought::total(rt.alloc())?;
+fn texts_and_empty_rings_need_no_memory(rt: HostRuntime) {
+    let string = String::from_str(rt.alloc(), "ab").expect(&rt, "memory");
+    let drought = drought(&rt, 0);
     let of_text = ConstGenericRingBuffer::<char, 2>::from_text("ab");
     let of_string = ConstGenericRingBuffer::<char, 2>::from_string(string);
     let array = ConstGenericRingBuffer::<i64, 2>::default();
     let growable = GrowableAllocRingBuffer::<i64>::default(rt.alloc());
     drop(drought);
-    assert_equal(&rt, of_text.len(), 2);
-    assert!(rt; of_text == of_string);
-    assert!(rt; array.is_empty());
-    assert!(rt; growable.is_empty());
-    Ok(())
+    assert_equal(&rt, (of_text.len(), of_text == of_string), (2, true));
+    assert_equal(&rt, (array.is_empty(), growable.is_empty()), (true, true));
+}
+
+/// Compares two rings that are new.
+fn compare<R: RingBuffer<i64> + PartialEq + Drop>(
+    rt: &(impl Abort + AllocGlobal),
+    mut one: R,
+    mut other: R,
+) {
+    push_all(rt, &mut one, &[1, 2]);
+    push_all(rt, &mut other, &[1, 2]);
+    let drought = drought(rt, 0);
+    let equal = one == other;
+    other.skip();
+    let differ = one != other;
+    drop(drought);
+    assert_equal(rt, (equal, differ), (true, true));
+    assert_holds(rt, &one, &[1, 2]);
 }
 
 #[test]
 fn comparisons_take_no_memory(rt: HostRuntime) -> Result<(), AllocError> {
-    fn on<R: RingBuffer<i64> + PartialEq + Drop>(
-        rt: &(impl Abort + AllocGlobal),
-        mut one: R,
-        mut other: R,
-    ) -> Result<(), AllocError> {
-        push_all(rt, &mut one, &[1, 2]);
-        push_all(rt, &mut other, &[1, 2]);
-        let drought = Drought::total(rt.alloc())?;
-        let equal = one == other;
-        other.skip();
-        let differ = one != other;
-        drop(drought);
-        assert!(rt; equal);
-        assert!(rt; differ);
-        assert_holds(rt, &one, &[1, 2]);
-        Ok(())
-    }
-    on(
+    compare(
         &rt,
         ConstGenericRingBuffer::<i64, 2>::new(),
         ConstGenericRingBuffer::<i64, 2>::new(),
-    )?;
-    on(
+    );
+    compare(
         &rt,
         AllocRingBuffer::new(rt.alloc(), 2)?,
         AllocRingBuffer::new(rt.alloc(), 2)?,
-    )?;
-    on(
+    );
+    compare(
         &rt,
         GrowableAllocRingBuffer::with_capacity(rt.alloc(), 2)?,
         GrowableAllocRingBuffer::with_capacity(rt.alloc(), 2)?,
-    )
+    );
+    Ok(())
 }
 
 // Only a growable ring is refused a push. This one has room for so many items, and they are there.
@@ -414,54 +409,56 @@ impl<'a> CountedCase<Counted<'a>, &'a Supply> for PushesOntoFull {
         rt: &(impl Abort + AllocGlobal),
         mut ring: R,
         supply: &'a Supply,
-    ) -> Result<(), AllocError> {
+    ) {
         let room = ring.capacity();
         push_items(rt, &mut ring, supply, room);
         assert!(rt; ring.is_full());
-        let drought = Drought::total(rt.alloc())?;
-        let pushed = ring.push(supply.item(rt));
-        let enqueued = ring.enqueue(pushed.err().expect(rt, "the item that was pushed"));
-        let item = enqueued.err().expect(rt, "the item that was enqueued");
+        let drought = drought(rt, 0);
+        let pushed = ring.push(supply.item(rt)).err();
+        let enqueued = ring
+            .enqueue(pushed.expect(rt, "the item that was pushed"))
+            .err();
+        let item = enqueued.expect(rt, "the item that was enqueued");
         let applied = apply(&mut ring, Command::Push(item));
         drop(drought);
         let Err(Refused::Push(item)) = applied else {
             panic!(rt; "the push was not refused");
         };
-        assert_equal(rt, item.number, room);
-        assert_equal(rt, ring.len(), room);
+        assert_equal(rt, (item.number, ring.len()), (room, room));
         assert_numbered(rt, &ring, 0);
-        drop((ring, item));
-        supply.assert_each_dropped(rt);
-        Ok(())
+        drop(item);
+        supply.assert_each_dropped_with(rt, ring);
     }
 }
 
 #[test]
-fn a_refused_push_hands_its_item_back(rt: HostRuntime) -> Result<(), AllocError> {
-    let supply = Supply::new(rt.alloc(), 40)?;
-    on_growable::<4>(&rt, &supply, &PushesOntoFull)
+fn a_refused_push_hands_its_item_back(rt: HostRuntime) {
+    let supply = Supply::new(&rt, 40);
+    on_growable::<4>(&rt, &supply, &PushesOntoFull);
 }
 
 // How many items the extensions below have.
 const MANY: usize = 100;
 
-/// Extends a growable ring in one drought after the other, by a call or by a command, until none is refused. The first
-/// is.
-fn assert_extended_at_last(
-    rt: &(impl Abort + AllocGlobal),
+/// An extension by a call or by a command, in a drought that spares so many bytes.
+#[derive(Drop)]
+struct ExtendsInADrought {
     by_command: bool,
-) -> Result<(), AllocError> {
-    fn extends<'a, R: RingBuffer<Counted<'a>> + Drop>(
+    spare: usize,
+    is_done: Cell<bool>,
+}
+
+impl<'a> CountedCase<Counted<'a>, &'a Supply> for ExtendsInADrought {
+    fn on<R: RingBuffer<Counted<'a>> + Twin + Drop>(
+        &self,
         rt: &(impl Abort + AllocGlobal),
         mut ring: R,
         supply: &'a Supply,
-        by_command: bool,
-        spare: usize,
-    ) -> Result<bool, AllocError> {
+    ) {
         push_items(rt, &mut ring, supply, 2);
-        let extension = supply.items(rt, MANY)?;
-        let drought = Drought::but_for(rt.alloc(), spare)?;
-        let is_done = if by_command {
+        let extension = supply.items(rt, MANY);
+        let drought = drought(rt, self.spare);
+        let is_done = if self.by_command {
             match apply(&mut ring, Command::Extend(extension)) {
                 Ok(Reply::Extended) => true,
                 Err(Refused::Extend) => false,
@@ -471,33 +468,42 @@ fn assert_extended_at_last(
             ring.extend(extension).is_ok()
         };
         drop(drought);
-        assert!(rt; (2..MANY + 3).contains(&ring.len()));
-        assert_equal(rt, is_done, ring.len() == MANY + 2);
+        let held = ring.len();
+        let found = ((2..MANY + 3).contains(&held), is_done);
+        assert_equal(rt, found, (true, held == MANY + 2));
         assert_numbered(rt, &ring, 0);
-        drop(ring);
-        supply.assert_each_dropped(rt);
-        Ok(is_done)
+        supply.assert_each_dropped_with(rt, ring);
+        self.is_done.set(is_done);
     }
-    let supply = Supply::new(rt.alloc(), MANY + 2)?;
+}
+
+/// Extends a growable ring in one drought after the other, by a call or by a command, until none is refused. The first
+/// is.
+fn assert_extended_at_last(rt: &(impl Abort + AllocGlobal), by_command: bool) {
+    let supply = Supply::new(rt, MANY + 2);
     for step in 0..MOST_STEPS {
-        supply.begin_again();
-        let ring = GrowableAllocRingBuffer::new(rt.alloc());
-        if extends(rt, ring, &supply, by_command, spared(step))? {
+        let case = ExtendsInADrought {
+            by_command,
+            spare: spared(step),
+            is_done: Cell::new(false),
+        };
+        on_growable::<0>(rt, &supply, &case);
+        if case.is_done.get() {
             assert!(rt; step > 1);
-            return Ok(());
+            return;
         }
     }
     panic!(rt; "each attempt was refused")
 }
 
 #[test]
-fn a_refused_extension_leaves_a_beginning(rt: HostRuntime) -> Result<(), AllocError> {
-    assert_extended_at_last(&rt, false)
+fn a_refused_extension_leaves_a_beginning(rt: HostRuntime) {
+    assert_extended_at_last(&rt, false);
 }
 
 #[test]
-fn a_refused_command_to_extend_leaves_a_beginning(rt: HostRuntime) -> Result<(), AllocError> {
-    assert_extended_at_last(&rt, true)
+fn a_refused_command_to_extend_leaves_a_beginning(rt: HostRuntime) {
+    assert_extended_at_last(&rt, true);
 }
 
 /// A run on a growable ring that is new: it pushes item 0, extends by so many more, takes one or else extends by none,
@@ -519,20 +525,22 @@ impl Script {
         &self,
         rt: &(impl Abort + AllocGlobal),
         supply: &'a Supply,
-    ) -> Result<Vec<Command<Counted<'a>>>, AllocError> {
+    ) -> Vec<Command<Counted<'a>>> {
         let first = supply.item(rt);
-        let extension = supply.items(rt, self.extension)?;
+        let extension = supply.items(rt, self.extension);
         let third = if self.takes {
             Command::Dequeue
         } else {
             Command::Extend(Vec::new(rt.alloc()))
         };
-        Ok(vec![in rt.alloc();
+        let last = supply.item(rt);
+        let commands = vec![in rt.alloc();
             Command::Push(first),
             Command::Extend(extension),
             third,
-            Command::Push(supply.item(rt)),
-        ]?)
+            Command::Push(last),
+        ];
+        commands.expect(rt, "memory")
     }
 
     /// Whether this is command `at`, with its items.
@@ -563,6 +571,33 @@ impl Script {
         }
     }
 
+    /// These are its commands, with their items.
+    fn assert_commands(&self, rt: &impl Abort, commands: &[Command<Counted<'_>>]) {
+        assert_equal(rt, commands.len(), 4);
+        for (i, command) in commands.iter().enumerate() {
+            assert_equal(rt, (i, self.is_command(command, i)), (i, true));
+        }
+    }
+
+    /// The first of its commands, so many, are replied to like this.
+    fn assert_replies(&self, rt: &impl Abort, replies: &[Reply<Counted<'_>>], done: usize) {
+        assert_equal(rt, replies.len(), done);
+        for (i, reply) in replies.iter().enumerate() {
+            assert_equal(rt, (i, self.is_reply(reply, i)), (i, true));
+        }
+    }
+
+    /// The places hold the replies to its first commands, so many, and no other.
+    fn assert_places(&self, rt: &impl Abort, places: &[Option<Reply<Counted<'_>>>], done: usize) {
+        for (i, place) in places.iter().enumerate() {
+            let is_right = match place {
+                Some(reply) => i < done && self.is_reply(reply, i),
+                None => i >= done,
+            };
+            assert_equal(rt, (i, is_right), (i, true));
+        }
+    }
+
     /// The ring holds what it does once so many commands are done, and a beginning of the next. Then it ends.
     fn assert_done<'a, R: RingBuffer<Counted<'a>> + Drop>(
         &self,
@@ -586,45 +621,40 @@ impl Script {
     }
 }
 
-/// How a run in a drought ended.
-#[derive(Debug, PartialEq, Drop)]
-enum Ended {
-    NoRoom,
-    Stopped(usize),
-    Done,
+/// A run of a script in a drought that spares so many bytes. How many commands were done is kept, if there was room for
+/// their replies.
+#[derive(Drop)]
+struct RunsInADrought<'s> {
+    script: &'s Script,
+    spare: usize,
+    done: Cell<Option<usize>>,
 }
 
-/// Runs a script on a ring that is new, in a drought that spares so many bytes.
-fn run_in_a_drought<'a, R: RingBuffer<Counted<'a>> + Drop>(
-    rt: &(impl Abort + AllocGlobal),
-    mut ring: R,
-    supply: &'a Supply,
-    script: &Script,
-    spare: usize,
-) -> Result<Ended, AllocError> {
-    let commands = script.commands(rt, supply)?;
-    let drought = Drought::but_for(rt.alloc(), spare)?;
-    let answered = run(rt.alloc(), &mut ring, commands);
-    drop(drought);
-    let (ended, done, replies) = match answered {
-        Ok(replies) => (Ended::Done, 4, replies),
-        Err(RunFault::Stopped { at, replies }) => (Ended::Stopped(at), at, replies),
-        Err(RunFault::NoRoom(commands)) => {
-            assert_eq!(rt; commands.len(), 4);
-            for (i, command) in commands.iter().enumerate() {
-                assert!(rt; script.is_command(command, i), "at {i}");
+impl<'a> CountedCase<Counted<'a>, &'a Supply> for RunsInADrought<'_> {
+    fn on<R: RingBuffer<Counted<'a>> + Twin + Drop>(
+        &self,
+        rt: &(impl Abort + AllocGlobal),
+        mut ring: R,
+        supply: &'a Supply,
+    ) {
+        let commands = self.script.commands(rt, supply);
+        let drought = drought(rt, self.spare);
+        let answered = run(rt.alloc(), &mut ring, commands);
+        drop(drought);
+        let (done, replies) = match answered {
+            Ok(replies) => (Some(4), replies),
+            Err(RunFault::Stopped { at, replies }) => (Some(at), replies),
+            Err(RunFault::NoRoom(commands)) => {
+                self.script.assert_commands(rt, commands.as_slice());
+                (None, Vec::new(rt.alloc()))
             }
-            (Ended::NoRoom, 0, Vec::new(rt.alloc()))
-        }
-    };
-    assert_equal(rt, replies.len(), done);
-    for (i, reply) in replies.iter().enumerate() {
-        assert!(rt; script.is_reply(reply, i), "at {i}");
+        };
+        let count = done.unwrap_or(0);
+        self.script.assert_replies(rt, replies.as_slice(), count);
+        self.script.assert_done(rt, ring, count);
+        supply.assert_each_dropped_with(rt, replies);
+        self.done.set(done);
     }
-    script.assert_done(rt, ring, done);
-    drop(replies);
-    supply.assert_each_dropped(rt);
-    Ok(ended)
 }
 
 /// How many bytes the drought of a run spares: none, then the room for its replies, and then ever more.
@@ -636,50 +666,49 @@ fn spared_for_run(step: usize) -> usize {
     }
 }
 
-/// Runs a script in one drought after the other, until it is done. Each of these ends is met before.
-fn assert_run_at_last(
-    rt: &(impl Abort + AllocGlobal),
-    script: &Script,
-    ends: &[Ended],
-) -> Result<(), AllocError> {
-    let supply = Supply::new(rt.alloc(), script.items())?;
+/// Runs a script in one drought after the other, until it is done. Each of these ends is met before, as how many commands
+/// were done.
+fn assert_run_at_last(rt: &(impl Abort + AllocGlobal), script: &Script, ends: &[Option<usize>]) {
+    let supply = Supply::new(rt, script.items());
     let mut met = Vec::new(rt.alloc());
     for step in 0..MOST_STEPS {
-        supply.begin_again();
-        let ring = GrowableAllocRingBuffer::new(rt.alloc());
-        let ended = run_in_a_drought(rt, ring, &supply, script, spared_for_run(step))?;
-        if ended == Ended::Done {
+        let case = RunsInADrought {
+            script,
+            spare: spared_for_run(step),
+            done: Cell::new(None),
+        };
+        on_growable::<0>(rt, &supply, &case);
+        let done = case.done.get();
+        if done == Some(4) {
             for end in ends {
-                assert!(rt; met.contains(end), "{end:?}");
+                assert_equal(rt, (*end, met.contains(end)), (*end, true));
             }
-            return Ok(());
+            return;
         }
-        met.push(ended)?;
+        met.push(done).expect(rt, "memory");
     }
     panic!(rt; "each attempt was refused")
 }
 
 #[test]
-fn a_run_of_a_growable_ring_stops_where_it_is_refused(rt: HostRuntime) -> Result<(), AllocError> {
+fn a_run_of_a_growable_ring_stops_where_it_is_refused(rt: HostRuntime) {
     let script = Script {
         extension: MANY,
         takes: true,
     };
-    let ends = [Ended::NoRoom, Ended::Stopped(0), Ended::Stopped(1)];
-    assert_run_at_last(&rt, &script, &ends)
+    assert_run_at_last(&rt, &script, &[None, Some(0), Some(1)]);
 }
 
 /// How many items an extension has that fills a growable ring of one item to its capacity, where they are many.
-fn extension_to_capacity(rt: &(impl Abort + AllocGlobal)) -> Result<usize, AllocError> {
+fn extension_to_capacity(rt: &(impl Abort + AllocGlobal)) -> usize {
     let mut extension = MANY;
     for _ in 0..10 {
         let mut ring = GrowableAllocRingBuffer::new(rt.alloc());
-        push_all(rt, &mut ring, &[0]);
-        for _ in 0..extension {
+        for _ in 0..extension.saturating_add(1) {
             push_all(rt, &mut ring, &[1]);
         }
         if ring.is_full() {
-            return Ok(extension);
+            return extension;
         }
         extension = ring.capacity().saturating_sub(1);
     }
@@ -688,33 +717,30 @@ fn extension_to_capacity(rt: &(impl Abort + AllocGlobal)) -> Result<usize, Alloc
 
 // After a command that takes an item there is room for the next. So the last push is refused where none was taken.
 #[test]
-fn a_run_of_a_growable_ring_stops_at_a_push_onto_a_full_one(
-    rt: HostRuntime,
-) -> Result<(), AllocError> {
+fn a_run_of_a_growable_ring_stops_at_a_push_onto_a_full_one(rt: HostRuntime) {
     let script = Script {
-        extension: extension_to_capacity(&rt)?,
+        extension: extension_to_capacity(&rt),
         takes: false,
     };
-    let ends = [
-        Ended::NoRoom,
-        Ended::Stopped(0),
-        Ended::Stopped(1),
-        Ended::Stopped(3),
-    ];
-    assert_run_at_last(&rt, &script, &ends)
+    assert_run_at_last(&rt, &script, &[None, Some(0), Some(1), Some(3)]);
 }
 
-#[test]
-fn places_hold_the_replies_before_a_refusal(rt: HostRuntime) -> Result<(), AllocError> {
-    /// Runs a script into places in a drought that spares so many bytes. Returns how many commands were done.
-    fn runs<'a, R: RingBuffer<Counted<'a>> + Drop>(
+/// A run of a script into places, in a drought that spares so many bytes. How many commands were done is kept.
+#[derive(Drop)]
+struct RunsIntoPlaces<'s> {
+    script: &'s Script,
+    spare: usize,
+    done: Cell<usize>,
+}
+
+impl<'a> CountedCase<Counted<'a>, &'a Supply> for RunsIntoPlaces<'_> {
+    fn on<R: RingBuffer<Counted<'a>> + Twin + Drop>(
+        &self,
         rt: &(impl Abort + AllocGlobal),
         mut ring: R,
         supply: &'a Supply,
-        script: &Script,
-        spare: usize,
-    ) -> Result<usize, AllocError> {
-        let commands = script.commands(rt, supply)?;
+    ) {
+        let commands = self.script.commands(rt, supply);
         let mut places = [
             Some(Reply::Cleared),
             Some(Reply::Cleared),
@@ -722,35 +748,37 @@ fn places_hold_the_replies_before_a_refusal(rt: HostRuntime) -> Result<(), Alloc
             Some(Reply::Cleared),
         ];
         assert_eq!(rt; commands.len(), 4);
-        let drought = Drought::but_for(rt.alloc(), spare)?;
+        let drought = drought(rt, self.spare);
         let answered = run_into(&mut ring, commands, &mut places);
         drop(drought);
         let done = match answered {
             Ok(()) => 4,
             Err(Stopped { at }) => at,
         };
-        for (i, place) in places.iter().enumerate() {
-            match place {
-                Some(reply) => assert!(rt; i < done && script.is_reply(reply, i)),
-                None => assert!(rt; i >= done),
-            }
-        }
-        script.assert_done(rt, ring, done);
-        drop(places);
-        supply.assert_each_dropped(rt);
-        Ok(done)
+        self.script.assert_places(rt, &places, done);
+        self.script.assert_done(rt, ring, done);
+        supply.assert_each_dropped_with(rt, places);
+        self.done.set(done);
     }
+}
+
+#[test]
+fn places_hold_the_replies_before_a_refusal(rt: HostRuntime) {
     let script = Script {
         extension: MANY,
         takes: true,
     };
-    let supply = Supply::new(rt.alloc(), script.items())?;
+    let supply = Supply::new(&rt, script.items());
     for step in 0..MOST_STEPS {
-        supply.begin_again();
-        let ring = GrowableAllocRingBuffer::new(rt.alloc());
-        if runs(&rt, ring, &supply, &script, spared(step))? == 4 {
+        let case = RunsIntoPlaces {
+            script: &script,
+            spare: spared(step),
+            done: Cell::new(0),
+        };
+        on_growable::<0>(&rt, &supply, &case);
+        if case.done.get() == 4 {
             assert!(rt; step > 1);
-            return Ok(());
+            return;
         }
     }
     panic!(rt; "each attempt was refused")

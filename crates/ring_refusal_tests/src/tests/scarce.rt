@@ -1,7 +1,9 @@
 //! Memory and clones that are refused to makers and conversions. Items count their drops, and each is dropped exactly once.
 
+ghost use Rattle.std.specs.Prelude.{◌<◌};
+
 use super::assert_equal;
-use super::counted::{Counted, Supply, assert_numbered};
+use super::counted::{Counted, Supply, assert_three};
 use ring_test_support::drought::Drought;
 use ringbuffer::{AllocRingBuffer, ConstGenericRingBuffer, GrowableAllocRingBuffer, RingBuffer};
 use std::alloc::{AllocError, Global};
@@ -14,6 +16,27 @@ pub const MOST_STEPS: usize = 100;
 /// How many bytes the drought of an attempt spares. The steps are small where the block is.
 pub fn spared(step: usize) -> usize {
     step.saturating_mul(step).saturating_mul(8)
+}
+
+/// A drought that spares so many bytes.
+pub fn drought(rt: &(impl Abort + AllocGlobal), spare: usize) -> Drought {
+    Drought::but_for(rt.alloc(), spare).expect(rt, "memory")
+}
+
+/// The same, if it is said what it spares.
+fn drought_if(rt: &(impl Abort + AllocGlobal), spare: Option<usize>) -> Option<Drought> {
+    match spare {
+        Some(bytes) => Some(drought(rt, bytes)),
+        None => None,
+    }
+}
+
+/// A type of ring.
+#[derive(Drop)]
+enum Kind {
+    Array,
+    Heap,
+    Growable,
 }
 
 /// What holds three items before a ring does.
@@ -44,36 +67,39 @@ enum Three<'a> {
 
 impl<'a> Three<'a> {
     /// Three items of a supply.
-    fn of(
-        rt: &(impl Abort + AllocGlobal),
-        supply: &'a Supply,
-        holder: &Holder,
-    ) -> Result<Three<'a>, AllocError> {
-        Ok(match holder {
+    fn of(rt: &(impl Abort + AllocGlobal), supply: &'a Supply, holder: &Holder) -> Three<'a> {
+        match holder {
             Holder::Array => Three::Array(supply.item(rt), supply.item(rt), supply.item(rt)),
-            Holder::Iterator => Three::Iterator(supply.items(rt, 3)?),
-            Holder::Vec => Three::Vec(supply.items(rt, 3)?),
-            Holder::Deque => Three::Deque(VecDeque::from(supply.items(rt, 3)?)),
+            Holder::Iterator => Three::Iterator(supply.items(rt, 3)),
+            Holder::Vec => Three::Vec(supply.items(rt, 3)),
+            Holder::Deque => Three::Deque(VecDeque::from(supply.items(rt, 3))),
             Holder::LinkedList => {
                 let mut items = LinkedList::new(rt.alloc());
                 for _ in 0..3 {
-                    items.push_back(supply.item(rt))?;
+                    items.push_back(supply.item(rt)).expect(rt, "memory");
                 }
                 Three::LinkedList(items)
             }
             Holder::ArrayRing => {
-                Three::ArrayRing(ConstGenericRingBuffer::from_vec(supply.items(rt, 3)?))
+                Three::ArrayRing(ConstGenericRingBuffer::from_vec(supply.items(rt, 3)))
             }
             Holder::HeapRing => {
-                let items = supply.items(rt, 3)?;
-                Three::HeapRing(AllocRingBuffer::made_of(rt, Three::Vec(items))?)
+                let made = AllocRingBuffer::made_of(rt, Three::Vec(supply.items(rt, 3)));
+                Three::HeapRing(made.expect(rt, "memory"))
             }
             Holder::GrowableRing => {
-                let items = supply.items(rt, 3)?;
-                Three::GrowableRing(GrowableAllocRingBuffer::from_vec(rt.alloc(), items)?)
+                let made = GrowableAllocRingBuffer::from_vec(rt.alloc(), supply.items(rt, 3));
+                Three::GrowableRing(made.expect(rt, "memory"))
             }
-        })
+        }
     }
+}
+
+/// There are three items, or letters.
+fn assert_all_three(rt: &impl Abort, found: usize)
+    ensures some { 0 < found }
+{
+    assert_eq!(rt; found, 3);
 }
 
 /// A ring that can be made of three items.
@@ -91,24 +117,24 @@ impl<'a> MadeOf<Three<'a>> for AllocRingBuffer<Counted<'a>> {
                 AllocRingBuffer::from_array(rt.alloc(), [Some(a), Some(b), Some(c)])
             }
             Three::Iterator(items) | Three::Vec(items) => {
-                assert_eq!(rt; items.len(), 3);
+                assert_all_three(rt, items.len());
                 AllocRingBuffer::from_vec(rt.alloc(), items)
             }
             Three::Deque(items) => {
-                assert_eq!(rt; items.len(), 3);
+                assert_all_three(rt, items.len());
                 AllocRingBuffer::from_deque(rt.alloc(), items)
             }
             Three::LinkedList(items) => {
-                assert_eq!(rt; items.len(), 3);
+                assert_all_three(rt, items.len());
                 AllocRingBuffer::from_linked_list(rt.alloc(), items)
             }
             Three::ArrayRing(ring) => {
-                assert_eq!(rt; ring.len(), 3);
+                assert_all_three(rt, ring.len());
                 AllocRingBuffer::from_const(rt.alloc(), ring)
             }
             Three::HeapRing(ring) => Ok(ring),
             Three::GrowableRing(ring) => {
-                assert_eq!(rt; ring.len(), 3);
+                assert_all_three(rt, ring.len());
                 AllocRingBuffer::from_growable(rt.alloc(), ring)
             }
         }
@@ -156,106 +182,83 @@ impl<'a> MadeOf<Three<'a>> for ConstGenericRingBuffer<Counted<'a>, 3> {
     }
 }
 
-/// A ring that was made holds three items, and where it was refused they were dropped. Returns whether it was made.
-fn is_made<'a, R: RingBuffer<Counted<'a>> + Drop>(
-    rt: &impl Abort,
-    made: Result<R, AllocError>,
-    supply: &Supply,
-) -> bool {
+/// Makes a ring of three items, in a drought if it is said what that spares. The ring holds them, and they are dropped
+/// when it ends, and not before. Where it was refused they were dropped. Returns whether it was made.
+fn is_made<'a, R>(
+    rt: &(impl Abort + AllocGlobal),
+    supply: &'a Supply,
+    holder: &Holder,
+    spare: Option<usize>,
+) -> bool
+where
+    R: RingBuffer<Counted<'a>> + MadeOf<Three<'a>> + Drop,
+{
+    supply.begin_again();
+    let source = Three::of(rt, supply, holder);
+    let drought = drought_if(rt, spare);
+    let made = R::made_of(rt, source);
+    drop(drought);
     let is_made = made.is_ok();
     if let Ok(ring) = made {
-        assert_equal(rt, ring.len(), 3);
-        assert_numbered(rt, &ring, 0);
+        assert_three(rt, &ring, 0);
         supply.assert_all_dropped_but(rt, 3);
     }
     supply.assert_each_dropped(rt);
     is_made
 }
 
-/// Makes a ring of three items. They are dropped when it ends, and not before.
-fn assert_made<'a, R>(
+/// The same for a type of ring.
+fn is_made_as(
     rt: &(impl Abort + AllocGlobal),
-    supply: &'a Supply,
+    supply: &Supply,
+    kind: &Kind,
     holder: &Holder,
-) -> Result<(), AllocError>
-where
-    R: RingBuffer<Counted<'a>> + MadeOf<Three<'a>> + Drop,
-{
-    supply.begin_again();
-    let source = Three::of(rt, supply, holder)?;
-    assert!(rt; is_made(rt, R::made_of(rt, source), supply));
-    Ok(())
+    spare: Option<usize>,
+) -> bool {
+    match kind {
+        Kind::Array => is_made::<ConstGenericRingBuffer<Counted, 3>>(rt, supply, holder, spare),
+        Kind::Heap => is_made::<AllocRingBuffer<Counted>>(rt, supply, holder, spare),
+        Kind::Growable => is_made::<GrowableAllocRingBuffer<Counted>>(rt, supply, holder, spare),
+    }
 }
 
 #[test]
-fn items_that_were_moved_in_are_dropped_once(rt: HostRuntime) -> Result<(), AllocError> {
-    let supply = Supply::new(rt.alloc(), 3)?;
-    assert_made::<ConstGenericRingBuffer<Counted, 3>>(&rt, &supply, &Holder::Array)?;
-    assert_made::<AllocRingBuffer<Counted>>(&rt, &supply, &Holder::Array)?;
-    assert_made::<GrowableAllocRingBuffer<Counted>>(&rt, &supply, &Holder::Array)
-}
-
-/// Makes a ring of three items in a drought that spares so many bytes. Returns whether it was made.
-fn is_made_in_a_drought<'a, R>(
-    rt: &(impl Abort + AllocGlobal),
-    supply: &'a Supply,
-    holder: &Holder,
-    spare: usize,
-) -> Result<bool, AllocError>
-where
-    R: RingBuffer<Counted<'a>> + MadeOf<Three<'a>> + Drop,
-{
-    supply.begin_again();
-    let source = Three::of(rt, supply, holder)?;
-    let drought = Drought::but_for(rt.alloc(), spare)?;
-    let made = R::made_of(rt, source);
-    drop(drought);
-    Ok(is_made(rt, made, supply))
+fn items_that_were_moved_in_are_dropped_once(rt: HostRuntime) {
+    let supply = Supply::new(&rt, 3);
+    for kind in [Kind::Array, Kind::Heap, Kind::Growable] {
+        let is_made = is_made_as(&rt, &supply, &kind, &Holder::Array, None);
+        assert_equal(&rt, is_made, true);
+    }
 }
 
 /// Makes rings of three items, of each holder in one drought after the other until none is refused. The first is.
-fn assert_made_at_last<'a, R>(
-    rt: &(impl Abort + AllocGlobal),
-    supply: &'a Supply,
-    holders: &[Holder],
-) -> Result<(), AllocError>
-where
-    R: RingBuffer<Counted<'a>> + MadeOf<Three<'a>> + Drop,
-{
+fn assert_made_at_last(rt: &(impl Abort + AllocGlobal), kind: &Kind, holders: &[Holder]) {
+    let supply = Supply::new(rt, 3);
     for holder in holders {
         let mut refused = 0;
         for step in 0..MOST_STEPS {
-            if is_made_in_a_drought::<R>(rt, supply, holder, spared(step))? {
+            if is_made_as(rt, &supply, kind, holder, Some(spared(step))) {
                 break;
             }
             refused = step + 1;
         }
         assert!(rt; (1..MOST_STEPS).contains(&refused), "of {holder:?}");
     }
-    Ok(())
 }
 
 /// Makes rings of three items while there is no memory, one of each holder.
-fn assert_made_of_nothing<'a, R>(
-    rt: &(impl Abort + AllocGlobal),
-    supply: &'a Supply,
-    holders: &[Holder],
-) -> Result<(), AllocError>
-where
-    R: RingBuffer<Counted<'a>> + MadeOf<Three<'a>> + Drop,
-{
+fn assert_made_of_nothing(rt: &(impl Abort + AllocGlobal), kind: &Kind, holders: &[Holder]) {
+    let supply = Supply::new(rt, 3);
     for holder in holders {
         assert!(rt;
-            is_made_in_a_drought::<R>(rt, supply, holder, 0)?,
+            is_made_as(rt, &supply, kind, holder, Some(0)),
             "of {holder:?}"
         );
     }
-    Ok(())
 }
 
 #[test]
-fn a_refused_heap_ring_drops_its_source(rt: HostRuntime) -> Result<(), AllocError> {
-    let supply = Supply::new(rt.alloc(), 3)?;
+fn a_refused_heap_ring_drops_its_source(rt: HostRuntime) {
     let holders = [
         Holder::Array,
         Holder::Vec,
@@ -264,12 +267,11 @@ fn a_refused_heap_ring_drops_its_source(rt: HostRuntime) -> Result<(), AllocErro
         Holder::GrowableRing,
         Holder::ArrayRing,
     ];
-    assert_made_at_last::<AllocRingBuffer<Counted>>(&rt, &supply, &holders)
+    assert_made_at_last(&rt, &Kind::Heap, &holders);
 }
 
 #[test]
-fn a_refused_growable_ring_drops_its_source(rt: HostRuntime) -> Result<(), AllocError> {
-    let supply = Supply::new(rt.alloc(), 3)?;
+fn a_refused_growable_ring_drops_its_source(rt: HostRuntime) {
     let holders = [
         Holder::Array,
         Holder::Iterator,
@@ -277,12 +279,11 @@ fn a_refused_growable_ring_drops_its_source(rt: HostRuntime) -> Result<(), Alloc
         Holder::HeapRing,
         Holder::ArrayRing,
     ];
-    assert_made_at_last::<GrowableAllocRingBuffer<Counted>>(&rt, &supply, &holders)
+    assert_made_at_last(&rt, &Kind::Growable, &holders);
 }
 
 #[test]
-fn an_array_ring_is_made_without_memory(rt: HostRuntime) -> Result<(), AllocError> {
-    let supply = Supply::new(rt.alloc(), 3)?;
+fn an_array_ring_is_made_without_memory(rt: HostRuntime) {
     let holders = [
         Holder::Array,
         Holder::Vec,
@@ -290,16 +291,15 @@ fn an_array_ring_is_made_without_memory(rt: HostRuntime) -> Result<(), AllocErro
         Holder::Deque,
         Holder::LinkedList,
     ];
-    assert_made_of_nothing::<ConstGenericRingBuffer<Counted, 3>>(&rt, &supply, &holders)
+    assert_made_of_nothing(&rt, &Kind::Array, &holders);
 }
 
 #[test]
-fn a_ring_becomes_another_without_memory(rt: HostRuntime) -> Result<(), AllocError> {
-    let supply = Supply::new(rt.alloc(), 3)?;
+fn a_ring_becomes_another_without_memory(rt: HostRuntime) {
     let rings = [Holder::GrowableRing, Holder::HeapRing];
-    assert_made_of_nothing::<ConstGenericRingBuffer<Counted, 3>>(&rt, &supply, &rings)?;
+    assert_made_of_nothing(&rt, &Kind::Array, &rings);
     let queues = [Holder::Vec, Holder::Deque];
-    assert_made_of_nothing::<GrowableAllocRingBuffer<Counted>>(&rt, &supply, &queues)
+    assert_made_of_nothing(&rt, &Kind::Growable, &queues);
 }
 
 /// A ring of characters that can be made of a text, which is lent or handed over.
@@ -311,12 +311,12 @@ trait MadeOfText: Sized {
 
 impl MadeOfText for AllocRingBuffer<char> {
     fn made_of_text(rt: &(impl Abort + AllocGlobal), text: &str) -> Result<Self, AllocError> {
-        assert_eq!(rt; text.len(), 3);
+        assert_all_three(rt, text.len());
         AllocRingBuffer::from_text(rt.alloc(), text)
     }
 
     fn made_of_string(rt: &(impl Abort + AllocGlobal), text: String) -> Result<Self, AllocError> {
-        assert_eq!(rt; text.len(), 3);
+        assert_all_three(rt, text.len());
         AllocRingBuffer::from_string(rt.alloc(), text)
     }
 }
@@ -336,9 +336,9 @@ fn is_spelled_in_a_drought<R: RingBuffer<char> + MadeOfText + Drop>(
     rt: &(impl Abort + AllocGlobal),
     is_lent: bool,
     spare: usize,
-) -> Result<bool, AllocError> {
-    let string = String::from_str(rt.alloc(), "abc")?;
-    let drought = Drought::but_for(rt.alloc(), spare)?;
+) -> bool {
+    let string = String::from_str(rt.alloc(), "abc").expect(rt, "memory");
+    let drought = drought(rt, spare);
     let made = if is_lent {
         R::made_of_text(rt, "abc")
     } else {
@@ -346,39 +346,41 @@ fn is_spelled_in_a_drought<R: RingBuffer<char> + MadeOfText + Drop>(
     };
     drop(drought);
     let Ok(mut ring) = made else {
-        return Ok(false);
+        return false;
     };
     for letter in ['a', 'b', 'c'] {
         assert_equal(rt, ring.dequeue(), Some(letter));
     }
-    assert!(rt; ring.is_empty());
-    Ok(true)
+    assert_equal(rt, ring.is_empty(), true);
+    true
 }
 
-/// Makes a ring of a text in one drought after the other, until none is refused. The first is.
+/// Makes a ring of a text that is lent, and of one that isn't, each in one drought after the other until none is refused.
+/// The first is.
 fn assert_spelled_at_last<R: RingBuffer<char> + MadeOfText + Drop>(
     rt: &(impl Abort + AllocGlobal),
-    is_lent: bool,
-) -> Result<(), AllocError> {
-    for step in 0..MOST_STEPS {
-        if is_spelled_in_a_drought::<R>(rt, is_lent, spared(step))? {
-            assert!(rt; step > 0);
-            return Ok(());
+) {
+    for is_lent in [true, false] {
+        let mut refused = 0;
+        for step in 0..MOST_STEPS {
+            if is_spelled_in_a_drought::<R>(rt, is_lent, spared(step)) {
+                break;
+            }
+            refused = step + 1;
         }
+        let is_in_turn = (1..MOST_STEPS).contains(&refused);
+        assert_equal(rt, (is_lent, is_in_turn), (is_lent, true));
     }
-    panic!(rt; "each attempt was refused")
 }
 
 #[test]
-fn a_heap_ring_of_a_text_is_refused_in_turn(rt: HostRuntime) -> Result<(), AllocError> {
-    assert_spelled_at_last::<AllocRingBuffer<char>>(&rt, true)?;
-    assert_spelled_at_last::<AllocRingBuffer<char>>(&rt, false)
+fn a_heap_ring_of_a_text_is_refused_in_turn(rt: HostRuntime) {
+    assert_spelled_at_last::<AllocRingBuffer<char>>(&rt);
 }
 
 #[test]
-fn a_growable_ring_of_a_text_is_refused_in_turn(rt: HostRuntime) -> Result<(), AllocError> {
-    assert_spelled_at_last::<GrowableAllocRingBuffer<char>>(&rt, true)?;
-    assert_spelled_at_last::<GrowableAllocRingBuffer<char>>(&rt, false)
+fn a_growable_ring_of_a_text_is_refused_in_turn(rt: HostRuntime) {
+    assert_spelled_at_last::<GrowableAllocRingBuffer<char>>(&rt);
 }
 
 /// What makes an empty ring with room for eight items.
@@ -399,20 +401,20 @@ fn capacity_of<R: RingBuffer<i64> + Drop>(rt: &impl Abort, ring: R) -> usize {
 /// Makes a ring, and returns its capacity.
 fn made_by(rt: &(impl Abort + AllocGlobal), maker: &Maker) -> Result<usize, AllocError> {
     let alloc = rt.alloc();
-    Ok(match maker {
-        Maker::HeapNew => capacity_of(rt, AllocRingBuffer::new(alloc, 8)?),
-        Maker::HeapWithCapacity => capacity_of(rt, AllocRingBuffer::with_capacity(alloc, 8)?),
-        Maker::HeapWithCapacityPowerOf2 => {
-            capacity_of(rt, AllocRingBuffer::with_capacity_power_of_2(alloc, 3)?)
-        }
+    let ring = match maker {
+        Maker::HeapNew => AllocRingBuffer::new(alloc, 8)?,
+        Maker::HeapWithCapacity => AllocRingBuffer::with_capacity(alloc, 8)?,
+        Maker::HeapWithCapacityPowerOf2 => AllocRingBuffer::with_capacity_power_of_2(alloc, 3)?,
         Maker::GrowableWithCapacity => {
-            capacity_of(rt, GrowableAllocRingBuffer::with_capacity(alloc, 8)?)
+            let ring = GrowableAllocRingBuffer::with_capacity(alloc, 8)?;
+            return Ok(capacity_of(rt, ring));
         }
-    })
+    };
+    Ok(capacity_of(rt, ring))
 }
 
 #[test]
-fn a_maker_is_refused_in_turn(rt: HostRuntime) -> Result<(), AllocError> {
+fn a_maker_is_refused_in_turn(rt: HostRuntime) {
     for maker in [
         Maker::HeapNew,
         Maker::HeapWithCapacity,
@@ -421,7 +423,7 @@ fn a_maker_is_refused_in_turn(rt: HostRuntime) -> Result<(), AllocError> {
     ] {
         let mut refused = 0;
         for step in 0..MOST_STEPS {
-            let drought = Drought::but_for(rt.alloc(), spared(step))?;
+            let drought = drought(&rt, spared(step));
             let made = made_by(&rt, &maker);
             drop(drought);
             if let Ok(capacity) = made {
@@ -432,11 +434,10 @@ fn a_maker_is_refused_in_turn(rt: HostRuntime) -> Result<(), AllocError> {
         }
         assert!(rt; (1..MOST_STEPS).contains(&refused), "by {maker:?}");
     }
-    Ok(())
 }
 
 /// How items are lent to a conversion that clones them.
-#[derive(Debug, Drop)]
+#[derive(Debug, Drop, PartialEq)]
 enum Lent {
     Slice,
     MutSlice,
@@ -505,8 +506,7 @@ pub fn is_cloned<'a, R: RingBuffer<Counted<'a>> + Drop>(
 ) -> bool {
     let is_made = made.is_ok();
     if let Ok(ring) = made {
-        assert_equal(rt, ring.len(), 3);
-        assert_numbered(rt, &ring, 3);
+        assert_three(rt, &ring, 3);
     }
     supply.assert_all_dropped_but(rt, 3);
     is_made
@@ -518,93 +518,89 @@ fn is_made_of_clones<'a, R>(
     supply: &'a Supply,
     lent: &Lent,
     spare: Option<usize>,
-) -> Result<bool, AllocError>
+) -> bool
 where
     R: RingBuffer<Counted<'a>> + MadeOfClones<Counted<'a>> + Drop,
 {
     let mut items = [supply.item(rt), supply.item(rt), supply.item(rt)];
-    let drought = match spare {
-        Some(bytes) => Some(Drought::but_for(rt.alloc(), bytes)?),
-        None => None,
-    };
+    let drought = drought_if(rt, spare);
     let made = R::made_of_clones(rt.alloc(), &mut items, lent);
     drop(drought);
     let is_made = is_cloned(rt, made, supply);
-    drop(items);
-    supply.assert_each_dropped(rt);
-    Ok(is_made)
+    supply.assert_each_dropped_with(rt, items);
+    is_made
+}
+
+/// The same for a type of ring.
+fn is_made_of_clones_as(
+    rt: &(impl Abort + AllocGlobal),
+    supply: &Supply,
+    kind: &Kind,
+    lent: &Lent,
+    spare: Option<usize>,
+) -> bool {
+    match kind {
+        Kind::Array => {
+            is_made_of_clones::<ConstGenericRingBuffer<Counted, 3>>(rt, supply, lent, spare)
+        }
+        Kind::Heap => is_made_of_clones::<AllocRingBuffer<Counted>>(rt, supply, lent, spare),
+        Kind::Growable => {
+            is_made_of_clones::<GrowableAllocRingBuffer<Counted>>(rt, supply, lent, spare)
+        }
+    }
 }
 
 /// Clones three items into a ring, where from none to three clones are had.
-fn assert_clones_needed<'a, R>(
-    rt: &(impl Abort + AllocGlobal),
-    supply: &'a Supply,
-) -> Result<(), AllocError>
-where
-    R: RingBuffer<Counted<'a>> + MadeOfClones<Counted<'a>> + Drop,
-{
+fn assert_clones_needed(rt: &(impl Abort + AllocGlobal), kind: &Kind) {
+    let supply = Supply::new(rt, 6);
     for lent in &EACH_LENT {
         for clones in 0..4 {
             supply.begin_again_with(clones + 3);
-            let is_made = is_made_of_clones::<R>(rt, supply, lent, None)?;
-            assert_eq!(rt; is_made, clones == 3, "of {lent:?}");
-            assert_eq!(rt; supply.given(), clones + 3, "of {lent:?}");
+            let is_made = is_made_of_clones_as(rt, &supply, kind, lent, None);
+            let found = (lent, is_made, supply.given());
+            assert_equal(rt, found, (lent, clones == 3, clones + 3));
         }
     }
-    Ok(())
 }
 
 #[test]
-fn a_refused_clone_ends_an_array_ring_of_references(rt: HostRuntime) -> Result<(), AllocError> {
-    let supply = Supply::new(rt.alloc(), 6)?;
-    assert_clones_needed::<ConstGenericRingBuffer<Counted, 3>>(&rt, &supply)
+fn a_refused_clone_ends_an_array_ring_of_references(rt: HostRuntime) {
+    assert_clones_needed(&rt, &Kind::Array);
 }
 
 #[test]
-fn a_refused_clone_ends_a_heap_ring_of_references(rt: HostRuntime) -> Result<(), AllocError> {
-    let supply = Supply::new(rt.alloc(), 6)?;
-    assert_clones_needed::<AllocRingBuffer<Counted>>(&rt, &supply)
+fn a_refused_clone_ends_a_heap_ring_of_references(rt: HostRuntime) {
+    assert_clones_needed(&rt, &Kind::Heap);
 }
 
 #[test]
-fn a_refused_clone_ends_a_growable_ring_of_references(rt: HostRuntime) -> Result<(), AllocError> {
-    let supply = Supply::new(rt.alloc(), 6)?;
-    assert_clones_needed::<GrowableAllocRingBuffer<Counted>>(&rt, &supply)
+fn a_refused_clone_ends_a_growable_ring_of_references(rt: HostRuntime) {
+    assert_clones_needed(&rt, &Kind::Growable);
 }
 
-/// Clones three items into a ring in one drought after the other, until none is refused. The first is.
-fn assert_cloned_at_last<'a, R>(
-    rt: &(impl Abort + AllocGlobal),
-    supply: &'a Supply,
-    lent: &Lent,
-) -> Result<(), AllocError>
-where
-    R: RingBuffer<Counted<'a>> + MadeOfClones<Counted<'a>> + Drop,
-{
-    for step in 0..MOST_STEPS {
-        supply.begin_again();
-        if is_made_of_clones::<R>(rt, supply, lent, Some(spared(step)))? {
-            assert!(rt; step > 0, "of {lent:?}");
-            return Ok(());
+/// Clones three items into a ring, lent in each way, in one drought after the other until none is refused. The first is.
+fn assert_cloned_at_last(rt: &(impl Abort + AllocGlobal), kind: &Kind) {
+    let supply = Supply::new(rt, 6);
+    for lent in &EACH_LENT {
+        let mut refused = 0;
+        for step in 0..MOST_STEPS {
+            supply.begin_again();
+            if is_made_of_clones_as(rt, &supply, kind, lent, Some(spared(step))) {
+                break;
+            }
+            refused = step + 1;
         }
+        let is_in_turn = (1..MOST_STEPS).contains(&refused);
+        assert_equal(rt, (lent, is_in_turn), (lent, true));
     }
-    panic!(rt; "each attempt was refused")
 }
 
 #[test]
-fn a_refused_heap_ring_leaves_what_it_clones(rt: HostRuntime) -> Result<(), AllocError> {
-    let supply = Supply::new(rt.alloc(), 6)?;
-    for lent in &EACH_LENT {
-        assert_cloned_at_last::<AllocRingBuffer<Counted>>(&rt, &supply, lent)?;
-    }
-    Ok(())
+fn a_refused_heap_ring_leaves_what_it_clones(rt: HostRuntime) {
+    assert_cloned_at_last(&rt, &Kind::Heap);
 }
 
 #[test]
-fn a_refused_growable_ring_leaves_what_it_clones(rt: HostRuntime) -> Result<(), AllocError> {
-    let supply = Supply::new(rt.alloc(), 6)?;
-    for lent in &EACH_LENT {
-        assert_cloned_at_last::<GrowableAllocRingBuffer<Counted>>(&rt, &supply, lent)?;
-    }
-    Ok(())
+fn a_refused_growable_ring_leaves_what_it_clones(rt: HostRuntime) {
+    assert_cloned_at_last(&rt, &Kind::Growable);
 }

@@ -2,24 +2,41 @@
 
 ghost use Rattle.std.specs.Prelude.{◌<◌, ◌^◌};
 
-use super::{assert_equal, assert_holds, push_all};
+use super::{assert_equal, assert_holds, assert_steps, push_all};
 use ring_test_support::rings::Twin;
+use ring_test_support::steps::Step;
 use ringbuffer::{AllocRingBuffer, ConstGenericRingBuffer, GrowableAllocRingBuffer, RingBuffer};
 use std::alloc::AllocError;
+use std::fmt::Debug;
 use std::process::Abort;
 
 /// What a test does with a ring that is new, and another like it.
-trait TwinCase {
-    fn on<R: RingBuffer<i64> + PartialEq + Twin + Drop>(
+pub trait TwinCase {
+    fn on<R: RingBuffer<i64> + PartialEq + Debug + Twin + Drop>(
         &self,
-        rt: &impl Abort,
+        rt: &(impl Abort + AllocGlobal),
         one: R,
         other: R,
     ) -> Result<(), AllocError>;
 }
 
+/// The case on two heap rings of these capacities.
+fn on_heap(
+    rt: &(impl Abort + AllocGlobal),
+    one: usize,
+    other: usize,
+    case: &impl TwinCase,
+) -> Result<(), AllocError>
+    requires some { 0 < one }
+    requires some_too { 0 < other }
+{
+    let one = AllocRingBuffer::new(rt.alloc(), one)?;
+    let other = AllocRingBuffer::new(rt.alloc(), other)?;
+    case.on(rt, one, other)
+}
+
 /// The case on two rings of each type that has a limit.
-fn on_fixed<const CAP: usize>(
+pub fn on_fixed<const CAP: usize>(
     rt: &(impl Abort + AllocGlobal),
     case: &impl TwinCase,
 ) -> Result<(), AllocError>
@@ -31,13 +48,11 @@ fn on_fixed<const CAP: usize>(
         ConstGenericRingBuffer::<i64, CAP>::new(),
         ConstGenericRingBuffer::<i64, CAP>::new(),
     )?;
-    let one = AllocRingBuffer::new(rt.alloc(), CAP)?;
-    let other = AllocRingBuffer::new(rt.alloc(), CAP)?;
-    case.on(rt, one, other)
+    on_heap(rt, CAP, CAP, case)
 }
 
 /// The case on two growable rings, which have room for so many items.
-fn on_growable<const CAP: usize>(
+pub fn on_growable<const CAP: usize>(
     rt: &(impl Abort + AllocGlobal),
     case: &impl TwinCase,
 ) -> Result<(), AllocError> {
@@ -69,23 +84,34 @@ fn a_default_ring_equals_a_new_one(rt: HostRuntime) {
     );
 }
 
+/// Both are equal, or neither equals the other.
+fn assert_compares<R: PartialEq>(rt: &impl Abort, one: &R, other: &R, equal: bool) {
+    assert_equal(rt, *one == *other, equal);
+    assert_equal(rt, *one != *other, !equal);
+}
+
+/// What is pushed onto one ring, what onto another, and whether they are equal then.
+const PUSHES: &[(&[i64], &[i64], bool)] = &[
+    (&[], &[], true),
+    (&[1], &[], false),
+    (&[], &[1], true),
+    (&[4], &[2], false),
+];
+
 struct EqualItems;
 
 impl TwinCase for EqualItems {
-    fn on<R: RingBuffer<i64> + PartialEq + Twin + Drop>(
+    fn on<R: RingBuffer<i64> + PartialEq + Debug + Twin + Drop>(
         &self,
-        rt: &impl Abort,
+        rt: &(impl Abort + AllocGlobal),
         mut one: R,
         mut other: R,
     ) -> Result<(), AllocError> {
-        assert!(rt; one == other);
-        push_all(rt, &mut one, &[1]);
-        assert!(rt; one != other);
-        push_all(rt, &mut other, &[1]);
-        assert!(rt; one == other);
-        push_all(rt, &mut one, &[4]);
-        push_all(rt, &mut other, &[2]);
-        assert!(rt; one != other);
+        for (onto_one, onto_other, equal) in PUSHES {
+            push_all(rt, &mut one, onto_one);
+            push_all(rt, &mut other, onto_other);
+            assert_compares(rt, &one, &other, *equal);
+        }
         Ok(())
     }
 }
@@ -95,32 +121,48 @@ fn rings_are_equal_where_their_items_are(rt: HostRuntime) -> Result<(), AllocErr
     on_each::<4>(&rt, &EqualItems)
 }
 
-#[test]
-fn heap_rings_of_two_capacities_differ(rt: HostRuntime) -> Result<(), AllocError> {
-    let mut of_four = AllocRingBuffer::new(rt.alloc(), 4)?;
-    let mut of_five = AllocRingBuffer::new(rt.alloc(), 5)?;
-    push_all(&rt, &mut of_four, &[1, 2]);
-    push_all(&rt, &mut of_five, &[1, 2]);
-    assert!(rt; of_four != of_five);
-    Ok(())
-}
+struct OfTwoCapacities;
 
-struct EqualInOtherSlots;
-
-impl TwinCase for EqualInOtherSlots {
-    fn on<R: RingBuffer<i64> + PartialEq + Twin + Drop>(
+impl TwinCase for OfTwoCapacities {
+    fn on<R: RingBuffer<i64> + PartialEq + Debug + Twin + Drop>(
         &self,
-        rt: &impl Abort,
+        rt: &(impl Abort + AllocGlobal),
         mut one: R,
         mut other: R,
     ) -> Result<(), AllocError> {
         push_all(rt, &mut one, &[1, 2]);
-        push_all(rt, &mut other, &[0, 0, 0]);
-        for _ in 0..3 {
-            other.skip();
-        }
         push_all(rt, &mut other, &[1, 2]);
-        assert!(rt; one == other);
+        assert_compares(rt, &one, &other, false);
+        Ok(())
+    }
+}
+
+#[test]
+fn heap_rings_of_two_capacities_differ(rt: HostRuntime) -> Result<(), AllocError> {
+    on_heap(&rt, 4, 5, &OfTwoCapacities)
+}
+
+/// Leaves 1 and 2 at later slots than a ring that is new has them.
+const LATER_SLOTS: &[Step] = &[
+    Step::PushAll(&[0, 0, 0]),
+    Step::Skip,
+    Step::Skip,
+    Step::Skip,
+    Step::PushAll(&[1, 2]),
+];
+
+struct EqualInOtherSlots;
+
+impl TwinCase for EqualInOtherSlots {
+    fn on<R: RingBuffer<i64> + PartialEq + Debug + Twin + Drop>(
+        &self,
+        rt: &(impl Abort + AllocGlobal),
+        mut one: R,
+        mut other: R,
+    ) -> Result<(), AllocError> {
+        push_all(rt, &mut one, &[1, 2]);
+        assert_steps(rt, &mut other, LATER_SLOTS);
+        assert_compares(rt, &one, &other, true);
         Ok(())
     }
 }
@@ -137,18 +179,18 @@ struct SamePushes {
 }
 
 impl TwinCase for SamePushes {
-    fn on<R: RingBuffer<i64> + PartialEq + Twin + Drop>(
+    fn on<R: RingBuffer<i64> + PartialEq + Debug + Twin + Drop>(
         &self,
-        rt: &impl Abort,
+        rt: &(impl Abort + AllocGlobal),
         mut ring: R,
         _other: R,
     ) -> Result<(), AllocError> {
         push_all(rt, &mut ring, &[42, 32, 22]);
         let mut twin = ring.twin()?;
-        assert!(rt; twin == ring);
+        assert_compares(rt, &twin, &ring, true);
         push_all(rt, &mut ring, &[11, 12]);
         push_all(rt, &mut twin, &[11, 12]);
-        assert!(rt; twin == ring);
+        assert_compares(rt, &twin, &ring, true);
         assert_holds(rt, &ring, self.held);
         assert_holds(rt, &twin, self.held);
         Ok(())
@@ -170,9 +212,9 @@ fn a_clone_stays_equal_under_the_same_pushes(rt: HostRuntime) -> Result<(), Allo
 struct PushesOnAClone;
 
 impl TwinCase for PushesOnAClone {
-    fn on<R: RingBuffer<i64> + PartialEq + Twin + Drop>(
+    fn on<R: RingBuffer<i64> + PartialEq + Debug + Twin + Drop>(
         &self,
-        rt: &impl Abort,
+        rt: &(impl Abort + AllocGlobal),
         mut ring: R,
         _other: R,
     ) -> Result<(), AllocError> {
@@ -181,7 +223,7 @@ impl TwinCase for PushesOnAClone {
         push_all(rt, &mut twin, &[11, 12]);
         assert_holds(rt, &ring, &[1, 2]);
         assert_holds(rt, &twin, &[1, 2, 11, 12]);
-        assert!(rt; twin != ring);
+        assert_compares(rt, &twin, &ring, false);
         Ok(())
     }
 }
@@ -189,54 +231,67 @@ impl TwinCase for PushesOnAClone {
 #[test]
 fn pushes_on_a_clone_leave_the_source(rt: HostRuntime) -> Result<(), AllocError> {
     on_fixed::<4>(&rt, &PushesOnAClone)?;
-    PushesOnAClone.on(
-        &rt,
-        GrowableAllocRingBuffer::new(rt.alloc()),
-        GrowableAllocRingBuffer::new(rt.alloc()),
-    )
+    on_growable::<0>(&rt, &PushesOnAClone)
+}
+
+/// A clone of an empty ring of this capacity.
+#[derive(Drop)]
+struct EmptyTwin {
+    capacity: usize,
+}
+
+impl TwinCase for EmptyTwin {
+    fn on<R: RingBuffer<i64> + PartialEq + Debug + Twin + Drop>(
+        &self,
+        rt: &(impl Abort + AllocGlobal),
+        ring: R,
+        _other: R,
+    ) -> Result<(), AllocError> {
+        let twin = ring.twin()?;
+        assert_compares(rt, &twin, &ring, true);
+        assert_equal(rt, twin.capacity(), self.capacity);
+        Ok(())
+    }
 }
 
 #[test]
 fn an_empty_heap_ring_is_cloned_with_its_capacity(rt: HostRuntime) -> Result<(), AllocError> {
-    fn twin_of(ring: &AllocRingBuffer<i64>) -> Result<AllocRingBuffer<i64>, AllocError> {
-        ring.clone()
-    }
-    for capacity in [2, 5] {
-        let ring = AllocRingBuffer::new(rt.alloc(), capacity)?;
-        let twin = twin_of(&ring)?;
-        assert!(rt; twin == ring);
-        assert_equal(&rt, twin.capacity(), capacity);
-    }
-    Ok(())
+    on_heap(&rt, 2, 2, &EmptyTwin { capacity: 2 })?;
+    on_heap(&rt, 5, 5, &EmptyTwin { capacity: 5 })
 }
+
+/// Leaves a full ring of capacity 5.
+const FILLED: &[Step] = &[Step::PushAll(&[0, 1, 2, 3, 4, 5, 6]), Step::Fill(4)];
+
+/// The clone of that ring takes a push.
+const PUSHED: &[Step] = &[
+    Step::Capacity(5),
+    Step::PushAll(&[1]),
+    Step::Holds(&[4, 4, 4, 4, 1]),
+];
 
 /// A clone of a full ring of capacity 5, in as many slots as it has.
 struct FullTwin;
 
 impl TwinCase for FullTwin {
-    fn on<R: RingBuffer<i64> + PartialEq + Twin + Drop>(
+    fn on<R: RingBuffer<i64> + PartialEq + Debug + Twin + Drop>(
         &self,
-        rt: &impl Abort,
+        rt: &(impl Abort + AllocGlobal),
         mut ring: R,
         _other: R,
     ) -> Result<(), AllocError> {
-        push_all(rt, &mut ring, &[0, 1, 2, 3, 4, 5, 6]);
-        ring.fill(4)?;
+        assert_steps(rt, &mut ring, FILLED);
         let mut twin = ring.twin()?;
-        assert!(rt; twin == ring);
-        assert_equal(rt, twin.capacity(), 5);
+        assert_compares(rt, &twin, &ring, true);
         assert_equal(rt, twin.buffer_size(), 8);
-        push_all(rt, &mut twin, &[1]);
+        assert_steps(rt, &mut twin, PUSHED);
         assert_holds(rt, &ring, &[4, 4, 4, 4, 4]);
-        assert_holds(rt, &twin, &[4, 4, 4, 4, 1]);
-        assert!(rt; twin != ring);
+        assert_compares(rt, &twin, &ring, false);
         Ok(())
     }
 }
 
 #[test]
 fn a_clone_of_a_full_heap_ring_keeps_its_capacity(rt: HostRuntime) -> Result<(), AllocError> {
-    let ring = AllocRingBuffer::new(rt.alloc(), 5)?;
-    let other = AllocRingBuffer::new(rt.alloc(), 5)?;
-    FullTwin.on(&rt, ring, other)
+    on_heap(&rt, 5, 5, &FullTwin)
 }

@@ -1,38 +1,48 @@
 //! What `{:?}` writes.
 
+use super::comparison::{TwinCase, on_fixed, on_growable};
 use super::{assert_equal, push_all};
-use ringbuffer::{AllocRingBuffer, ConstGenericRingBuffer, GrowableAllocRingBuffer, RingBuffer};
+use ring_test_support::rings::Twin;
+use ringbuffer::RingBuffer;
 use std::alloc::AllocError;
 use std::fmt::Debug;
 use std::process::Abort;
 
 /// A ring that these items were pushed onto writes this text.
-fn assert_writes<R: RingBuffer<i64> + Debug + Drop>(
-    rt: &(impl Abort + AllocGlobal),
-    mut ring: R,
-    items: &[i64],
-    text: &str,
-) -> Result<(), AllocError> {
-    push_all(rt, &mut ring, items);
-    let written = format!(in rt.alloc(); "{ring:?}")?;
-    assert_equal(rt, written.as_str(), text);
-    Ok(())
+#[derive(Drop)]
+struct Writes {
+    items: &'static [i64],
+    text: &'static str,
+}
+
+impl TwinCase for Writes {
+    fn on<R: RingBuffer<i64> + PartialEq + Debug + Twin + Drop>(
+        &self,
+        rt: &(impl Abort + AllocGlobal),
+        mut ring: R,
+        _other: R,
+    ) -> Result<(), AllocError> {
+        push_all(rt, &mut ring, self.items);
+        let written = format!(in rt.alloc(); "{ring:?}")?;
+        assert_equal(rt, written.as_str(), self.text);
+        Ok(())
+    }
 }
 
 /// A ring of each type that these items were pushed onto writes its text.
 fn assert_each_writes(
     rt: &(impl Abort + AllocGlobal),
-    items: &[i64],
-    fixed: &str,
-    growable: &str,
+    items: &'static [i64],
+    fixed: &'static str,
+    growable: &'static str,
 ) -> Result<(), AllocError> {
-    assert_writes(rt, ConstGenericRingBuffer::<i64, 3>::new(), items, fixed)?;
-    assert_writes(rt, AllocRingBuffer::new(rt.alloc(), 3)?, items, fixed)?;
-    assert_writes(
+    on_fixed::<3>(rt, &Writes { items, text: fixed })?;
+    on_growable::<0>(
         rt,
-        GrowableAllocRingBuffer::new(rt.alloc()),
-        items,
-        growable,
+        &Writes {
+            items,
+            text: growable,
+        },
     )
 }
 

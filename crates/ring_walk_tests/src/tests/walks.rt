@@ -1,13 +1,18 @@
 //! Walks over the items: reading, writing and taking; lists of the items.
 
-use super::{assert_equal, assert_holds, push_all};
+ghost use Rattle.std.specs.Prelude.{◌<◌};
+
+use super::{assert_equal, assert_holds, assert_steps, push_all};
 use End::{Back, Front};
+use Pass::{Beyond, From};
 use ring_test_support::rings::{Case, Rings};
+use ring_test_support::steps::Step;
 use ringbuffer::{
     AllocRingBuffer, ConstGenericRingBuffer, GrowableAllocRingBuffer, RingBuffer,
     RingBufferDrainingIterator, RingBufferIntoIterator, RingBufferIterator, RingBufferMutIterator,
 };
 use std::alloc::AllocError;
+use std::fmt::Debug;
 use std::process::Abort;
 
 /// An end that a walk takes a step from.
@@ -143,14 +148,17 @@ fn an_ended_walk_stays_ended(rt: HostRuntime) -> Result<(), AllocError> {
     Rings::<8>::each(&rt, &Steps { items, steps })
 }
 
+/// The steps of a walk that has nothing to come.
+const NOTHING: &[(End, Option<i64>)] = &[(Front, None), (Back, None)];
+
 struct NothingToCome;
 
 impl<Rt: Abort + AllocGlobal> Case<Rt> for NothingToCome {
     fn on<R: RingBuffer<i64> + Drop>(&self, rt: &Rt, mut ring: R) -> Result<(), AllocError> {
-        assert_reads(rt, &ring, &[(Front, None), (Back, None)]);
-        assert_lends(rt, &mut ring, &[(Front, None), (Back, None)]);
-        assert!(rt; RingBufferDrainingIterator::new(&mut ring).next().is_none());
-        assert!(rt; RingBufferIntoIterator::new(ring).next().is_none());
+        assert_reads(rt, &ring, NOTHING);
+        assert_lends(rt, &mut ring, NOTHING);
+        assert_drains(rt, &mut ring, &[]);
+        assert_takes(rt, ring, &[]);
         Ok(())
     }
 }
@@ -176,48 +184,73 @@ fn a_walk_reads_in_order(rt: HostRuntime) -> Result<(), AllocError> {
     Rings::<7>::each(&rt, &Steps { items, steps })
 }
 
-/// A walk over the items from 1 to 7 passes over some from the front, until too few are left.
-fn assert_passes<R: RingBuffer<i64>>(rt: &impl Abort, ring: &R) {
-    let mut walk = RingBufferIterator::new(ring);
-    assert_equal(rt, walk.nth(0).copied(), Some(1));
-    assert_equal(rt, walk.nth(2).copied(), Some(4));
-    assert_equal(rt, walk.next_back().copied(), Some(7));
-    assert!(rt; walk.nth(2).is_none(), "5 and 6 are left");
-    assert!(rt; walk.next().is_none());
-    assert!(rt; walk.next_back().is_none());
+/// A step of a reading walk that may pass over items.
+#[derive(Clone, Copy)]
+enum Pass {
+    /// From the front, beyond so many.
+    Beyond(usize),
+    From(End),
 }
 
-/// A walk that passes over all items has ended.
-fn assert_passes_all<R: RingBuffer<i64>>(rt: &impl Abort, ring: &R) {
-    let mut walk = RingBufferIterator::new(ring);
-    assert!(rt; walk.nth(usize::MAX).is_none());
-    assert!(rt; walk.next_back().is_none());
-    assert_equal(rt, walk.count(), 0);
+/// What such a step finds.
+fn found_by<R: RingBuffer<i64>>(
+    walk: &mut RingBufferIterator<'_, i64, R>,
+    step: Pass,
+) -> Option<i64> {
+    match step {
+        Beyond(count) => walk.nth(count).copied(),
+        From(end) => read(walk, end),
+    }
 }
 
-/// A walk over the items from 1 to 7 counts what is left, and finds the last.
-fn assert_counts<R: RingBuffer<i64>>(rt: &impl Abort, ring: &R) {
+/// Steps of a reading walk, each with what it finds. The walk then counts so many that are left.
+fn assert_passes<R: RingBuffer<i64>>(
+    rt: &impl Abort,
+    ring: &R,
+    steps: &[(Pass, Option<i64>)],
+    left: usize,
+) {
     let mut walk = RingBufferIterator::new(ring);
-    let _ = walk.next();
-    assert_equal(rt, walk.count(), 6);
-    assert_equal(rt, RingBufferIterator::new(ring).last().copied(), Some(7));
+    for (step, found) in steps {
+        assert_equal(rt, found_by(&mut walk, *step), *found);
+    }
+    assert_equal(rt, walk.count(), left);
 }
+
+/// On a ring of eight slots the last of the items from 1 to 7 lie at the first slots.
+const FROM_ONE_TO_SEVEN: &[Step] = &[
+    Step::PushAll(&[0, 0, 0, 0, 0]),
+    Step::Clear,
+    Step::PushAll(&[-1, -2, -3, -4, 1]),
+    Step::Skip,
+    Step::Skip,
+    Step::Skip,
+    Step::Skip,
+    Step::PushAll(&[2, 3, 4, 5, 6, 7]),
+];
+
+/// Passes over some of them, until too few are left.
+const OVER_SOME: &[(Pass, Option<i64>)] = &[
+    (Beyond(0), Some(1)),
+    (Beyond(2), Some(4)),
+    (From(Back), Some(7)),
+    (Beyond(2), None),
+    (From(Front), None),
+    (From(Back), None),
+];
+
+const OVER_ALL: &[(Pass, Option<i64>)] = &[(Beyond(usize::MAX), None), (From(Back), None)];
 
 struct PassesOver;
 
 impl<Rt: Abort + AllocGlobal> Case<Rt> for PassesOver {
     fn on<R: RingBuffer<i64> + Drop>(&self, rt: &Rt, mut ring: R) -> Result<(), AllocError> {
-        // On a ring of eight slots the last of the seven items lie at the first slots.
-        push_all(rt, &mut ring, &[0, 0, 0, 0, 0]);
-        ring.clear();
-        push_all(rt, &mut ring, &[-1, -2, -3, -4, 1]);
-        for _ in 0..4 {
-            ring.skip();
-        }
-        push_all(rt, &mut ring, &[2, 3, 4, 5, 6, 7]);
-        assert_passes(rt, &ring);
-        assert_passes_all(rt, &ring);
-        assert_counts(rt, &ring);
+        assert_steps(rt, &mut ring, FROM_ONE_TO_SEVEN);
+        assert_passes(rt, &ring, OVER_SOME, 0);
+        assert_passes(rt, &ring, OVER_ALL, 0);
+        assert_passes(rt, &ring, &[(From(Front), Some(1))], 6);
+        let last = RingBufferIterator::new(&ring).last().copied();
+        assert_equal(rt, last, Some(7));
         Ok(())
     }
 }
@@ -227,15 +260,17 @@ fn a_walk_passes_over_items(rt: HostRuntime) -> Result<(), AllocError> {
     Rings::<8>::each(&rt, &PassesOver)
 }
 
-/// An owning walk has so many items still to come, and takes this one.
-fn assert_takes<R: RingBuffer<i64> + Drop>(
-    rt: &impl Abort,
-    walk: &mut RingBufferIntoIterator<i64, R>,
-    left: usize,
-    item: i64,
-) {
-    assert_to_come(rt, walk.size_hint(), left, Some(item));
-    assert_equal(rt, walk.next(), Some(item));
+/// An owning walk takes these items, and then none. The number still to come is exact before each.
+fn assert_takes<R: RingBuffer<i64> + Drop>(rt: &impl Abort, ring: R, items: &[i64]) {
+    let mut left = items.len();
+    let mut walk = RingBufferIntoIterator::new(ring);
+    for item in items {
+        assert_to_come(rt, walk.size_hint(), left, Some(*item));
+        assert_equal(rt, walk.next(), Some(*item));
+        left = left.saturating_sub(1);
+    }
+    assert_to_come(rt, walk.size_hint(), 0, None);
+    assert_equal(rt, walk.next(), None);
 }
 
 struct TakesInOrder;
@@ -243,12 +278,7 @@ struct TakesInOrder;
 impl<Rt: Abort + AllocGlobal> Case<Rt> for TakesInOrder {
     fn on<R: RingBuffer<i64> + Drop>(&self, rt: &Rt, mut ring: R) -> Result<(), AllocError> {
         push_all(rt, &mut ring, &[1, 2, 3, 4, 5, 6, 7]);
-        let mut walk = RingBufferIntoIterator::new(ring);
-        for (item, left) in [(1, 7), (2, 6), (3, 5), (4, 4), (5, 3), (6, 2), (7, 1)] {
-            assert_takes(rt, &mut walk, left, item);
-        }
-        assert_equal(rt, walk.size_hint(), (0, Some(0)));
-        assert!(rt; walk.next().is_none());
+        assert_takes(rt, ring, &[1, 2, 3, 4, 5, 6, 7]);
         Ok(())
     }
 }
@@ -258,73 +288,60 @@ fn an_owning_walk_takes_in_order(rt: HostRuntime) -> Result<(), AllocError> {
     Rings::<8>::each(&rt, &TakesInOrder)
 }
 
-/// Pushes each letter of a text of three.
-fn push_letters<'a, R: RingBuffer<&'a str>>(rt: &impl Abort, ring: &mut R, text: &'a str) {
-    for i in 0..3 {
-        let letter = text.get(i..i + 1).expect(rt, "three letters");
-        assert!(rt; ring.push(letter).is_ok());
+/// A ring takes three items, and a walk reads what they equal. The oldest is then written over the newest.
+fn assert_borrows<T: Copy + PartialEq + Debug + Drop, R: RingBuffer<T> + Drop>(
+    rt: &impl Abort,
+    mut ring: R,
+    items: &[T],
+    equal: &[T],
+) {
+    for item in items {
+        assert!(rt; ring.push(*item).is_ok());
     }
+    let mut walk = RingBufferIterator::new(&ring);
+    for item in equal {
+        assert_equal(rt, walk.next(), Some(item));
+    }
+    let oldest = ring.dequeue().expect(rt, "an item");
+    *ring.back_mut().expect(rt, "a newest item") = oldest;
+    assert_equal(rt, ring.get(0), equal.get(1));
+    assert_equal(rt, ring.get(1), equal.get(0));
 }
 
-/// A walk reads these letters.
-fn assert_letters<'a, R: RingBuffer<&'a str>>(rt: &impl Abort, ring: &R, letters: &[&str]) {
-    let mut walk = RingBufferIterator::new(ring);
-    for letter in letters {
-        assert!(rt; *walk.next().expect(rt, "a letter") == *letter);
-    }
+/// The same on a heap ring and a growable ring, with room for so many items.
+fn assert_borrows_with_capacity<T: Copy + PartialEq + Debug + Drop>(
+    rt: &(impl Abort + AllocGlobal),
+    capacity: usize,
+    items: &[T],
+    equal: &[T],
+) -> Result<(), AllocError>
+    requires some { 0 < capacity }
+{
+    let heap = AllocRingBuffer::new(rt.alloc(), capacity)?;
+    assert_borrows(rt, heap, items, equal);
+    let growable = GrowableAllocRingBuffer::with_capacity(rt.alloc(), capacity)?;
+    assert_borrows(rt, growable, items, equal);
+    Ok(())
 }
 
 #[test]
 fn items_may_be_borrowed_texts(rt: HostRuntime) -> Result<(), AllocError> {
-    fn on<'a, R: RingBuffer<&'a str> + Drop>(rt: &impl Abort, mut ring: R, text: &'a str) {
-        push_letters(rt, &mut ring, text);
-        assert_letters(rt, &ring, &["a", "b", "c"]);
-    }
     let text = String::from_str(rt.alloc(), "abc")?;
-    on(&rt, ConstGenericRingBuffer::<&str, 8>::new(), text.as_str());
-    on(&rt, AllocRingBuffer::new(rt.alloc(), 8)?, text.as_str());
-    on(
-        &rt,
-        GrowableAllocRingBuffer::with_capacity(rt.alloc(), 8)?,
-        text.as_str(),
-    );
-    Ok(())
-}
-
-/// Pushes a reference to each number.
-fn push_references<'a, R: RingBuffer<&'a i64>>(rt: &impl Abort, ring: &mut R, numbers: &'a [i64]) {
-    for number in numbers {
-        assert!(rt; ring.push(number).is_ok());
-    }
-}
-
-/// A walk reads references to these numbers.
-fn assert_refers<'a, R: RingBuffer<&'a i64>>(rt: &impl Abort, ring: &R, numbers: &[i64]) {
-    let mut walk = RingBufferIterator::new(ring);
-    for number in numbers {
-        assert_equal(rt, **walk.next().expect(rt, "an item to come"), *number);
-    }
+    let letters = [&text[0..1], &text[1..2], &text[2..3]];
+    let equal = ["a", "b", "c"];
+    let array = ConstGenericRingBuffer::<&str, 8>::new();
+    assert_borrows(&rt, array, &letters, &equal);
+    assert_borrows_with_capacity(&rt, 8, &letters, &equal)
 }
 
 #[test]
 fn items_may_be_references(rt: HostRuntime) -> Result<(), AllocError> {
-    fn on<'a, R: RingBuffer<&'a i64> + Drop>(rt: &impl Abort, mut ring: R, numbers: &'a [i64]) {
-        push_references(rt, &mut ring, numbers);
-        assert_refers(rt, &ring, numbers);
-        let oldest = ring.dequeue().expect(rt, "an item");
-        *ring.back_mut().expect(rt, "a newest item") = oldest;
-        assert_equal(rt, **ring.get(0).expect(rt, "an item"), 2);
-        assert_equal(rt, **ring.get(1).expect(rt, "an item"), 1);
-    }
     let numbers = [1, 2, 3];
-    on(&rt, ConstGenericRingBuffer::<&i64, 3>::new(), &numbers);
-    on(&rt, AllocRingBuffer::new(rt.alloc(), 3)?, &numbers);
-    on(
-        &rt,
-        GrowableAllocRingBuffer::with_capacity(rt.alloc(), 3)?,
-        &numbers,
-    );
-    Ok(())
+    let items = [&numbers[0], &numbers[1], &numbers[2]];
+    let equal = [&1, &2, &3];
+    let array = ConstGenericRingBuffer::<&i64, 3>::new();
+    assert_borrows(&rt, array, &items, &equal);
+    assert_borrows_with_capacity(&rt, 3, &items, &equal)
 }
 
 struct SideBySide;
@@ -407,42 +424,49 @@ fn a_cursor_writes_each_item(rt: HostRuntime) -> Result<(), AllocError> {
     Rings::<8>::each(&rt, &Increments)
 }
 
-struct WritesFromBothEnds;
+/// Pushes the items. A cursor adds numbers to some of them and is dropped before so many.
+#[derive(Drop)]
+struct Adds {
+    items: &'static [i64],
+    numbers: &'static [(End, i64)],
+    left: usize,
+    held: &'static [i64],
+}
 
-impl<Rt: Abort + AllocGlobal> Case<Rt> for WritesFromBothEnds {
+impl<Rt: Abort + AllocGlobal> Case<Rt> for Adds {
     fn on<R: RingBuffer<i64> + Drop>(&self, rt: &Rt, mut ring: R) -> Result<(), AllocError> {
-        push_all(rt, &mut ring, &[1, 2, 3, 4]);
+        push_all(rt, &mut ring, self.items);
         let mut walk = RingBufferMutIterator::new(&mut ring);
-        add(rt, &mut walk, Front, 10);
-        add(rt, &mut walk, Back, 20);
-        assert_equal(rt, walk.size_hint(), (2, Some(2)));
+        for (end, number) in self.numbers {
+            add(rt, &mut walk, *end, *number);
+        }
+        assert_to_come(rt, walk.size_hint(), self.left, None);
         drop(walk);
-        assert_holds(rt, &ring, &[11, 2, 3, 24]);
+        assert_holds(rt, &ring, self.held);
         Ok(())
     }
 }
 
 #[test]
 fn a_cursor_writes_from_both_ends(rt: HostRuntime) -> Result<(), AllocError> {
-    Rings::<4>::each(&rt, &WritesFromBothEnds)
-}
-
-struct WritesTheFirst;
-
-impl<Rt: Abort + AllocGlobal> Case<Rt> for WritesTheFirst {
-    fn on<R: RingBuffer<i64> + Drop>(&self, rt: &Rt, mut ring: R) -> Result<(), AllocError> {
-        push_all(rt, &mut ring, &[1, 2, 3]);
-        let mut walk = RingBufferMutIterator::new(&mut ring);
-        *walk.next().expect(rt, "a first item") = 5;
-        drop(walk);
-        assert_holds(rt, &ring, &[5, 2, 3]);
-        Ok(())
-    }
+    let adds = Adds {
+        items: &[1, 2, 3, 4],
+        numbers: &[(Front, 10), (Back, 20)],
+        left: 2,
+        held: &[11, 2, 3, 24],
+    };
+    Rings::<4>::each(&rt, &adds)
 }
 
 #[test]
 fn a_dropped_cursor_keeps_what_was_written(rt: HostRuntime) -> Result<(), AllocError> {
-    Rings::<3>::each(&rt, &WritesTheFirst)
+    let adds = Adds {
+        items: &[1, 2, 3],
+        numbers: &[(Front, 4)],
+        left: 2,
+        held: &[5, 2, 3],
+    };
+    Rings::<3>::each(&rt, &adds)
 }
 
 /// A drain takes these items, and then none. The number still to come is exact before each.
@@ -454,7 +478,7 @@ fn assert_drains<R: RingBuffer<i64>>(rt: &impl Abort, ring: &mut R, items: &[i64
         assert_equal(rt, walk.next(), Some(*item));
         left = left.saturating_sub(1);
     }
-    assert!(rt; walk.next().is_none());
+    assert_equal(rt, walk.next(), None);
 }
 
 struct DrainsAll;
@@ -527,14 +551,18 @@ fn to_vec_clones_the_items_in_order(rt: HostRuntime) -> Result<(), AllocError> {
     Rings::<8>::each(&rt, &Listed)
 }
 
+const CONTAINED: &[Step] = &[
+    Step::PushAll(&[1, 2]),
+    Step::Contains(1, true),
+    Step::Contains(2, true),
+    Step::Contains(3, false),
+];
+
 struct Contains;
 
 impl<Rt: Abort + AllocGlobal> Case<Rt> for Contains {
     fn on<R: RingBuffer<i64> + Drop>(&self, rt: &Rt, mut ring: R) -> Result<(), AllocError> {
-        push_all(rt, &mut ring, &[1, 2]);
-        assert!(rt; ring.contains(&1));
-        assert!(rt; ring.contains(&2));
-        assert!(rt; !ring.contains(&3));
+        assert_steps(rt, &mut ring, CONTAINED);
         Ok(())
     }
 }
