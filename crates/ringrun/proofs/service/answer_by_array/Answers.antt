@@ -1,0 +1,6 @@
+use Rattle.std.proofs.Common.{rules}
+use Rattle.ringrun.proofs.service.answer_by_array.Goals as goal
+
+-- found by search, which alone is tried where a wrong body breaks it
+pub answer_in_array-requires-clause-some : goal.answer_in_array-requires-clause-some
+answer_in_array-requires-clause-some g c = search rules
