@@ -34,7 +34,7 @@ struct Ending<'a> {
     errors: &'a str,
 }
 
-/// It prints this.
+/// It prints this, and no error.
 fn prints(output: &str) -> Ending<'_> {
     Ending {
         status: 0,
@@ -43,7 +43,7 @@ fn prints(output: &str) -> Ending<'_> {
     }
 }
 
-/// It prints nothing, and is told so why.
+/// It prints this error alone.
 fn fails(status: u8, errors: &str) -> Ending<'_> {
     Ending {
         status,
