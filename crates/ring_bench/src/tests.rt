@@ -4,6 +4,7 @@
 //! each type.
 
 mod ends;
+mod faults;
 mod fills;
 mod positions;
 mod pushing;
@@ -30,9 +31,14 @@ struct Steps {
 
 impl<Rt: Abort + AllocGlobal> Case<Rt> for Steps {
     fn on<R: RingBuffer<i64> + Drop>(&self, rt: &Rt, mut ring: R) -> Result<(), AllocError> {
-        assert_equal(rt, first_fault(&mut ring, self.steps), None);
+        assert_steps(rt, &mut ring, self.steps);
         Ok(())
     }
+}
+
+/// Each of the calls answers what its step says.
+fn assert_steps<R: RingBuffer<i64>>(rt: &impl Abort, ring: &mut R, steps: &[Step]) {
+    assert_equal(rt, first_fault(ring, steps), None);
 }
 
 /// The calls on a ring of each type.

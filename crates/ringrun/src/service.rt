@@ -94,17 +94,21 @@ fn answer_by_array<I: Read>(alloc: Global, capacity: usize, input: &mut I) -> Re
     ensures whole_input { IfLinesRead result (IsAtEnd (I.remaining input.new)) }
 {
     match capacity {
-        1 => answer_in_array::<1, I>(alloc, input),
-        2 => answer_in_array::<2, I>(alloc, input),
-        3 => answer_in_array::<3, I>(alloc, input),
-        4 => answer_in_array::<4, I>(alloc, input),
-        8 => answer_in_array::<8, I>(alloc, input),
-        10 => answer_in_array::<10, I>(alloc, input),
+        1 => answer_by_array_of::<1, I>(alloc, input),
+        2 => answer_by_array_of::<2, I>(alloc, input),
+        3 => answer_by_array_of::<3, I>(alloc, input),
+        4 => answer_by_array_of::<4, I>(alloc, input),
+        8 => answer_by_array_of::<8, I>(alloc, input),
+        10 => answer_by_array_of::<10, I>(alloc, input),
         _ => Err(Fault::BadArguments),
     }
 }
 
-fn answer_in_array<const CAP: usize, I: Read>(alloc: Global, input: &mut I) -> Result<String, Fault>
+/// By an array ring of this capacity, which is so small that the ring is no larger than a value may be.
+fn answer_by_array_of<const CAP: usize, I: Read>(
+    alloc: Global,
+    input: &mut I,
+) -> Result<String, Fault>
     requires some { 0 < CAP }
     requires few { CAP < 2 ^ 16 }
     ensures faults { IfErr result (λ fault. fault ≢ Fault.BadArguments) }

@@ -1,8 +1,7 @@
 //! Taking the newest item, and keeping the items of one end.
 
-use super::{STARTS, assert_equal, lay};
+use super::{STARTS, assert_equal, assert_steps, lay};
 use ring_test_support::steps::Step::{DequeueAll, Holds, PushAll, Skip};
-use ring_test_support::steps::first_fault;
 use ringbuffer::{AllocRingBuffer, ConstGenericRingBuffer, GrowableAllocRingBuffer, RingBuffer};
 use std::alloc::AllocError;
 use std::process::Abort;
@@ -89,11 +88,11 @@ const KEPT: &[(&[i64], usize, &[i64], &[i64])] = &[
 /// The ring holds these items and no other, and an item that is pushed then comes behind them.
 fn assert_left<R: RingBuffer<i64>>(rt: &impl Abort, ring: &mut R, items: &'static [i64]) {
     let steps = [Holds(items), Skip, PushAll(&[8])];
-    assert_equal(rt, first_fault(ring, &steps), None);
+    assert_steps(rt, ring, &steps);
     for item in items.iter().skip(1) {
         assert_equal(rt, ring.dequeue(), Some(*item));
     }
-    assert_equal(rt, first_fault(ring, &[DequeueAll(&[8])]), None);
+    assert_steps(rt, ring, &[DequeueAll(&[8])]);
 }
 
 /// What a test does with a ring that is new.

@@ -1,6 +1,6 @@
 //! Positions, reading and writing.
 
-use super::{Steps, assert_equal, each, fixed, growable, push_all};
+use super::{Steps, assert_equal, assert_steps, each, fixed, growable, push_all};
 use ring_test_support::rings::{Case, Rings};
 use ring_test_support::steps::Step::{
     Back, BackMut, Dequeue, DequeueAll, Front, FrontMut, Get, GetMut, GetMutSigned, GetSigned,
@@ -275,14 +275,14 @@ impl<Rt: Abort + AllocGlobal> Case<Rt> for ExtremePositions {
                 GetMut(usize::MAX, Some(at_greatest)),
                 DequeueAll(items),
             ];
-            assert_equal(rt, first_fault(&mut ring, &steps), None);
+            assert_steps(rt, &mut ring, &steps);
         }
         let steps = [
             PushAll(&[7]),
             GetSigned(-1, Some(7)),
             GetMutSigned(-1, Some(7)),
         ];
-        assert_equal(rt, first_fault(&mut ring, &steps), None);
+        assert_steps(rt, &mut ring, &steps);
         Ok(())
     }
 }
@@ -337,18 +337,14 @@ impl Indexed for GrowableAllocRingBuffer<i64> {
 
 /// Reading and writing by an index, as by a position.
 fn assert_indexed<R: Indexed>(rt: &impl Abort, mut ring: R) {
-    assert_equal(rt, first_fault(&mut ring, &[PushAll(&[2]), Len(1)]), None);
+    assert_steps(rt, &mut ring, &[PushAll(&[2]), Len(1)]);
     assert_equal(rt, ring.at(rt, 0), 2);
     ring.write_at(rt, 0, 5);
     assert_equal(rt, ring.at(rt, 0), 5);
-    assert_equal(
-        rt,
-        first_fault(&mut ring, &[PushAll(&[6, 7]), Len(3)]),
-        None,
-    );
+    assert_steps(rt, &mut ring, &[PushAll(&[6, 7]), Len(3)]);
     ring.write_at(rt, 3, 9);
     assert_equal(rt, ring.at(rt, 5), 7);
-    assert_equal(rt, first_fault(&mut ring, &[Holds(&[9, 6, 7])]), None);
+    assert_steps(rt, &mut ring, &[Holds(&[9, 6, 7])]);
 }
 
 #[test]
@@ -380,9 +376,9 @@ const WRITES_NAME_PLACES: &[Step] = &[
 #[test]
 fn growable_writes_name_the_places_of_reads(rt: HostRuntime) {
     fn on<R: Indexed>(rt: &impl Abort, mut ring: R) {
-        assert_equal(rt, first_fault(&mut ring, WRITES_NAME_PLACES), None);
+        assert_steps(rt, &mut ring, WRITES_NAME_PLACES);
         ring.write_at(rt, 3, 9);
-        assert_equal(rt, first_fault(&mut ring, &[Holds(&[9, 2, 3])]), None);
+        assert_steps(rt, &mut ring, &[Holds(&[9, 2, 3])]);
     }
     on(&rt, GrowableAllocRingBuffer::new(rt.alloc()));
 }

@@ -3,13 +3,13 @@
 ghost use Rattle.std.specs.Prelude.{◌-◌, ◌<◌, ◌^◌};
 ghost use Rattle.std.specs.Iterator.{at_most};
 
-use super::{InSlots, Steps, assert_equal, each, fixed, growable, on_heap, push_all};
+use super::{InSlots, Steps, assert_equal, assert_steps, each, fixed, growable, on_heap, push_all};
 use ring_test_support::rings::{Case, Rings};
+use ring_test_support::steps::Step;
 use ring_test_support::steps::Step::{
     Back, Capacity, Clear, Dequeue, DequeueAll, Enqueue, Extend, GetSigned, Holds, IsEmpty, IsFull,
     Len, Peek, Push, PushAll, Skip,
 };
-use ring_test_support::steps::{Step, first_fault};
 use ringbuffer::{AllocRingBuffer, ConstGenericRingBuffer, RingBuffer};
 use std::alloc::AllocError;
 use std::process::Abort;
@@ -28,7 +28,7 @@ const KEEPS_THE_NEWEST: &[Step] = &[
 
 impl<Rt: Abort + AllocGlobal> Case<Rt> for KeepsTheNewest {
     fn on<R: RingBuffer<i64> + Drop>(&self, rt: &Rt, mut ring: R) -> Result<(), AllocError> {
-        assert_equal(rt, first_fault(&mut ring, KEEPS_THE_NEWEST), None);
+        assert_steps(rt, &mut ring, KEEPS_THE_NEWEST);
         let items = ring.to_vec(rt.alloc())?;
         assert_equal(rt, items.as_slice(), [42, 1].as_slice());
         Ok(())
@@ -297,7 +297,7 @@ impl<Rt: Abort + AllocGlobal> Case<Rt> for KeepsTheLastTen {
             for item in 0..1000 {
                 assert!(rt; ring.enqueue(item).is_ok());
             }
-            assert_equal(rt, first_fault(&mut ring, LAST_TEN), None);
+            assert_steps(rt, &mut ring, LAST_TEN);
         }
         Ok(())
     }
@@ -326,7 +326,7 @@ const COMES_AND_GOES: &[Step] = &[
 impl<Rt: Abort + AllocGlobal> Case<Rt> for ComesAndGoes {
     fn on<R: RingBuffer<i64> + Drop>(&self, rt: &Rt, mut ring: R) -> Result<(), AllocError> {
         for _ in 0..100_000 {
-            assert_equal(rt, first_fault(&mut ring, COMES_AND_GOES), None);
+            assert_steps(rt, &mut ring, COMES_AND_GOES);
         }
         Ok(())
     }
@@ -425,7 +425,7 @@ impl<Rt: Abort + AllocGlobal> Case<Rt> for ExtendsByNumbers {
             end: 10_000,
         };
         assert!(rt; ring.extend(numbers).is_ok());
-        assert_equal(rt, first_fault(&mut ring, &[Holds(&[9998, 9999])]), None);
+        assert_steps(rt, &mut ring, &[Holds(&[9998, 9999])]);
         Ok(())
     }
 }

@@ -6,10 +6,10 @@ use ring_test_support::drought::Drought;
 use ring_test_support::rings::{Case, Rings};
 use ring_test_support::steps::Step::{
     Back, Clear, Contains, Dequeue, DequeueAll, Enqueue, Extend, Fill, FillDefault, FillWith,
-    Front, Get, GetSigned, Holds, IsEmpty, Peek, PushAll, Skip, Write, WriteBack, WriteFront,
-    WriteSigned,
+    Front, Get, GetSigned, Holds, IsEmpty, Len, Peek, Push, PushAll, Skip, Write, WriteBack,
+    WriteFront, WriteSigned,
 };
-use ring_test_support::steps::{Step, first_fault};
+use ring_test_support::steps::{Outcome, Step, first_fault};
 use ringbuffer::{
     AllocRingBuffer, Command, ConstGenericRingBuffer, GrowableAllocRingBuffer, Reply, RingBuffer,
     RingBufferDrainingIterator, RingBufferIntoIterator, RingBufferIterator, RingBufferMutIterator,
@@ -142,6 +142,24 @@ fn a_refused_push_can_be_tried_again(rt: HostRuntime) -> Result<(), AllocError> 
 }
 
 #[test]
+fn a_step_that_is_refused_is_found(rt: HostRuntime) -> Result<(), AllocError> {
+    let mut ring = GrowableAllocRingBuffer::new(rt.alloc());
+    let drought = Drought::total(rt.alloc())?;
+    let by_push = first_fault(&mut ring, &[Len(0), Push(1, None)]);
+    let by_pushes = first_fault(&mut ring, &[PushAll(&[1])]);
+    let by_extension = first_fault(&mut ring, &[Extend(&[1])]);
+    drop(drought);
+    let refused = Outcome::Refused;
+    assert_equal(&rt, by_push, Some((1, refused)));
+    assert_equal(
+        &rt,
+        (by_pushes, by_extension),
+        (Some((0, refused)), Some((0, refused))),
+    );
+    Ok(())
+}
+
+#[test]
 fn a_refused_extension_keeps_what_there_was_room_for(rt: HostRuntime) -> Result<(), AllocError> {
     let mut ring = GrowableAllocRingBuffer::new(rt.alloc());
     push_all(&rt, &mut ring, &[1, 2]);
@@ -204,7 +222,7 @@ impl<Rt: Abort + AllocGlobal> Case<Rt> for TakesNone {
 }
 
 #[test]
-fn fixed_rings_take_no_memory(rt: HostRuntime) -> Result<(), AllocError> {
+fn fixed_rings_take_no_memory(rt: HostRuntime) {
     let calls = TakesNone {
         items: &[],
         steps: &[
@@ -220,7 +238,7 @@ fn fixed_rings_take_no_memory(rt: HostRuntime) -> Result<(), AllocError> {
             DequeueAll(&[8, 8]),
         ],
     };
-    Rings::<2>::fixed(&rt, &calls)
+    Rings::<2>::fixed(&rt, &calls).expect(&rt, "memory");
 }
 
 /// What a ring has of room takes no memory to know.
@@ -230,17 +248,17 @@ impl<Rt: Abort + AllocGlobal> Case<Rt> for RoomTakesNone {
     fn on<R: RingBuffer<i64> + Drop>(&self, rt: &Rt, mut ring: R) -> Result<(), AllocError> {
         push_all(rt, &mut ring, &[1, 2, 3]);
         let drought = Drought::total(rt.alloc())?;
-        let is_full = ring.is_full();
-        let slots = ring.buffer_size();
+        let (len, capacity) = (ring.len(), ring.capacity());
+        let (is_full, slots) = (ring.is_full(), ring.buffer_size());
         drop(drought);
-        assert_equal(rt, is_full, ring.len() == ring.capacity());
+        assert_equal(rt, (len, is_full), (3, len == capacity));
         assert!(rt; slots >= 3);
         Ok(())
     }
 }
 
 #[test]
-fn looking_at_a_ring_takes_no_memory(rt: HostRuntime) -> Result<(), AllocError> {
+fn looking_at_a_ring_takes_no_memory(rt: HostRuntime) {
     let looks = TakesNone {
         items: &[1, 2, 3],
         steps: &[
@@ -255,12 +273,12 @@ fn looking_at_a_ring_takes_no_memory(rt: HostRuntime) -> Result<(), AllocError> 
             Holds(&[1, 2, 3]),
         ],
     };
-    Rings::<3>::each(&rt, &looks)?;
-    Rings::<3>::each(&rt, &RoomTakesNone)
+    Rings::<3>::each(&rt, &looks).expect(&rt, "memory");
+    Rings::<3>::each(&rt, &RoomTakesNone).expect(&rt, "memory");
 }
 
 #[test]
-fn writing_and_taking_take_no_memory(rt: HostRuntime) -> Result<(), AllocError> {
+fn writing_and_taking_take_no_memory(rt: HostRuntime) {
     let changes = TakesNone {
         items: &[1, 2, 3],
         steps: &[
@@ -278,7 +296,7 @@ fn writing_and_taking_take_no_memory(rt: HostRuntime) -> Result<(), AllocError> 
             Dequeue(None),
         ],
     };
-    Rings::<3>::each(&rt, &changes)
+    Rings::<3>::each(&rt, &changes).expect(&rt, "memory");
 }
 
 struct WalksTakeNone;

@@ -8,7 +8,7 @@ use std::alloc::AllocError;
 use std::fmt::Debug;
 use std::process::Abort;
 
-/// A ring that these items were pushed onto writes this text.
+/// A ring that these items were pushed onto writes this text. Only a `TwinCase` has rings that write one.
 #[derive(Drop)]
 struct Writes {
     items: &'static [i64],

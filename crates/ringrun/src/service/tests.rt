@@ -522,6 +522,7 @@ fn run_in_drought(
     serve_in_drought(rt, arguments, input, room)
 }
 
+/// The same on any input.
 fn serve_in_drought(
     rt: &(impl Abort + AllocGlobal),
     arguments: &[&str],
