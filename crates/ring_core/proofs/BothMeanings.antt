@@ -1,18 +1,6 @@
 -- What a run means by item numbers is what it means by lists: after k steps the contents are the items so far from the
 -- first held number on.
-use Rattle.std.proofs.Common.{◌≡◌, ℕ, zero, suc, ◌+◌, ◌-◌, ◌*◌, ◌≤◌, ◌==◌, ◌&&◌, max, true, false, nat_lt, if◌then◌else◌, List, [], ◌∷◌, ◌++◌, length, take, drop, map, slice_get, Option, Some, None, refl, inl, inr, sym, ap, ◌∙◌, add-one, add-zero, zero-add, append-nil, append_assoc, arith, length-append, length-drop}
-use Rattle.std.specs.List.{enumerate_from, filter_map, range_with_len}
-use Rattle.std.proofs.lemmas.Bool.{cases_lt, le-ltb, lt-ltb}
-use Rattle.std.proofs.lemmas.Bool.Decides.{nat_tests}
-use Rattle.std.proofs.lemmas.Grind.{flat_map-append}
-use Rattle.std.proofs.lemmas.Option.{slice_get_cases, slice_get_past}
-use Rattle.std.proofs.Math.Seq.{drop-append_seam, drop-cons}
-use Rattle.std.proofs.lemmas.List.{drop-append-le, drop-drop, drop_all, drop_min, length-map, length_push, take-append-drop, take_all, take_at}
-use Rattle.ring_core.specs.declared.runs.Command.{Command}
-use Rattle.ring_core.specs.declared.runs.Command.TheVariants.{Push, Extend, Dequeue, Skip, Clear}
-use Rattle.ring_core.specs.Contents.{ChangesSlots, IsWithin, keep_last, overwritten}
-use Rattle.ring_core.specs.Meaning.{after_all, after_one, puts, replies_to, reply_to}
-use Rattle.ring_core.specs.History.{ChangesFewSlots, Step, pushes, takes, clears, all_items, contents_after, number, oldest, overwrites, overwritten_after, pushed, replies_of, reply_after, steps, steps_of}
+use Rattle.ring_core.proofs.Words.{◌≡◌, ℕ, zero, suc, ◌+◌, ◌-◌, ◌*◌, ◌≤◌, ◌==◌, ◌&&◌, max, true, false, nat_lt, if◌then◌else◌, List, [], ◌∷◌, ◌++◌, length, take, drop, map, slice_get, Option, Some, None, refl, inl, inr, sym, ap, ◌∙◌, add-one, add-zero, zero-add, append-nil, append_assoc, arith, length-append, length-drop, enumerate_from, filter_map, range_with_len, cases_lt, le-ltb, lt-ltb, nat_tests, flat_map-append, slice_get_cases, slice_get_past, drop-append_seam, drop-cons, drop-append-le, drop-drop, drop_all, drop_min, length-map, length_push, take-append-drop, take_all, take_at, Command, Push, Extend, Dequeue, Skip, Clear, ChangesSlots, IsWithin, keep_last, overwritten, after_all, after_one, puts, replies_to, reply_to, ChangesFewSlots, Step, pushes, takes, clears, all_items, contents_after, number, oldest, overwrites, overwritten_after, pushed, replies_of, reply_after, steps, steps_of}
 use Rattle.ring_core.proofs.Items.{slice_get-append_left, slice_get-drop, slice_get-take}
 use Rattle.ring_core.proofs.Limits.{keep_last-keep_last, keep_last_within}
 use Rattle.ring_core.proofs.RunParts.{after_all-append}

@@ -1,13 +1,5 @@
 -- A loop over commands: what holds at each turn, what one more command makes of it, and what follows at its end.
-use Rattle.std.proofs.Common.{◌≡◌, ℕ, ◌+◌, ◌*◌, ◌<◌, ◌≤◌, List, [], ◌∷◌, ◌++◌, length, set, slice_get, take, Option, Some, IsSome, refl, ap, sym, ◌∙◌, append-nil, append_assoc, length-append, arith}
-use Rattle.std.proofs.lemmas.Grind.{flat_map-append}
-use Rattle.std.proofs.lemmas.List.{drop_all, length_push, take_at}
-use Rattle.ring_core.specs.declared.runs.Command.{Command}
-use Rattle.ring_core.specs.declared.runs.Refused.{Refused}
-use Rattle.ring_core.specs.declared.runs.Reply.{Reply}
-use Rattle.ring_core.specs.Contents.{ChangesSlots, IsWithin}
-use Rattle.ring_core.specs.Meaning.{IsRefused, StopsAt, after_all, after_one, places, puts, replies_to, reply_to}
-use Rattle.ring_core.specs.History.{ChangesFewSlots, all_items, contents_after, pushed, replies_of, steps, steps_of}
+use Rattle.ring_core.proofs.Words.{◌≡◌, ℕ, ◌+◌, ◌*◌, ◌<◌, ◌≤◌, List, [], ◌∷◌, ◌++◌, length, set, slice_get, take, Option, Some, IsSome, refl, ap, sym, ◌∙◌, append-nil, append_assoc, length-append, arith, flat_map-append, drop_all, length_push, take_at, Command, Refused, Reply, ChangesSlots, IsWithin, IsRefused, StopsAt, after_all, after_one, places, puts, replies_to, reply_to, ChangesFewSlots, all_items, contents_after, pushed, replies_of, steps, steps_of}
 use Rattle.ring_core.proofs.Items.{slice_get-at}
 use Rattle.ring_core.proofs.RunParts.{LeavesPart-refused, after_all-append, length-replies_to, places-more, replies_to-append}
 use Rattle.ring_core.proofs.HeldWindow.{pushed-append}

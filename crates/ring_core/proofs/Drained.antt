@@ -1,15 +1,9 @@
 -- What a source gave that was taken to its end.
-use Rattle.std.specs.Prelude.{◌≡◌, ℕ, ◌++◌, List, length, map, Option, Some, IsOk, MatchResult, OnOk, Ok, Err, Result, is_ok, true}
-use Rattle.std.specs.Iterator.{Drains, YieldsThen}
-use Rattle.std.proofs.Common.{◌∙◌, ap, sym}
+use Rattle.ring_core.proofs.Words.{◌≡◌, ℕ, ◌++◌, List, length, map, Option, Some, IsOk, MatchResult, OnOk, Ok, Err, Result, is_ok, true, Drains, YieldsThen, ◌∙◌, ap, sym, YieldsList-from_shown, map-id, keep_last, DrainsFirst, UnpacksFirst, drain_to_come, into_iter_to_come}
 use Rattle.std.proofs.lemmas.Iterator.{YieldsList, items_from_drains}
-use Rattle.std.proofs.lemmas.Iterator.Consumers.{YieldsList-from_shown}
-use Rattle.std.proofs.lemmas.List.{map-id}
 use Rattle.ring_core.specs.declared.iter.RingBufferDrainingIterator.{RingBufferDrainingIterator}
 use Rattle.ring_core.specs.declared.iter.RingBufferIntoIterator.{RingBufferIntoIterator}
-use Rattle.ring_core.specs.Contents.{keep_last}
 use Rattle.ring_core.specs.Extension.{Extends}
-use Rattle.ring_core.specs.Walk.{DrainsFirst, UnpacksFirst, drain_to_come, into_iter_to_come}
 
 module _ {S A B : Type 0} {steps : S → Option A → S → Type 0} {s : S} where
   -- what v takes the items to of a source that was taken to its end is the list that the source shows

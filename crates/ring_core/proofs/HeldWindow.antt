@@ -1,16 +1,7 @@
 -- The numbers held after each step are a window: those from some number on, up to the last that was pushed.
-use Rattle.std.proofs.Common.{◌≡◌, ℕ, zero, suc, ◌+◌, ◌-◌, ◌<◌, ◌≤◌, min, max, Bool, ◌&&◌, nat_lt, nat_le, List, [], ◌∷◌, ◌++◌, length, take, drop, filter, slice_get, Option, Some, None, IfSome, IsTrue, ◌↔◌, refl, inl, inr, sym, ap, ◌∙◌, add-one, add-zero, zero-add, append-nil, arith, length-append, length-drop}
-use Rattle.std.specs.List.{range_with_len}
-use Rattle.std.specs.Option.{option_to_list}
-use Rattle.std.proofs.lemmas.List.Elements.{filter-append}
-use Rattle.std.proofs.lemmas.List.{map-id}
+use Rattle.ring_core.proofs.Words.{◌≡◌, ℕ, zero, suc, ◌+◌, ◌-◌, ◌<◌, ◌≤◌, min, max, Bool, ◌&&◌, nat_lt, nat_le, List, [], ◌∷◌, ◌++◌, length, take, drop, filter, slice_get, Option, Some, None, IfSome, IsTrue, ◌↔◌, refl, inl, inr, sym, ap, ◌∙◌, add-one, add-zero, zero-add, append-nil, arith, length-append, length-drop, range_with_len, option_to_list, filter-append, map-id, IfSome_then, cases_Bool, cases_lt, eqb-true, false≢true, nat_tests, IsWithin, IsLeft, IsPush, KeepsToNumbers, Step, pushes, takes, clears, held, held_numbers, held_next, head, least, number, overwrites, pushed, removed, removes, some_below}
 use Rattle.std.proofs.lemmas.List.FromFn.{length-range_with_len, map-range_with_len_more}
-use Rattle.std.proofs.lemmas.Option.{IfSome_then}
-use Rattle.std.proofs.lemmas.Bool.{cases_Bool, cases_lt, eqb-true, false≢true}
-use Rattle.std.proofs.lemmas.Bool.Decides.{nat_tests}
 use Rattle.ring_core.proofs.Items.{take-suc_get}
-use Rattle.ring_core.specs.Contents.{IsWithin}
-use Rattle.ring_core.specs.History.{IsLeft, IsPush, KeepsToNumbers, Step, pushes, takes, clears, held, held_numbers, held_next, head, least, number, overwrites, pushed, removed, removes, some_below}
 
 -- the numbers from f on, below n
 abbrev pub window : ℕ → ℕ → ℕ → Bool

@@ -1,8 +1,5 @@
 -- The items of a list by their places.
-use Rattle.std.proofs.Common.{ℕ, zero, suc, ◌≡◌, ◌+◌, ◌-◌, ◌<◌, List, [], ◌∷◌, ◌++◌, length, take, drop, slice_get, Some, refl, ap, arith, zero-add}
-use Rattle.std.specs.List.{AllZip}
-use Rattle.std.specs.Option.{option_to_list}
-use Rattle.std.proofs.Math.Seq.{take-nil}
+use Rattle.ring_core.proofs.Words.{ℕ, zero, suc, ◌≡◌, ◌+◌, ◌-◌, ◌<◌, List, [], ◌∷◌, ◌++◌, length, take, drop, slice_get, Some, refl, ap, arith, zero-add, AllZip, option_to_list, take-nil}
 
 -- The item behind a list.
 pub slice_get-at : {A : Type 0} (xs : List A) (y : A) (ys : List A) → slice_get (xs ++ y ∷ ys) (length xs) ≡ Some y

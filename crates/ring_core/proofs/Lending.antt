@@ -1,6 +1,5 @@
 -- What a cursor lends.
-use Rattle.std.proofs.Common.{◌≡◌, Option, None, Some, IsNone, MutBor, inl, refl}
-use Rattle.std.specs.Option.{ghost_name_of}
+use Rattle.ring_core.proofs.Words.{◌≡◌, Option, None, Some, IsNone, MutBor, inl, refl, ghost_name_of}
 use borrow.Follows.Closed.{read_of}
 
 -- a loan that is made ends as F' says where F says the same

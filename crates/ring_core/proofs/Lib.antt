@@ -6,8 +6,9 @@ pub mod HeldWindow
 pub mod Items
 pub mod Lending
 pub mod Limits
-pub mod Reading
 pub mod MovedItems
+pub mod Reading
 pub mod RunParts
 pub mod Walks
+mod Words
 pub mod WorkedRuns

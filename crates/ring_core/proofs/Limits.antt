@@ -1,10 +1,5 @@
 -- What follows of a limit on a list.
-use Rattle.std.specs.Prelude.{◌≡◌, ℕ, zero, suc, ◌+◌, ◌-◌, ◌<◌, List, [], ◌∷◌, ◌++◌, length, map, drop, Option, None, Some, IfSome, refl, slice_set, negsuc, ◌≤◌, take, slice_get, option_to_list}
-use Rattle.std.proofs.Common.{◌∙◌, ap, sym, arith, length-append, length-drop}
-use Rattle.std.proofs.Math.Nat.{zero-mod}
-use Rattle.std.proofs.Math.Seq.{set-append_seam}
-use Rattle.std.proofs.lemmas.List.{drop-append-le, drop-drop, drop-map, drop_all, length-map}
-use Rattle.ring_core.specs.Contents.{IsWithin, keep_last, overwritten, signed_place}
+use Rattle.ring_core.proofs.Words.{◌≡◌, ℕ, zero, suc, ◌+◌, ◌-◌, ◌<◌, List, [], ◌∷◌, ◌++◌, length, map, drop, Option, None, Some, IfSome, refl, slice_set, negsuc, ◌≤◌, take, slice_get, option_to_list, ◌∙◌, ap, sym, arith, length-append, length-drop, zero-mod, set-append_seam, drop-append-le, drop-drop, drop-map, drop_all, length-map, IsWithin, keep_last, overwritten, signed_place}
 
 -- a list within its limit loses nothing
 pub keep_last_within : {A : Type 0} (limit : Option ℕ) (xs : List A) → IsWithin xs limit → keep_last limit xs ≡ xs

@@ -1,6 +1,5 @@
 -- What stands while the items of one ring are moved onto another.
-use Rattle.std.proofs.Common.{◌≡◌, ℕ, List, [], ◌∷◌, ◌++◌, length, drop, slice_get, Option, Some, IsSome, refl, ◌∙◌, append_assoc, length-append, arith}
-use Rattle.ring_core.specs.Contents.{ChangesSlots, keep_last}
+use Rattle.ring_core.proofs.Words.{◌≡◌, ℕ, List, [], ◌∷◌, ◌++◌, length, drop, slice_get, Option, Some, IsSome, refl, ◌∙◌, append_assoc, length-append, arith, ChangesSlots, keep_last}
 use Rattle.ring_core.proofs.Limits.{keep_last-keep_last}
 
 -- some of the source's items were moved behind the old ones, and the others stay; the count of changes went from a to b

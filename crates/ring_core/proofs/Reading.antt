@@ -1,11 +1,5 @@
 -- What a walk over a ring by position reads: at each index below the length, the item that the contents have there.
-use Rattle.std.proofs.Common.{◌≡◌, ℕ, suc, ◌+◌, ◌<◌, List, [], ◌∷◌, ◌++◌, length, take, drop, Option, Some, sym, ap, ◌∙◌, Bor, add-one}
-use Rattle.std.specs.List.{slice_get}
-use Rattle.std.specs.Option.{option_copied, option_to_list}
-use Rattle.std.proofs.lemmas.Option.{get_or_from_slice_get}
-use Rattle.std.proofs.Math.Nat.{mod-eq_of_lt}
-use Rattle.std.proofs.Math.Seq.{drop-cons}
-use Rattle.ring_core.specs.Contents.{place}
+use Rattle.ring_core.proofs.Words.{◌≡◌, ℕ, suc, ◌+◌, ◌<◌, List, [], ◌∷◌, ◌++◌, length, take, drop, Option, Some, sym, ap, ◌∙◌, Bor, add-one, slice_get, option_copied, option_to_list, get_or_from_slice_get, mod-eq_of_lt, drop-cons, place}
 use Rattle.ring_core.proofs.Items.{take-suc_get}
 
 -- a position below the length is the index itself

@@ -1,11 +1,6 @@
 -- Runs of commands in parts, and the places of their replies.
-use Rattle.std.proofs.Common.{◌≡◌, ℕ, ◌-◌, ◌<◌, List, [], ◌∷◌, ◌++◌, length, map, set, replicate, Option, Some, None, refl, ap, arith, append-nil, append_assoc, suc}
-use Rattle.std.proofs.lemmas.List.{length-map, length_push, map-append, set_at}
-use Rattle.ring_core.specs.declared.runs.Command.{Command}
-use Rattle.ring_core.specs.declared.runs.Reply.{Reply}
-use Rattle.ring_core.specs.declared.runs.Refused.{Refused}
+use Rattle.ring_core.proofs.Words.{◌≡◌, ℕ, ◌-◌, ◌<◌, List, [], ◌∷◌, ◌++◌, length, map, set, replicate, Option, Some, None, refl, ap, arith, append-nil, append_assoc, suc, length-map, length_push, map-append, set_at, Command, Reply, Refused, after_one, after_all, reply_to, replies_to, places, IsRefused, LeavesPart}
 use Rattle.ring_core.specs.declared.runs.Refused.TheVariants as refused
-use Rattle.ring_core.specs.Meaning.{after_one, after_all, reply_to, replies_to, places, IsRefused, LeavesPart}
 
 module _ {T : Type 0} (limit : Option ℕ) where
   -- By induction on the first list.

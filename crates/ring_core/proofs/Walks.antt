@@ -1,12 +1,5 @@
 -- How a step of a walk shortens what is still to come.
-use Rattle.std.proofs.Common.{append_assoc, ◌≡◌, ℕ, ◌+◌, ◌-◌, ◌<◌, ◌≤◌, ◌↔◌, min, List, [], ◌∷◌, ◌++◌, length, take, drop, get_or, Option, Some, None, MatchOption, map, refl, slice_set, suc, sym, ap, ◌∙◌, Bor, add-one, append-nil, arith, length-drop}
-use Rattle.std.specs.List.{slice_get}
-use Rattle.std.specs.Option.{option_copied, option_to_list}
-use Rattle.std.proofs.Math.Seq.{drop-cons, take-length, take-suc-set}
-use Rattle.std.proofs.lemmas.List.{drop-append-le, drop-drop, drop-set-lt, length-take, length-take-le, take_min}
-use Rattle.std.proofs.lemmas.Option.{slice_get_within}
-use Rattle.ring_core.specs.Contents.{place}
-use Rattle.ring_core.specs.Walk.{to_come}
+use Rattle.ring_core.proofs.Words.{append_assoc, ◌≡◌, ℕ, ◌+◌, ◌-◌, ◌<◌, ◌≤◌, ◌↔◌, min, List, [], ◌∷◌, ◌++◌, length, take, drop, get_or, Option, Some, None, MatchOption, map, refl, slice_set, suc, sym, ap, ◌∙◌, Bor, add-one, append-nil, arith, length-drop, slice_get, option_copied, option_to_list, drop-cons, take-length, take-suc-set, drop-append-le, drop-drop, drop-set-lt, length-take, length-take-le, take_min, slice_get_within, place, to_come}
 use Rattle.ring_core.proofs.Items.{slice_get-drop, slice_get-take, take-suc_get}
 use Rattle.ring_core.proofs.Reading.{slice_get-place}
 

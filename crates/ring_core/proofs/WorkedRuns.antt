@@ -1,10 +1,6 @@
 -- Two runs worked out by item numbers: the numbers held after each step, what is left, and what is answered.
-use Rattle.std.specs.Prelude.{◌≡◌, ℕ, List, [], ◌∷◌, map, None, Some, refl}
-use Rattle.std.specs.List.{range_with_len}
-use Rattle.ring_core.specs.declared.runs.Command.{Command}
-use Rattle.ring_core.specs.declared.runs.Command.TheVariants.{Push, Dequeue, Clear}
+use Rattle.ring_core.proofs.Words.{◌≡◌, ℕ, List, [], ◌∷◌, map, None, Some, refl, range_with_len, Command, Push, Dequeue, Clear, contents_after, held_numbers, replies_of, steps}
 use Rattle.ring_core.specs.declared.runs.Reply.TheVariants.{Pushed, Dequeued, Cleared}
-use Rattle.ring_core.specs.History.{contents_after, held_numbers, replies_of, steps}
 
 -- with capacity 3 item 0 is taken before the push of number 3, which overwrites nothing; that of number 4 overwrites item 1
 abbrev pub with_dequeue : List (Command ℕ)

@@ -1,9 +1,6 @@
 -- The order in which steps by the start reach the places of a row whose size is a power of two: cycle by cycle.
-use Rattle.std.proofs.Common.{◌≡◌, ℕ, zero, suc, ◌+◌, ◌-◌, ◌*◌, ◌/◌, ◌%◌, ◌^◌, ◌<◌, ◌≤◌, refl, sym, ap, ◌∙◌, arith}
-use Rattle.std.specs.Int.{IsPowerOfTwo, bit_at, trailing_zeros, w64}
+use Rattle.ring_fixed.proofs.Words.{◌≡◌, ℕ, zero, suc, ◌+◌, ◌-◌, ◌*◌, ◌/◌, ◌%◌, ◌^◌, ◌<◌, ◌≤◌, refl, sym, ap, ◌∙◌, arith, IsPowerOfTwo, bit_at, trailing_zeros, w64, dec_lt, add-mod-mod, add-mul, add-mul-div_right, add-mul-mod_self_right, div-eq_of_lt, div-lt_iff_lt-mul, le-mul_of_pos_right, mod-add-mod, mod-eq_of_lt, mod-lt, mod-one, mod_self, mul-add, mul-add-div_right, mul-add-mod_self_right, mul-div_cancel, mul_assoc, mul_comm, pow-succ'}
 use Rattle.std.proofs.Math.Arith.{mod-mul}
-use Rattle.std.proofs.Math.Decide.{dec_lt}
-use Rattle.std.proofs.Math.Nat.{add-mod-mod, add-mul, add-mul-div_right, add-mul-mod_self_right, div-eq_of_lt, div-lt_iff_lt-mul, le-mul_of_pos_right, mod-add-mod, mod-eq_of_lt, mod-lt, mod-one, mod_self, mul-add, mul-add-div_right, mul-add-mod_self_right, mul-div_cancel, mul_assoc, mul_comm, pow-succ'}
 use Rattle.std.proofs.Math.Pow.{pow_mono}
 use Rattle.std.proofs.lemmas.Nat.{div-add-mod', div-mul-add, mod-mul-add, mod-pow-add, mul-add-lt, mul-mod, mul-mod_first, mul-mod_second, pow-add, pow_pos}
 use Rattle.std.proofs.lemmas.Nat.Bits.{bit_at-trailing_zeros}

@@ -1,13 +1,5 @@
 -- Items dropped from an index up to another: their slots are two runs that become empty.
-use Rattle.std.proofs.Common.{◌≡◌, ℕ, ◌+◌, ◌-◌, ◌%◌, ◌<◌, ◌≤◌, ◌⊎◌, inl, inr, List, None, length, take, drop, get_or, refl, sym, ap, ◌∙◌, arith, length-take, length-drop}
-use Rattle.std.proofs.Math.Decide.{dec_lt}
-use Rattle.std.proofs.Math.Nat.{add-mod_right, mod-eq_of_lt, mod-lt}
-use Rattle.std.proofs.lemmas.Option.{slice_get_past}
-use Rattle.std.specs.Prelude.{min, slice_get}
-use Rattle.ring_core.proofs.Items.{slice_get-drop, slice_get-take}
-use Rattle.ring_slots.specs.Slots.{Slots, IsFullAt, slot_at}
-use Rattle.ring_fixed.specs.View.{after_takes, after_truncate}
-use Rattle.ring_fixed.specs.Layout.{AreFull, Empties, SlotsHold, items_from, view_from, IsLaidOut, LaysOut}
+use Rattle.ring_fixed.proofs.Words.{◌≡◌, ℕ, ◌+◌, ◌-◌, ◌%◌, ◌<◌, ◌≤◌, ◌⊎◌, inl, inr, List, None, length, take, drop, get_or, refl, sym, ap, ◌∙◌, arith, length-take, length-drop, dec_lt, add-mod_right, mod-eq_of_lt, mod-lt, slice_get_past, min, slice_get, slice_get-drop, slice_get-take, Slots, IsFullAt, slot_at, after_takes, after_truncate, AreFull, Empties, SlotsHold, items_from, view_from, IsLaidOut, LaysOut}
 use Rattle.ring_fixed.proofs.LaysOut.{LaysOut-items, slice_get_some}
 use Rattle.ring_fixed.proofs.SlotsHold.{count_on, wrap}
 

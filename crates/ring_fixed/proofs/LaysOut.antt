@@ -1,14 +1,5 @@
 -- What the inner steps of a ring do to what it shows.
-use Rattle.std.proofs.Common.{◌≡◌, ℕ, ◌+◌, ◌-◌, ◌%◌, ◌<◌, ◌≤◌, List, [], ◌∷◌, ◌++◌, drop, length, take, Option, None, Some, refl, sym, ap, ◌∙◌, arith, get_or, replicate, length-set, length-append}
-use Rattle.std.specs.Prelude.{slice_get, min, IsSome}
-use Rattle.std.proofs.Math.ListN.{set}
-use Rattle.std.proofs.Math.Nat.{mod-eq_of_lt, mod-lt}
-use Rattle.std.proofs.lemmas.Grind.{common_steps}
-use Rattle.std.proofs.lemmas.List.{get_or-replicate, length-drop, length-replicate, length-take}
-use Rattle.std.proofs.lemmas.Option.{slice_get_cases, slice_get_past}
-use Rattle.ring_slots.specs.Slots.{Slots, slot_at, IsEmptyAt, IsFullAt, changed}
-use Rattle.ring_fixed.specs.View.{View, after_pop, after_put, after_take, after_write}
-use Rattle.ring_fixed.specs.Layout.{SlotsHold, items_from, view_from, IsLaidOut, LaysOut}
+use Rattle.ring_fixed.proofs.Words.{◌≡◌, ℕ, ◌+◌, ◌-◌, ◌%◌, ◌<◌, ◌≤◌, List, [], ◌∷◌, ◌++◌, drop, length, take, Option, None, Some, refl, sym, ap, ◌∙◌, arith, get_or, replicate, length-set, length-append, slice_get, min, IsSome, set, mod-eq_of_lt, mod-lt, common_steps, get_or-replicate, length-drop, length-replicate, length-take, slice_get_cases, slice_get_past, Slots, slot_at, IsEmptyAt, IsFullAt, changed, View, after_pop, after_put, after_take, after_write, SlotsHold, items_from, view_from, IsLaidOut, LaysOut}
 use Rattle.ring_fixed.proofs.SlotsHold.{items_from-SlotsHold, SlotsHold-pop, SlotsHold-put, SlotsHold-take, SlotsHold-write, SlotsHold-none, SlotsHold-same, count_on}
 
 -- there is an item at an index below the length

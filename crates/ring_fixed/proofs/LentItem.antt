@@ -1,9 +1,5 @@
 -- What a ring shows once an item that it lent was written.
-use Rattle.std.proofs.Common.{◌≡◌, ℕ, ◌+◌, ◌%◌, ◌<◌, [], length, Some, sym, ap, ◌∙◌, arith, length-set}
-use Rattle.std.specs.Prelude.{slice_get}
-use Rattle.ring_slots.specs.Slots.{Slots, changed}
-use Rattle.ring_fixed.specs.View.{View, after_write}
-use Rattle.ring_fixed.specs.Layout.{items_from, view_from, IsLaidOut, LaysOut}
+use Rattle.ring_fixed.proofs.Words.{◌≡◌, ℕ, ◌+◌, ◌%◌, ◌<◌, [], length, Some, sym, ap, ◌∙◌, arith, length-set, slice_get, Slots, changed, View, after_write, items_from, view_from, IsLaidOut, LaysOut}
 use Rattle.ring_fixed.proofs.LaysOut.{LaysOut-write}
 
 -- a ring of so many items in these slots shows this, and the item is lent that a position names among them

@@ -10,3 +10,4 @@ pub mod SomesTaken
 pub mod Sources
 pub mod Straight
 pub mod Turned
+mod Words

@@ -1,8 +1,5 @@
 -- An item put after the last once the first has given way. The place after the last was found before.
-use Rattle.std.proofs.Common.{◌≡◌, ℕ, ◌+◌, ◌-◌, ◌%◌, ◌<◌, length, Some, refl, sym, ap, ◌∙◌, arith, length-drop}
-use Rattle.ring_slots.specs.Slots.{Slots, IsEmptyAt, changed}
-use Rattle.ring_fixed.specs.View.{View, after_put, after_take}
-use Rattle.ring_fixed.specs.Layout.{items_from, view_from, IsLaidOut, LaysOut}
+use Rattle.ring_fixed.proofs.Words.{◌≡◌, ℕ, ◌+◌, ◌-◌, ◌%◌, ◌<◌, length, Some, refl, sym, ap, ◌∙◌, arith, length-drop, Slots, IsEmptyAt, changed, View, after_put, after_take, items_from, view_from, IsLaidOut, LaysOut}
 use Rattle.ring_fixed.proofs.LaysOut.{LaysOut-then, LaysOut-put, past_empty, same_place}
 
 -- the first of some items is taken

@@ -1,12 +1,5 @@
 -- The items of a ring are two runs of full slots: those up to the last slot, and those that go on at the first.
-use Rattle.std.proofs.Common.{◌≡◌, ℕ, zero, suc, ◌+◌, ◌-◌, ◌<◌, ◌≤◌, List, [], ◌∷◌, ◌++◌, length, map, take, drop, get_or, Option, None, Some, refl, sym, ap, ◌∙◌, arith}
-use Rattle.std.specs.Prelude.{slice_get, min}
-use Rattle.std.proofs.Math.Nat.{mod-eq_of_lt}
-use Rattle.std.proofs.lemmas.List.{ext_get_or, get_or-take, get_or-drop, length-map, length-take, length-drop, take-append-drop}
-use Rattle.ring_core.proofs.Items.{slice_get-drop, slice_get-take}
-use Rattle.ring_slots.specs.Slots.{Slots, HoldsRun, IsFullRun}
-use Rattle.ring_fixed.specs.Layout.{items_from, IsLaidOut}
-use Rattle.ring_fixed.specs.Somes.{somes}
+use Rattle.ring_fixed.proofs.Words.{◌≡◌, ℕ, zero, suc, ◌+◌, ◌-◌, ◌<◌, ◌≤◌, List, [], ◌∷◌, ◌++◌, length, map, take, drop, get_or, Option, None, Some, refl, sym, ap, ◌∙◌, arith, slice_get, min, mod-eq_of_lt, ext_get_or, get_or-take, get_or-drop, length-map, length-take, length-drop, take-append-drop, slice_get-drop, slice_get-take, Slots, HoldsRun, IsFullRun, items_from, IsLaidOut, somes}
 use Rattle.ring_fixed.proofs.SlotsHold.{wrap}
 
 module _ {X : Type 0} where

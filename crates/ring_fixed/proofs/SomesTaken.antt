@@ -1,11 +1,5 @@
 -- What was pushed out of an array of options.
-use Rattle.std.proofs.Common.{◌≡◌, ℕ, ◌+◌, ◌<◌, List, [], ◌∷◌, ◌++◌, drop, get_or, length, take, Option, None, Some, MatchOption, ap, ◌∙◌, refl, add-one, append-nil, append_assoc, arith, length-drop}
-use Rattle.std.proofs.lemmas.List.{get_or-drop}
-use Rattle.std.proofs.lemmas.List.Elements.{filter_map-append}
-use Rattle.std.proofs.Math.Seq.{take-suc}
-use Rattle.ring_core.specs.Contents.{keep_last}
-use Rattle.ring_core.proofs.Limits.{keep_last-keep_last}
-use Rattle.ring_fixed.specs.Somes.{somes}
+use Rattle.ring_fixed.proofs.Words.{◌≡◌, ℕ, ◌+◌, ◌<◌, List, [], ◌∷◌, ◌++◌, drop, get_or, length, take, Option, None, Some, MatchOption, ap, ◌∙◌, refl, add-one, append-nil, append_assoc, arith, length-drop, get_or-drop, filter_map-append, take-suc, keep_last, keep_last-keep_last, somes}
 
 -- one more place of an array of options: its item, if it holds one, came behind the others
 pub somes_turn : {A : Type 0} (limit : Option ℕ) (old now next : List A) (whole left : List (Option A)) (i : ℕ) (o : Option A)

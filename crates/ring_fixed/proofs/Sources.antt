@@ -1,9 +1,6 @@
 -- What a source gave in several calls, joined.
-use Rattle.std.proofs.Common.{List, [], ◌∷◌, ◌++◌, Bool, true, false, Some, refl, arith}
+use Rattle.ring_fixed.proofs.Words.{List, [], ◌∷◌, ◌++◌, Bool, true, false, Some, refl, arith, IsFinite, MakesProgress, Ghosts, Gives}
 use Rattle.std.proofs.iter.runs.Lists.{Yields-both}
-use Rattle.std.specs.Iterator.{IsFinite, MakesProgress}
-use Rattle.std.specs.declared.iter.Iterator.{Ghosts}
-use Rattle.ring_fixed.specs.Sources.{Gives}
 
 module _ {S A : Type 0} (it : Ghosts S A) where
   abbrev pub gives : Bool → S → List A → S → Type 0

@@ -1,16 +1,6 @@
 -- Items that lie side by side in the slots of a ring.
-use Rattle.std.proofs.Common.{◌≡◌, ℕ, ◌+◌, ◌-◌, ◌<◌, ◌≤◌, List, ◌++◌, length, map, take, drop, Option, None, Some, inl, inr, refl, sym, ap, ◌∙◌, arith, length-append, replicate}
-use Rattle.std.specs.Prelude.{nat_le, if◌then◌else◌}
-use Rattle.std.specs.List.{length_refill, refill}
-use Rattle.std.proofs.lemmas.Grind.{common_steps}
-use Rattle.std.proofs.lemmas.List.{drop-drop, drop-map, get_or_append_left, get_or-append_right, get_or-replicate, get_or_past, length-map, length-replicate, take-map}
-use Rattle.std.proofs.lemmas.Option.{slice_get_cases, slice_get_past}
-use Rattle.ring_slots.specs.Slots.{Slots, HoldsRun, refilled}
-use Rattle.ring_fixed.specs.View.{View, after_rewrite}
-use Rattle.ring_fixed.specs.Layout.{SlotsHold, items_from, LaysOut}
+use Rattle.ring_fixed.proofs.Words.{◌≡◌, ℕ, ◌+◌, ◌-◌, ◌<◌, ◌≤◌, List, ◌++◌, length, map, take, drop, Option, None, Some, inl, inr, refl, sym, ap, ◌∙◌, arith, length-append, replicate, nat_le, if◌then◌else◌, length_refill, refill, common_steps, drop-drop, drop-map, get_or_append_left, get_or-append_right, get_or-replicate, get_or_past, length-map, length-replicate, take-map, slice_get_cases, slice_get_past, Slots, HoldsRun, refilled, View, after_rewrite, SlotsHold, items_from, LaysOut, view_of, IsSound, beside, straight_start, straightened}
 use Rattle.ring_fixed.specs.declared.fixed.Fixed.{Fixed}
-use Rattle.ring_fixed.specs.fixed.Sound.{view_of, IsSound}
-use Rattle.ring_fixed.specs.slices.Straight.{beside, straight_start, straightened}
 use Rattle.ring_fixed.proofs.LaysOut.{LaysOut-items}
 use Rattle.ring_fixed.proofs.Runs.{get_or-map_some}
 use Rattle.ring_fixed.proofs.SlotsHold.{SlotsHold-same, wrap}

@@ -1,14 +1,5 @@
 -- Items that move to the places of their numbers one by one, in an order of the places.
-use Rattle.std.proofs.Common.{◌≡◌, ◌≢◌, ℕ, zero, suc, ◌+◌, ◌-◌, ◌*◌, ◌%◌, ◌<◌, ◌≤◌, Option, None, length, refl, sym, ap, ◌∙◌, arith, get_or-set_same, get_or-set_other, length-set}
-use Rattle.std.specs.Prelude.{◌↔◌, IsTrue, min, nat_lt, option_to_list, slice_get}
-use Rattle.std.specs.Int.{IsPowerOfTwo}
-use Rattle.std.proofs.Math.Decide.{ℕ_discrete}
-use Rattle.std.proofs.Math.Nat.{add-mul, mod-eq_of_lt, mod-lt}
-use Rattle.std.proofs.lemmas.Grind.{common_steps}
-use Rattle.std.proofs.lemmas.Option.{slice_get_cases}
-use Rattle.ring_slots.specs.Slots.{Slots, slot_at, IsFullAt}
-use Rattle.ring_fixed.specs.Layout.{items_from, IsLaidOut}
-use Rattle.ring_fixed.specs.slices.Straight.{beside, changed_by}
+use Rattle.ring_fixed.proofs.Words.{◌≡◌, ◌≢◌, ℕ, zero, suc, ◌+◌, ◌-◌, ◌*◌, ◌%◌, ◌<◌, ◌≤◌, Option, None, length, refl, sym, ap, ◌∙◌, arith, get_or-set_same, get_or-set_other, length-set, ◌↔◌, IsTrue, min, nat_lt, option_to_list, slice_get, IsPowerOfTwo, ℕ_discrete, add-mul, mod-eq_of_lt, mod-lt, common_steps, slice_get_cases, Slots, slot_at, IsFullAt, items_from, IsLaidOut, beside, changed_by}
 use Rattle.ring_fixed.proofs.Cycles.{InOrder}
 use Rattle.ring_fixed.proofs.SlotsHold.{SlotsHold-at}
 use Rattle.ring_fixed.proofs.Straight.{straight_is}

@@ -1,17 +1,9 @@
 -- What rings hold that were made of other collections.
-use Rattle.std.proofs.Common.{◌≡◌, ℕ, suc, ◌-◌, ◌≤◌, All, Bor, IfOk, IsOk, IsSome, IsUtf8, OnOk, Result, Ok, Err, is_ok, true, chars, List, [], ◌∷◌, ◌++◌, length, map, Option, None, Some, refl, sym, ap, ◌∙◌, arith}
-use Rattle.std.specs.Iterator.{Drains}
-use Rattle.std.specs.List.{AllZip}
-use Rattle.std.proofs.lemmas.Iterator.{YieldsList}
+use Rattle.ringbuffer.proofs.Words.{◌≡◌, ℕ, suc, ◌-◌, ◌≤◌, All, Bor, IfOk, IsOk, IsSome, IsUtf8, OnOk, Result, Ok, Err, is_ok, true, chars, List, [], ◌∷◌, ◌++◌, length, map, Option, None, Some, refl, sym, ap, ◌∙◌, arith, Drains, AllZip, YieldsList, IfOk-weaker, keep_last, shown_drained, View, ClonesMeet}
 use Rattle.std.proofs.lemmas.List.{map-id}
 use Rattle.std.proofs.lemmas.List.Elements.{All-head, All-tail}
-use Rattle.std.proofs.lemmas.Result.{IfOk-weaker}
 use Rattle.std.proofs.lemmas.Str.{encodes-chars, length-le-encodes}
-use Rattle.ring_core.specs.Contents.{keep_last}
-use Rattle.ring_core.proofs.Drained.{shown_drained}
 use Rattle.ring_fixed.specs.Somes.{somes}
-use Rattle.ring_fixed.specs.View.{View}
-use Rattle.ringbuffer.specs.Conversion.{ClonesMeet}
 
 -- the items of a source that was taken to its end are the list that it yields
 pub items_drained : {S A : Type 0} {steps : S → Option A → S → Type 0} {s : S} (xs all : List A) → Drains steps s xs → YieldsList steps (λ x. x) s all → xs ≡ all

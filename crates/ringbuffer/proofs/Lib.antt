@@ -1,5 +1,6 @@
 pub mod Conversions
 pub mod Poured
+mod Words
 pub use Rattle.ring_core.proofs.Drained
 pub use Rattle.ring_core.proofs.Items
 pub use Rattle.ring_core.proofs.Limits

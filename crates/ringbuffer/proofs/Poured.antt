@@ -1,9 +1,6 @@
 -- What a source gave in two parts, and what a vector holds that was filled by calls.
-use Rattle.std.proofs.Common.{◌≡◌, ℕ, ◌<◌, List, [], ◌∷◌, ◌++◌, take, Option, Some, sym, ap, subst, ◌∙◌, arith}
+use Rattle.ringbuffer.proofs.Words.{◌≡◌, ℕ, ◌<◌, List, [], ◌∷◌, ◌++◌, take, Option, Some, sym, ap, subst, ◌∙◌, arith, Result, Ok, Err, OnOk, OnErr, MatchResult, Yields, YieldsThen, Drains, AppendsResults, FoldsTo}
 use Rattle.std.proofs.Math.Seq.{take-nil}
-use Rattle.std.specs.Prelude.{Result, Ok, Err, OnOk, OnErr, MatchResult}
-use Rattle.std.specs.Iterator.{Yields, YieldsThen, Drains}
-use Rattle.std.specs.List.{AppendsResults, FoldsTo}
 
 module _ {S A : Type 0} (steps : S → Option A → S → Type 0) where
   -- calls that gave xs, then one item, and then ys

@@ -1,4 +1,4 @@
-use Rattle.std.proofs.Common.{refl, rules}
+use Rattle.ring_core.proofs.Words.{refl, rules}
 use Rattle.ring_core.proofs.MovedItems.{HasMoved-turn}
 use Rattle.ring_core.proofs.moving.move_all.Goals as goal
 
@@ -13,3 +13,6 @@ loop-item-preserved g c =
       limit_from = search rules;
       changes_from = search rules;
     }
+
+pub loop-item-init : goal.loop-item-init
+loop-item-init g c = search rules

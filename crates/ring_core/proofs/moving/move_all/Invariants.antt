@@ -1,5 +1,4 @@
-use Rattle.std.proofs.Common.{◌≡◌, IsSome, length}
-use Rattle.ring_core.specs.Contents.{ChangesSlots}
+use Rattle.ring_core.proofs.Words.{◌≡◌, IsSome, length, ChangesSlots}
 use Rattle.ring_core.proofs.MovedItems.{HasMoved}
 use Rattle.ring_core.proofs.moving.move_all.Given as goal
 

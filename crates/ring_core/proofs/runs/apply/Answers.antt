@@ -1,11 +1,8 @@
 -- An extension by a vector takes the vector's items in order: all of them, or a cut beginning at a refusal.
-use Rattle.std.proofs.Common.{◌≡◌, ℕ, List, ◌++◌, length, Option, Some, None, IsSome, Global, sym, ◌∙◌, refl, map-id, rules}
-use Rattle.std.specs.Iterator.{Drains, YieldsThen}
+use Rattle.ring_core.proofs.Words.{◌≡◌, ℕ, List, ◌++◌, length, Option, Some, None, IsSome, Global, sym, ◌∙◌, refl, map-id, rules, Drains, YieldsThen, YieldsList-so_far, YieldsList-turn, IsCut, keep_last}
 use Rattle.std.specs.declared.vec.IntoIter.{IntoIter}
 use Rattle.std.specs.Vec.Iter.{into_iter_items, into_iter_len, into_iter_steps}
 use Rattle.std.proofs.lemmas.Iterator.Adapters.{YieldsList-from_vec}
-use Rattle.std.proofs.lemmas.Iterator.Consumers.{YieldsList-so_far, YieldsList-turn}
-use Rattle.ring_core.specs.Contents.{IsCut, keep_last}
 use Rattle.ring_core.proofs.Drained.{shown_drained}
 use Rattle.ring_core.proofs.runs.apply.Goals as goal
 
@@ -41,3 +38,12 @@ returns-in-Err-extend-clause-refused g c =
     let v = c.in-Extend.items in let cut = IsCut-taken it v.items taken source.0 (source.1 ∙ v.ok.0) x u ended in
     let kept = keep_last-unlimited (g.R.RingBuffer.limit c.args.ring.now) (g.R.RingBuffer.contents c.args.ring.now ++ taken) (λ some. cc (c.in-Err-extend.ensures.succeeds some)) in
     (v, c.in-Extend.is, rw c.in-Extend.is (taken, cut, rw kept at left))
+
+pub returns-in-Clear-clause-contents : goal.returns-in-Clear-clause-contents
+returns-in-Clear-clause-contents g c = search rules
+
+pub returns-in-Dequeue-clause-contents : goal.returns-in-Dequeue-clause-contents
+returns-in-Dequeue-clause-contents g c = search rules
+
+pub returns-in-Dequeue-clause-reply : goal.returns-in-Dequeue-clause-reply
+returns-in-Dequeue-clause-reply g c = search rules

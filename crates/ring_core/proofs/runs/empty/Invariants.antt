@@ -1,4 +1,4 @@
-use Rattle.std.proofs.Common.{◌≡◌, None, replicate, take}
+use Rattle.ring_core.proofs.Words.{◌≡◌, None, replicate, take}
 use Rattle.ring_core.proofs.runs.empty.Given as goal
 
 -- the places passed so far hold `None`

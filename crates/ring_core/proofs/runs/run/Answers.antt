@@ -1,6 +1,5 @@
 -- One turn of the loop, its end, its stop at a refusal, and what holds where no command was done.
-use Rattle.std.proofs.Common.{◌<◌, length, arith, rules}
-use Rattle.ring_core.specs.History.{steps}
+use Rattle.ring_core.proofs.Words.{◌<◌, length, arith, rules, steps}
 use Rattle.ring_core.proofs.HeldWindow.{KeepsToNumbers-held}
 use Rattle.ring_core.proofs.CommandLoop.{HasDone-end, HasDone-next, HasDone-stops, HasDone-turn, length-replies_so_far, replies_to-turn}
 use Rattle.ring_core.proofs.runs.run.Goals as goal
@@ -54,3 +53,9 @@ returns-in_default-apply-clause-numbers g c = KeepsToNumbers-held _ _ (steps c.a
 
 pub returns-in_default-clause-numbers : goal.returns-in_default-clause-numbers
 returns-in_default-clause-numbers g c = KeepsToNumbers-held _ _ (steps c.args.commands.items) c.len.ensures.within
+
+pub returns-in_default-clause-few_changes : goal.returns-in_default-clause-few_changes
+returns-in_default-clause-few_changes g c = search rules
+
+pub returns-in_default-clause-no_room : goal.returns-in_default-clause-no_room
+returns-in_default-clause-no_room g c = search rules

@@ -1,5 +1,4 @@
-use Rattle.std.proofs.Common.{◌≡◌, ◌≤◌, length, vec_capacity}
-use Rattle.ring_core.specs.Meaning.{replies_to}
+use Rattle.ring_core.proofs.Words.{◌≡◌, ◌≤◌, length, vec_capacity, replies_to}
 use Rattle.ring_core.proofs.CommandLoop.{HasDone}
 use Rattle.ring_core.proofs.runs.run.Given as goal
 

@@ -1,6 +1,5 @@
 -- One turn of the loop, its end, and its stop at a refusal.
-use Rattle.std.proofs.Common.{arith, rules}
-use Rattle.ring_core.specs.History.{steps}
+use Rattle.ring_core.proofs.Words.{arith, rules, steps}
 use Rattle.ring_core.proofs.RunParts.{places_all}
 use Rattle.ring_core.proofs.HeldWindow.{KeepsToNumbers-held}
 use Rattle.ring_core.proofs.CommandLoop.{HasDone-end, HasDone-next, HasDone-stops, HasDone-turn, places-turn}
@@ -46,3 +45,6 @@ returns g c =
 
 pub returns-in_default-clause-numbers : goal.returns-in_default-clause-numbers
 returns-in_default-clause-numbers g c = KeepsToNumbers-held _ _ (steps c.args.commands.items) c.len.ensures.within
+
+pub loop-command-init : goal.loop-command-init
+loop-command-init g c = search rules

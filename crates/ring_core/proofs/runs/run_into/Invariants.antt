@@ -1,5 +1,4 @@
-use Rattle.std.proofs.Common.{◌≡◌, length}
-use Rattle.ring_core.specs.Meaning.{places, replies_to}
+use Rattle.ring_core.proofs.Words.{◌≡◌, length, places, replies_to}
 use Rattle.ring_core.proofs.CommandLoop.{HasDone}
 use Rattle.ring_core.proofs.runs.run_into.Given as goal
 

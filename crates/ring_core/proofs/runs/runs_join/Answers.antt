@@ -1,8 +1,5 @@
 -- By item numbers a run of both lists is what it is as lists, and there it is the two runs in turn.
-use Rattle.std.proofs.Common.{◌++◌, ◌∙◌, ap}
-use Rattle.std.proofs.lemmas.Grind.{flat_map-append}
-use Rattle.ring_core.specs.History.{pushed, steps, steps_of}
-use Rattle.ring_core.specs.Meaning.{after_all}
+use Rattle.ring_core.proofs.Words.{◌++◌, ◌∙◌, ap, flat_map-append, pushed, steps, steps_of, after_all}
 use Rattle.ring_core.proofs.HeldWindow.{pushed-append}
 use Rattle.ring_core.proofs.BothMeanings.{IsWithin-after_all, contents_after-all, replies_of-all}
 use Rattle.ring_core.proofs.RunParts.{after_all-append, replies_to-append}

@@ -1,7 +1,4 @@
-use Rattle.std.proofs.Common.{[], ◌∷◌, ◌++◌, refl, ◌∙◌, append_assoc}
-use Rattle.std.proofs.lemmas.List.{map-append}
-use Rattle.std.proofs.lemmas.List.Elements.{AllZip-push}
-use Rattle.ring_core.proofs.Limits.{keep_last-keep_last}
+use Rattle.ring_fixed.proofs.Words.{[], ◌∷◌, ◌++◌, refl, ◌∙◌, append_assoc, map-append, AllZip-push, keep_last-keep_last}
 use Rattle.ring_fixed.proofs.shared.extend_cloned.Goals as goal
 
 pub loop-item-preserved : goal.loop-item-preserved

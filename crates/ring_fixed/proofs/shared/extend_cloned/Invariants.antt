@@ -1,6 +1,4 @@
-use Rattle.std.proofs.Common.{◌≡◌, ◌++◌, List, map}
-use Rattle.std.specs.List.{AllZip}
-use Rattle.ring_core.specs.Contents.{keep_last}
+use Rattle.ring_fixed.proofs.Words.{◌≡◌, ◌++◌, List, map, AllZip, keep_last}
 use Rattle.ring_fixed.proofs.shared.extend_cloned.Given as goal
 
 -- the clones so far came behind the old items

@@ -1,7 +1,4 @@
-use Rattle.std.proofs.Common.{◌≡◌, ℕ, get_or, ◌+◌, ◌++◌, List, [], ◌∷◌, MatchOption, refl, sym, ◌∙◌, arith}
-use Rattle.std.proofs.lemmas.List.{drop-drop, drop-set-lt, length-set}
-use Rattle.std.proofs.lemmas.Grind.{common_steps}
-use Rattle.ring_core.specs.Contents.{keep_last}
+use Rattle.ring_fixed.proofs.Words.{◌≡◌, ℕ, get_or, ◌+◌, ◌++◌, List, [], ◌∷◌, MatchOption, refl, sym, ◌∙◌, arith, drop-drop, drop-set-lt, length-set, common_steps, keep_last, rules}
 use Rattle.ring_fixed.proofs.SomesTaken.{somes_turn}
 use Rattle.ring_fixed.proofs.shared.extend_somes.Goals as goal
 use Rattle.ring_fixed.proofs.shared.extend_somes.Goals.{in-Some+in_ok-push_item, in_default}
@@ -24,3 +21,6 @@ loop-i-preserved g c =
       same_length = length-set _ _ _ ∙ done.same_length;
       same_limit = elim c.match-take.branch [ in-Some+in_ok-push_item w ↦ grind (arith, common_steps) | in_default w ↦ grind (arith, common_steps) ];
     }
+
+pub loop-i-init : goal.loop-i-init
+loop-i-init g c = search rules

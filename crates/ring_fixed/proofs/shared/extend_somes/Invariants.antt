@@ -1,6 +1,4 @@
-use Rattle.std.proofs.Common.{◌≡◌, ◌++◌, drop, length, take}
-use Rattle.ring_core.specs.Contents.{keep_last}
-use Rattle.ring_fixed.specs.Somes.{somes}
+use Rattle.ring_fixed.proofs.Words.{◌≡◌, ◌++◌, drop, length, take, keep_last, somes}
 use Rattle.ring_fixed.proofs.shared.extend_somes.Given as goal
 
 -- the items before the index came behind the old ones, and the other places are as they were

@@ -1,8 +1,5 @@
 -- Both walks gave items that are equal pair by pair, and the two answers after them decide.
-use Rattle.std.proofs.Common.{◌≡◌, ◌∙◌, sym, ap, refl, Bool, true, false, ◌&&◌, Bor, List, [], ◌∷◌, ◌++◌, map, Option, None, Some, MatchOption, IfSome}
-use Rattle.std.specs.Cmp.Lexicographic.{pointwise}
-use Rattle.std.specs.Iterator.{Yields, YieldsFirstRef}
-use Rattle.std.specs.List.{AllZip}
+use Rattle.ring_fixed.proofs.Words.{◌≡◌, ◌∙◌, sym, ap, refl, Bool, true, false, ◌&&◌, Bor, List, [], ◌∷◌, ◌++◌, map, Option, None, Some, MatchOption, IfSome, pointwise, Yields, YieldsFirstRef, AllZip}
 use Rattle.ring_core.specs.Walk.{iterator_to_come}
 use Rattle.ring_fixed.proofs.shared.same_items.Goals as goal
 

@@ -1,6 +1,4 @@
-use Rattle.std.proofs.Common.{◌++◌, List, sym, ap, subst, ◌∙◌}
-use Rattle.std.specs.List.{AllZip}
-use Rattle.ring_core.proofs.Items.{AllZip-join}
+use Rattle.ring_fixed.proofs.Words.{◌++◌, List, sym, ap, subst, ◌∙◌, AllZip, AllZip-join}
 use Rattle.ring_fixed.proofs.slices.clone_slices.Goals as goal
 
 -- Clones of the first slice, and then of the second.

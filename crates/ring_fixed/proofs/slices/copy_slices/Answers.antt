@@ -1,7 +1,4 @@
-use Rattle.std.proofs.Common.{◌≡◌, ℕ, ◌+◌, ◌<◌, ◌≤◌, ◌++◌, List, length, take, refl, sym, arith, append_assoc}
-use Rattle.std.proofs.lemmas.Grind.{common_steps}
-use Rattle.std.proofs.Math.Seq.{take-append-add}
-use Rattle.std.proofs.lemmas.List.{drop-drop}
+use Rattle.ring_fixed.proofs.Words.{◌≡◌, ℕ, ◌+◌, ◌<◌, ◌≤◌, ◌++◌, List, length, take, refl, sym, arith, append_assoc, common_steps, take-append-add, drop-drop}
 use Rattle.ring_fixed.proofs.slices.copy_slices.Goals as goal
 
 -- a beginning of two lists is one of the first and one of the second, which is empty unless the first is whole

@@ -1,11 +1,6 @@
 -- The parts of both lists are as long as one another, pair by pair, but for the middles, of which one is empty.
-use Rattle.std.proofs.Common.{◌≡◌, ◌∙◌, ap, refl, arith, ℕ, ◌+◌, ◌-◌, ◌⊎◌, inl, inr, length, List, [], ◌∷◌, ◌++◌, take, drop, take-append-drop, length-take-le, length-drop, Bool, ◌&&◌, append_assoc, sym}
+use Rattle.ring_fixed.proofs.Words.{◌≡◌, ◌∙◌, ap, refl, arith, ℕ, ◌+◌, ◌-◌, ◌⊎◌, inl, inr, length, List, [], ◌∷◌, ◌++◌, take, drop, take-append-drop, length-take-le, length-drop, Bool, ◌&&◌, append_assoc, sym, dec_lt, common_steps, nil_from_length, min, pointwise}
 use Rattle.std.proofs.Math.Bool.{and_assoc}
-use Rattle.std.proofs.Math.Decide.{dec_lt}
-use Rattle.std.proofs.lemmas.Grind.{common_steps}
-use Rattle.std.proofs.lemmas.List.{nil_from_length}
-use Rattle.std.specs.Prelude.{min}
-use Rattle.std.specs.Cmp.Lexicographic.{pointwise}
 use Rattle.ring_fixed.proofs.slices.same_in_slices.Goals as goal
 use Rattle.ring_fixed.proofs.slices.same_in_slices.Goals.{then-eq, else-eq, then-eq-2, else-eq-2}
 

@@ -1,4 +1,4 @@
-use Rattle.std.specs.Prelude.{All}
+use Rattle.ringbuffer.proofs.Words.{All}
 use Rattle.ringbuffer.proofs.grow.clones.Given as goal
 
 -- all items so far are clones

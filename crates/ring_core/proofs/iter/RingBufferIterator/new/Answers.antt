@@ -1,5 +1,5 @@
 use Rattle.std.proofs.iter.Rest.{run_of_first_by, run_of_last_by}
-use Rattle.ring_core.specs.Walk.{iterator_to_come}
+use Rattle.ring_core.proofs.Words.{iterator_to_come}
 use Rattle.ring_core.proofs.iter.RingBufferIterator.new.Goals as goal
 
 pub returns-clause-runs : goal.returns-clause-runs

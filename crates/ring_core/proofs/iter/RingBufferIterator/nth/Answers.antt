@@ -1,4 +1,4 @@
-use Rattle.std.proofs.Common.{refl, arith}
+use Rattle.ring_core.proofs.Words.{refl, arith}
 use Rattle.ring_core.proofs.Walks.{length-to_come, slice_get-to_come}
 use Rattle.ring_core.proofs.iter.RingBufferIterator.nth.Goals as goal
 

@@ -1,4 +1,4 @@
-use Rattle.std.proofs.Common.{arith}
+use Rattle.ring_core.proofs.Words.{arith}
 use Rattle.ring_core.proofs.Walks.{to_come-next}
 use Rattle.ring_core.proofs.iter.RingBufferIteratorIterator.next.Goals as goal
 

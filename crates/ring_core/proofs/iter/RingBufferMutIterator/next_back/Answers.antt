@@ -1,8 +1,4 @@
-use Rattle.std.proofs.Common.{◌≡◌, ◌-◌, ◌<◌, IsNone, length, min, ap, arith}
-use Rattle.std.specs.Option.{option_copied_mut}
-use Rattle.std.proofs.Math.Nat.{mod-eq_of_lt}
-use Rattle.ring_core.specs.Contents.{place}
-use Rattle.ring_core.specs.Cursor.{stepped}
+use Rattle.ring_core.proofs.Words.{◌≡◌, ◌-◌, ◌<◌, IsNone, length, min, ap, arith, option_copied_mut, mod-eq_of_lt, place, stepped}
 use Rattle.ring_core.proofs.Lending.{lent_as}
 use Rattle.ring_core.proofs.Walks.{length-to_come, none-to_come, slice_get-to_come}
 use Rattle.ring_core.proofs.iter.RingBufferMutIterator.next_back.Goals as goal

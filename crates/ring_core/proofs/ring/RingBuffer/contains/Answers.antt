@@ -1,4 +1,4 @@
-use Rattle.std.proofs.Common.{sym, ◌∙◌, arith}
+use Rattle.ring_core.proofs.Words.{sym, ◌∙◌, arith}
 use Rattle.ring_core.proofs.Reading.{drop_read}
 use Rattle.ring_core.proofs.ring.RingBuffer.contains.Goals as goal
 

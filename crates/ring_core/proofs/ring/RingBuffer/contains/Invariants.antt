@@ -1,5 +1,4 @@
-use Rattle.std.proofs.Common.{◌≡◌, drop}
-use Rattle.std.specs.List.{list_any}
+use Rattle.ring_core.proofs.Words.{◌≡◌, drop, list_any}
 use Rattle.ring_core.proofs.ring.RingBuffer.contains.Given as goal
 
 -- what the items from the index on say is what all items say

@@ -1,4 +1,4 @@
-use Rattle.std.proofs.Common.{◌≡◌}
+use Rattle.ring_core.proofs.Words.{◌≡◌}
 use Rattle.ring_core.proofs.Filling.{IsFilled}
 use Rattle.ring_core.proofs.ring.RingBuffer.fill.Given as goal
 

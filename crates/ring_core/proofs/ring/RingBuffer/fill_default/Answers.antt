@@ -1,6 +1,4 @@
-use Rattle.std.proofs.Common.{All, rules, List, [], ◌∷◌}
-use Rattle.std.specs.List.{FoldsTo}
-use Rattle.std.proofs.lemmas.List.Elements.{All-cons, All-nil}
+use Rattle.ring_core.proofs.Words.{All, rules, List, [], ◌∷◌, FoldsTo, All-cons, All-nil}
 use Rattle.ring_core.proofs.ring.RingBuffer.fill_default.Goals as goal
 
 -- what calls made, where each call makes such an item

@@ -1,5 +1,4 @@
-use Rattle.std.proofs.Common.{arith}
-use Rattle.std.proofs.lemmas.List.Elements.{AllZip-push}
+use Rattle.ring_core.proofs.Words.{arith, AllZip-push}
 use Rattle.ring_core.proofs.Reading.{take_read}
 use Rattle.ring_core.proofs.ring.RingBuffer.to_vec.Goals as goal
 

@@ -1,5 +1,4 @@
-use Rattle.std.proofs.Common.{take}
-use Rattle.std.specs.List.{AllZip}
+use Rattle.ring_core.proofs.Words.{take, AllZip}
 use Rattle.ring_core.proofs.ring.RingBuffer.to_vec.Given as goal
 
 -- the vector has clones of the items before the index

@@ -1,6 +1,4 @@
-use Rattle.std.proofs.Common.{ap, length, refl, ◌∙◌}
-use Rattle.ring_fixed.specs.View.{View}
-use Rattle.ring_fixed.specs.fixed.Sound.{view_of}
+use Rattle.ring_fixed.proofs.Words.{ap, length, refl, ◌∙◌, View, view_of}
 use Rattle.ring_fixed.proofs.LaysOut.{restart}
 use Rattle.ring_fixed.proofs.RepeatedSteps.{after_takes-all}
 use Rattle.ring_fixed.proofs.fixed.Fixed.clear.Goals as goal

@@ -1,9 +1,4 @@
-use Rattle.std.proofs.Common.{◌≡◌, ℕ, ◌++◌, [], List, subst, ap, arith, refl, length, length-append, sym, ◌∙◌}
-use Rattle.std.specs.Prelude.{IsOk, Result}
-use Rattle.ring_core.proofs.Items.{AllZip-join}
-use Rattle.ring_slots.specs.Slots.{Slots}
-use Rattle.ring_fixed.specs.View.{View, after_puts}
-use Rattle.ring_fixed.specs.Layout.{view_from, items_from, IsLaidOut, LaysOut}
+use Rattle.ring_fixed.proofs.Words.{◌≡◌, ℕ, ◌++◌, [], List, subst, ap, arith, refl, length, length-append, sym, ◌∙◌, IsOk, Result, AllZip-join, Slots, View, after_puts, view_from, items_from, IsLaidOut, LaysOut}
 use Rattle.ring_fixed.proofs.LaysOut.{LaysOut-none, LaysOut-then, restart}
 use Rattle.ring_fixed.proofs.RepeatedSteps.{after_puts-then}
 use Rattle.ring_fixed.proofs.fixed.Fixed.cloned_from.Goals as goal

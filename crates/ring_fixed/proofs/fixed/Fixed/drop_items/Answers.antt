@@ -1,4 +1,4 @@
-use Rattle.std.proofs.Common.{◌-◌, ap}
+use Rattle.ring_fixed.proofs.Words.{◌-◌, ap}
 use Rattle.ring_fixed.proofs.EmptiedRuns.{first_full, second_full, LaysOut-takes, LaysOut-truncate}
 use Rattle.ring_fixed.proofs.fixed.Fixed.drop_items.Goals as goal
 

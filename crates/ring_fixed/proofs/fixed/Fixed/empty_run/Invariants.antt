@@ -1,5 +1,5 @@
 -- So far the slots up to a place are emptied.
-use Rattle.ring_fixed.specs.Layout.{Empties}
+use Rattle.ring_fixed.proofs.Words.{Empties}
 use Rattle.ring_fixed.proofs.fixed.Fixed.empty_run.Given as goal
 
 abbrev pub invariant-loop-place : goal.invariant-loop-place

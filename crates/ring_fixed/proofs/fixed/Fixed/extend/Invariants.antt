@@ -1,7 +1,5 @@
 -- So far the items that the source gave are pushed.
-use Rattle.std.proofs.Common.{◌≡◌, ◌≤◌, length}
-use Rattle.ring_fixed.specs.View.{after_extend}
-use Rattle.ring_fixed.specs.Layout.{view_from, LaysOut}
+use Rattle.ring_fixed.proofs.Words.{◌≡◌, ◌≤◌, length, after_extend, view_from, LaysOut}
 use Rattle.ring_fixed.proofs.fixed.Fixed.extend.Given as goal
 
 abbrev pub invariant-loop-item : goal.invariant-loop-item

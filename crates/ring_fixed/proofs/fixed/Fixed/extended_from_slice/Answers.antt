@@ -1,8 +1,5 @@
-use Rattle.std.proofs.Common.{◌≡◌, ℕ, ◌+◌, ◌-◌, ◌%◌, ◌++◌, drop, ap, refl, sym, ◌∙◌, arith, length, length-append, take-append-drop}
-use Rattle.std.proofs.Math.Nat.{mod_self}
+use Rattle.ring_fixed.proofs.Words.{◌≡◌, ℕ, ◌+◌, ◌-◌, ◌%◌, ◌++◌, drop, ap, refl, sym, ◌∙◌, arith, length, length-append, take-append-drop, mod_self, View, after_keep_newest, after_puts, view_from}
 use Rattle.ring_fixed.proofs.SlotsHold.{count_on}
-use Rattle.ring_fixed.specs.View.{View, after_keep_newest, after_puts}
-use Rattle.ring_fixed.specs.Layout.{view_from}
 use Rattle.ring_fixed.proofs.LaysOut.{LaysOut-then}
 use Rattle.ring_fixed.proofs.RepeatedSteps.{after_extend_from_slice-by, after_puts-then}
 use Rattle.ring_fixed.proofs.fixed.Fixed.extended_from_slice.Goals as goal

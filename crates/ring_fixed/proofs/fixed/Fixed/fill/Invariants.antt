@@ -1,7 +1,5 @@
 -- So far as many clones are put as turns were taken.
-use Rattle.std.proofs.Common.{◌≡◌, All, List, length}
-use Rattle.ring_fixed.specs.View.{after_puts}
-use Rattle.ring_fixed.specs.Layout.{view_from, LaysOut}
+use Rattle.ring_fixed.proofs.Words.{◌≡◌, All, List, length, after_puts, view_from, LaysOut}
 use Rattle.ring_fixed.proofs.fixed.Fixed.fill.Given as goal
 
 abbrev pub invariant-loop-len : goal.invariant-loop-len

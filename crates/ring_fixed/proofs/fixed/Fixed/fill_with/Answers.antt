@@ -1,6 +1,5 @@
-use Rattle.std.proofs.Common.{[], ◌∷◌, ◌++◌, arith, of_calls, length-append}
+use Rattle.ring_fixed.proofs.Words.{[], ◌∷◌, ◌++◌, arith, of_calls, length-append, after_put, rules}
 use Rattle.std.proofs.lemmas.Fn.{FoldsTo-push}
-use Rattle.ring_fixed.specs.View.{after_put}
 use Rattle.ring_fixed.proofs.RepeatedSteps.{after_puts-more}
 use Rattle.ring_fixed.proofs.LaysOut.{LaysOut-then}
 use Rattle.ring_fixed.proofs.fixed.Fixed.fill_with.Goals as goal
@@ -16,3 +15,9 @@ loop-len-preserved g c =
       start = c.loop-len.invariant.start;
       put = (xs ++ x ∷ [], FoldsTo-push _ _ xs _ x _ calls c.make.ensures, omega (arith, length-append xs (x ∷ [])), rw after_puts-more at more);
     }
+
+pub put_next-requires-clause-len : goal.put_next-requires-clause-len
+put_next-requires-clause-len g c = search rules
+
+pub put_next-requires-clause-room : goal.put_next-requires-clause-room
+put_next-requires-clause-room g c = search rules

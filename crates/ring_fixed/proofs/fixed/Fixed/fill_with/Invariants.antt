@@ -1,8 +1,5 @@
 -- So far the answers of the closure are put, and it may be called again.
-use Rattle.std.proofs.Common.{◌≡◌, List, length}
-use Rattle.std.specs.List.{FoldsTo}
-use Rattle.ring_fixed.specs.View.{after_puts}
-use Rattle.ring_fixed.specs.Layout.{view_from, LaysOut}
+use Rattle.ring_fixed.proofs.Words.{◌≡◌, List, length, FoldsTo, after_puts, view_from, LaysOut}
 use Rattle.ring_fixed.proofs.fixed.Fixed.fill_with.Given as goal
 
 abbrev pub invariant-loop-len : goal.invariant-loop-len

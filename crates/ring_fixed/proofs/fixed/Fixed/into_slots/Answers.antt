@@ -1,5 +1,4 @@
-use Rattle.std.proofs.Common.{ap}
-use Rattle.ring_fixed.specs.View.{View}
+use Rattle.ring_fixed.proofs.Words.{ap, View}
 use Rattle.ring_fixed.proofs.LaysOut.{all_empty}
 use Rattle.ring_fixed.proofs.fixed.Fixed.into_slots.Goals as goal
 

@@ -1,4 +1,4 @@
-use Rattle.std.proofs.Common.{ap, sym, length}
+use Rattle.ring_fixed.proofs.Words.{ap, sym, length}
 use Rattle.ring_fixed.proofs.LaysOut.{IsLaidOut-empty, items_from-empty}
 use Rattle.ring_fixed.proofs.fixed.Fixed.over.Goals as goal
 

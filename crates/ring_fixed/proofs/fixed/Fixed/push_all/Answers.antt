@@ -1,8 +1,4 @@
-use Rattle.std.proofs.Common.{◌≡◌, ℕ, Bool, true, false, List, [], ◌∷◌, ◌++◌, ap, sym, ◌∙◌, length}
-use Rattle.std.specs.declared.iter.Iterator.{Ghosts}
-use Rattle.ring_slots.specs.Slots.{Slots}
-use Rattle.ring_fixed.specs.View.{View, after_push, after_extend}
-use Rattle.ring_fixed.specs.Layout.{view_from, LaysOut}
+use Rattle.ring_fixed.proofs.Words.{◌≡◌, ℕ, Bool, true, false, List, [], ◌∷◌, ◌++◌, ap, sym, ◌∙◌, length, Ghosts, Slots, View, after_push, after_extend, view_from, LaysOut}
 use Rattle.ring_fixed.proofs.LaysOut.{LaysOut-then}
 use Rattle.ring_fixed.proofs.Sources.{gives, Gives-one, Gives-then}
 use Rattle.ring_fixed.proofs.RepeatedSteps.{after_extend-then}

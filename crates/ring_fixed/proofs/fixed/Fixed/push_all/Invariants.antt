@@ -1,8 +1,5 @@
 -- So far what the source gave is pushed.
-use Rattle.std.proofs.Common.{◌≡◌, List, length, true}
-use Rattle.ring_fixed.specs.Sources.{Gives}
-use Rattle.ring_fixed.specs.View.{after_extend}
-use Rattle.ring_fixed.specs.Layout.{view_from, LaysOut}
+use Rattle.ring_fixed.proofs.Words.{◌≡◌, List, length, true, Gives, after_extend, view_from, LaysOut}
 use Rattle.ring_fixed.proofs.fixed.Fixed.push_all.Given as goal
 
 abbrev pub invariant-loop-item : goal.invariant-loop-item

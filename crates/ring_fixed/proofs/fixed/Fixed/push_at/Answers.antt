@@ -1,4 +1,4 @@
-use Rattle.std.proofs.Common.{arith, ◌∙◌}
+use Rattle.ring_fixed.proofs.Words.{arith, ◌∙◌}
 use Rattle.ring_fixed.proofs.LaysOut.{same_place}
 use Rattle.ring_fixed.proofs.fixed.Fixed.push_at.Goals as goal
 

@@ -1,8 +1,4 @@
-use Rattle.std.proofs.Common.{◌≡◌, ℕ, ◌<◌, ◌≤◌, ◌+◌, ◌%◌, Bool, true, false, nat_eq, List, [], ◌∷◌, ◌++◌, if◌then◌else◌, refl, ap, sym, ◌∙◌, arith, length, length-append}
-use Rattle.std.proofs.Math.Nat.{mod-eq_of_lt}
-use Rattle.ring_slots.specs.Slots.{Slots}
-use Rattle.ring_fixed.specs.View.{View, after_put, after_take, after_extend}
-use Rattle.ring_fixed.specs.Layout.{after_pushes, view_from, items_from, LaysOut}
+use Rattle.ring_fixed.proofs.Words.{◌≡◌, ℕ, ◌<◌, ◌≤◌, ◌+◌, ◌%◌, Bool, true, false, nat_eq, List, [], ◌∷◌, ◌++◌, if◌then◌else◌, refl, ap, sym, ◌∙◌, arith, length, length-append, mod-eq_of_lt, Slots, View, after_put, after_take, after_extend, after_pushes, view_from, items_from, LaysOut}
 use Rattle.ring_fixed.proofs.LaysOut.{LaysOut-none, LaysOut-then}
 use Rattle.ring_fixed.proofs.SlotsHold.{straight_on, count_on}
 use Rattle.ring_fixed.proofs.Sources.{Gives-none, Gives-one, Gives-then}

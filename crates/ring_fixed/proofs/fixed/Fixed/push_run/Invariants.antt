@@ -1,8 +1,5 @@
 -- So far as many items that the source gave are pushed as turns were taken.
-use Rattle.std.proofs.Common.{◌≡◌, List, length, true}
-use Rattle.ring_fixed.specs.Sources.{Gives}
-use Rattle.ring_fixed.specs.View.{after_extend}
-use Rattle.ring_fixed.specs.Layout.{after_pushes, view_from, LaysOut}
+use Rattle.ring_fixed.proofs.Words.{◌≡◌, List, length, true, Gives, after_extend, after_pushes, view_from, LaysOut}
 use Rattle.ring_fixed.proofs.fixed.Fixed.push_run.Given as goal
 
 abbrev pub invariant-loop-i : goal.invariant-loop-i

@@ -1,6 +1,4 @@
-use Rattle.std.proofs.Common.{[], ◌∷◌, ◌++◌, arith, length-append}
-use Rattle.std.proofs.lemmas.List.Elements.{all_zip_more}
-use Rattle.ring_fixed.specs.View.{after_put}
+use Rattle.ring_fixed.proofs.Words.{[], ◌∷◌, ◌++◌, arith, length-append, all_zip_more, after_put}
 use Rattle.ring_fixed.proofs.LaysOut.{LaysOut-then}
 use Rattle.ring_fixed.proofs.RepeatedSteps.{after_puts-more}
 use Rattle.ring_fixed.proofs.fixed.Fixed.put_clones.Goals as goal

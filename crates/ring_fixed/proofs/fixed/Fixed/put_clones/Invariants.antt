@@ -1,8 +1,5 @@
 -- So far the items that were passed have their clones.
-use Rattle.std.proofs.Common.{◌≡◌, List, length, take}
-use Rattle.std.specs.List.{AllZip}
-use Rattle.ring_fixed.specs.View.{after_puts}
-use Rattle.ring_fixed.specs.Layout.{view_from, LaysOut}
+use Rattle.ring_fixed.proofs.Words.{◌≡◌, List, length, take, AllZip, after_puts, view_from, LaysOut}
 use Rattle.ring_fixed.proofs.fixed.Fixed.put_clones.Given as goal
 
 abbrev pub invariant-loop-i : goal.invariant-loop-i

@@ -1,4 +1,4 @@
-use Rattle.std.proofs.Common.{arith}
+use Rattle.ring_fixed.proofs.Words.{arith}
 use Rattle.ring_fixed.proofs.SlotsHold.{straight_on}
 use Rattle.ring_fixed.proofs.fixed.Fixed.put_copies.Goals as goal
 

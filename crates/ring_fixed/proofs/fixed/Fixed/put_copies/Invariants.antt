@@ -1,7 +1,5 @@
 -- So far the items that were passed are put.
-use Rattle.std.proofs.Common.{take}
-use Rattle.ring_fixed.specs.View.{after_puts}
-use Rattle.ring_fixed.specs.Layout.{view_from, LaysOut}
+use Rattle.ring_fixed.proofs.Words.{take, after_puts, view_from, LaysOut}
 use Rattle.ring_fixed.proofs.fixed.Fixed.put_copies.Given as goal
 
 abbrev pub invariant-loop-i : goal.invariant-loop-i

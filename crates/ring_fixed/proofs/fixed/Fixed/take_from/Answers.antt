@@ -1,4 +1,4 @@
-use Rattle.std.proofs.Common.{sym, ◌∙◌}
+use Rattle.ring_fixed.proofs.Words.{sym, ◌∙◌}
 use Rattle.ring_fixed.proofs.LaysOut.{first_held, first_full, LaysOut-take}
 use Rattle.ring_fixed.proofs.fixed.Fixed.take_from.Goals as goal
 

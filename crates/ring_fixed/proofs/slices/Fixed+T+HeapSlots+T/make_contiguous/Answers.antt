@@ -1,8 +1,4 @@
-use Rattle.std.proofs.Common.{◌≡◌, ◌+◌, ◌*◌, ◌≤◌, List, arith, ap, length, sym, ◌∙◌, refl}
-use Rattle.std.specs.List.{refill}
-use Rattle.ring_slots.specs.Slots.{refilled, HoldsRun}
-use Rattle.ring_fixed.specs.Layout.{items_from}
-use Rattle.ring_fixed.specs.slices.Straight.{beside}
+use Rattle.ring_fixed.proofs.Words.{◌≡◌, ◌+◌, ◌*◌, ◌≤◌, List, arith, ap, length, sym, ◌∙◌, refl, refill, refilled, HoldsRun, items_from, beside}
 use Rattle.ring_fixed.proofs.Runs.{run_is}
 use Rattle.ring_fixed.proofs.Straight.{beside-refilled, beside-run, straight_fits}
 use Rattle.ring_fixed.proofs.slices.Fixed+T+HeapSlots+T.make_contiguous.Goals as goal

@@ -1,4 +1,4 @@
-use Rattle.std.proofs.Common.{arith, length}
+use Rattle.ring_fixed.proofs.Words.{arith, length}
 use Rattle.ring_fixed.proofs.Cycles.{cycles_of}
 use Rattle.ring_fixed.proofs.Turned.{Plan, none_turned, first_holds, is_full, begins, next_holds, goes_on, ends, all_turned}
 use Rattle.ring_fixed.proofs.slices.Fixed+T+HeapSlots+T.turn.Goals as goal

@@ -1,5 +1,5 @@
 -- So far the items are in the places of their numbers in so many cycles, and so far round the next one.
-use Rattle.std.proofs.Common.{◌^◌, ◌/◌, length}
+use Rattle.ring_fixed.proofs.Words.{◌^◌, ◌/◌, length}
 use Rattle.ring_fixed.proofs.Turned.{Plan, AreTurned, Turns}
 use Rattle.ring_fixed.proofs.slices.Fixed+T+HeapSlots+T.turn.Given as goal
 

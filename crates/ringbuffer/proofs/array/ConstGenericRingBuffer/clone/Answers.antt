@@ -1,7 +1,4 @@
-use Rattle.std.proofs.Common.{◌≡◌, ap, arith}
-use Rattle.std.proofs.lemmas.Iterator.Consumers.{YieldsList-from_first}
-use Rattle.std.proofs.lemmas.Slice.Zip.{AllZip-long}
-use Rattle.ring_fixed.specs.View.{View}
+use Rattle.ringbuffer.proofs.Words.{◌≡◌, ap, arith, YieldsList-from_first, AllZip-long, View}
 use Rattle.ringbuffer.proofs.Conversions.{all_kept, ClonesMeet-drained}
 use Rattle.ringbuffer.proofs.array.ConstGenericRingBuffer.clone.Goals as goal
 

@@ -1,5 +1,4 @@
-use Rattle.std.proofs.Common.{Some}
-use Rattle.ring_core.proofs.Drained.{YieldsList-unpacked}
+use Rattle.ringbuffer.proofs.Words.{Some, YieldsList-unpacked}
 use Rattle.ringbuffer.proofs.Conversions.{last_made}
 use Rattle.ringbuffer.proofs.array.ConstGenericRingBuffer.from_alloc.Goals as goal
 

@@ -1,5 +1,4 @@
-use Rattle.std.proofs.Common.{ap, arith, refl}
-use Rattle.ring_fixed.specs.View.{View}
+use Rattle.ringbuffer.proofs.Words.{ap, arith, refl, View}
 use Rattle.ringbuffer.proofs.Conversions.{all_kept, held_on_ok, length-somes}
 use Rattle.ringbuffer.proofs.array.ConstGenericRingBuffer.from_array.Goals as goal
 

@@ -1,4 +1,4 @@
-use Rattle.std.proofs.lemmas.Iterator.Consumers.{YieldsList-from_rest}
+use Rattle.ringbuffer.proofs.Words.{YieldsList-from_rest}
 use Rattle.ringbuffer.proofs.Conversions.{last_made}
 use Rattle.ringbuffer.proofs.array.ConstGenericRingBuffer.from_linked_list.Goals as goal
 

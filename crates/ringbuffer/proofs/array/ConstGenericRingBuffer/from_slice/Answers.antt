@@ -1,7 +1,4 @@
-use Rattle.std.proofs.Common.{◌++◌, Some, ap, ◌∙◌}
-use Rattle.std.proofs.lemmas.Iterator.{YieldsList-from_slice}
-use Rattle.ring_core.specs.Contents.{keep_last}
-use Rattle.ring_fixed.specs.View.{View}
+use Rattle.ringbuffer.proofs.Words.{◌++◌, Some, ap, ◌∙◌, YieldsList-from_slice, keep_last, View}
 use Rattle.ringbuffer.proofs.Conversions.{ClonesMeet-drained}
 use Rattle.ringbuffer.proofs.array.ConstGenericRingBuffer.from_slice.Goals as goal
 

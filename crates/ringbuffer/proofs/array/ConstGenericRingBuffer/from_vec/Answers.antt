@@ -1,5 +1,4 @@
-use Rattle.std.proofs.Common.{rules}
-use Rattle.std.proofs.lemmas.Iterator.Adapters.{YieldsList-from_vec}
+use Rattle.ringbuffer.proofs.Words.{rules, YieldsList-from_vec}
 use Rattle.ringbuffer.proofs.Conversions.{last_made}
 use Rattle.ringbuffer.proofs.array.ConstGenericRingBuffer.from_vec.Goals as goal
 

@@ -1,6 +1,4 @@
-use Rattle.std.proofs.Common.{◌∙◌, inl}
-use Rattle.ring_core.specs.Contents.{place}
-use Rattle.ring_fixed.proofs.LentItem.{LendsItem, stays_sound, same_size, shows_written, names_item, not_empty}
+use Rattle.ringbuffer.proofs.Words.{◌∙◌, inl, place, LendsItem, stays_sound, same_size, shows_written, names_item, not_empty}
 use Rattle.ringbuffer.proofs.array.ConstGenericRingBufferRingBuffer.get_mut.Goals as goal
 
 -- A write leaves the layout.

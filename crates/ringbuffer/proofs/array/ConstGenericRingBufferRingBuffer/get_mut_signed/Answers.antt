@@ -1,7 +1,4 @@
-use Rattle.std.proofs.Common.{◌∙◌, inl}
-use Rattle.std.proofs.lemmas.Int.{to_z-of_z}
-use Rattle.ring_core.specs.Contents.{signed_place}
-use Rattle.ring_fixed.proofs.LentItem.{LendsItem, stays_sound, same_size, shows_written, names_item, not_empty}
+use Rattle.ringbuffer.proofs.Words.{◌∙◌, inl, to_z-of_z, signed_place, LendsItem, stays_sound, same_size, shows_written, names_item, not_empty}
 use Rattle.ringbuffer.proofs.array.ConstGenericRingBufferRingBuffer.get_mut_signed.Goals as goal
 
 -- A write leaves the layout.

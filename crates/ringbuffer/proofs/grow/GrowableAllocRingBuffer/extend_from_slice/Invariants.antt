@@ -1,5 +1,5 @@
 -- So far the items that were passed are put, and there is room for the others.
-use Rattle.std.proofs.Common.{◌≡◌, ◌+◌, ◌-◌, ◌≤◌, ◌++◌, length, take}
+use Rattle.ringbuffer.proofs.Words.{◌≡◌, ◌+◌, ◌-◌, ◌≤◌, ◌++◌, length, take}
 use Rattle.std.specs.VecDeque.{deque_capacity, deque_len}
 use Rattle.ringbuffer.proofs.grow.GrowableAllocRingBuffer.extend_from_slice.Given as goal
 

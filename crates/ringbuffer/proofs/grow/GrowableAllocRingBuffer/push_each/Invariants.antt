@@ -1,4 +1,4 @@
-use Rattle.std.proofs.Common.{◌≡◌, ◌++◌}
+use Rattle.ringbuffer.proofs.Words.{◌≡◌, ◌++◌}
 use Rattle.ringbuffer.proofs.grow.GrowableAllocRingBuffer.push_each.Given as goal
 
 -- the items so far came behind the old ones

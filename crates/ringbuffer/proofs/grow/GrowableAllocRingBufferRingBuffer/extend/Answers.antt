@@ -1,5 +1,4 @@
-use Rattle.std.proofs.Common.{◌∙◌, ◌∷◌, ◌++◌, [], List, Option, ap, subst, append_assoc, refl}
-use Rattle.std.specs.Iterator.{YieldsThen}
+use Rattle.ringbuffer.proofs.Words.{◌∙◌, ◌∷◌, ◌++◌, [], List, Option, ap, subst, append_assoc, refl, YieldsThen}
 use Rattle.ringbuffer.proofs.Poured.{both_parts}
 use Rattle.ringbuffer.proofs.grow.GrowableAllocRingBufferRingBuffer.extend.Goals as goal
 

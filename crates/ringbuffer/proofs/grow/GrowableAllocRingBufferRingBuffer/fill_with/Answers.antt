@@ -1,4 +1,4 @@
-use Rattle.std.proofs.Common.{◌∙◌}
+use Rattle.ringbuffer.proofs.Words.{◌∙◌}
 use Rattle.ringbuffer.proofs.Poured.{filled_by}
 use Rattle.ringbuffer.proofs.grow.GrowableAllocRingBufferRingBuffer.fill_with.Goals as goal
 

@@ -1,5 +1,4 @@
-use Rattle.std.proofs.Common.{◌≡◌, Some, ap, arith, refl, sym, ◌∙◌}
-use Rattle.ring_fixed.specs.View.{View}
+use Rattle.ringbuffer.proofs.Words.{◌≡◌, Some, ap, arith, refl, sym, ◌∙◌, View}
 use Rattle.ringbuffer.proofs.Conversions.{all_kept, held_on_ok, length-somes}
 use Rattle.ringbuffer.proofs.heap.AllocRingBuffer.from_array.Goals as goal
 

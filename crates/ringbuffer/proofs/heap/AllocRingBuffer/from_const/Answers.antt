@@ -1,5 +1,4 @@
-use Rattle.std.proofs.Common.{Some, arith, rules}
-use Rattle.ring_core.proofs.Drained.{YieldsList-unpacked}
+use Rattle.ringbuffer.proofs.Words.{Some, arith, rules, YieldsList-unpacked}
 use Rattle.ringbuffer.proofs.Conversions.{all_made}
 use Rattle.ringbuffer.proofs.heap.AllocRingBuffer.from_const.Goals as goal
 

@@ -1,5 +1,4 @@
-use Rattle.std.proofs.Common.{arith, rules}
-use Rattle.std.proofs.lemmas.Iterator.Consumers.{YieldsList-from_rest}
+use Rattle.ringbuffer.proofs.Words.{arith, rules, YieldsList-from_rest}
 use Rattle.ringbuffer.proofs.Conversions.{all_made}
 use Rattle.ringbuffer.proofs.heap.AllocRingBuffer.from_linked_list.Goals as goal
 

@@ -1,9 +1,4 @@
-use Rattle.std.proofs.Common.{◌≡◌, ◌++◌, [], List, length, refl, sym, append-nil, ◌∙◌}
-use Rattle.std.specs.Prelude.{IfOk, Result, Ok, Err}
-use Rattle.std.specs.List.{AllZip}
-use Rattle.std.proofs.lemmas.Slice.Zip.{AllZip-long}
-use Rattle.ring_fixed.specs.View.{View}
-use Rattle.ringbuffer.specs.Conversion.{ClonesMeet, HoldsAll}
+use Rattle.ringbuffer.proofs.Words.{◌≡◌, ◌++◌, [], List, length, refl, sym, append-nil, ◌∙◌, IfOk, Result, Ok, Err, AllZip, AllZip-long, View, ClonesMeet, HoldsAll}
 use Rattle.ringbuffer.proofs.heap.AllocRingBuffer.from_slice.Goals as goal
 
 -- the second slice is empty

@@ -1,5 +1,4 @@
-use Rattle.std.proofs.Common.{arith, rules}
-use Rattle.std.proofs.lemmas.Iterator.Adapters.{YieldsList-from_vec}
+use Rattle.ringbuffer.proofs.Words.{arith, rules, YieldsList-from_vec}
 use Rattle.ringbuffer.proofs.Conversions.{all_made}
 use Rattle.ringbuffer.proofs.heap.AllocRingBuffer.from_vec.Goals as goal
 

@@ -1,6 +1,4 @@
-use Rattle.std.proofs.Common.{length, ap, sym, ◌∙◌, refl}
-use Rattle.std.specs.List.{length_refill}
-use Rattle.ring_fixed.specs.View.{View, after_rewrite}
+use Rattle.ringbuffer.proofs.Words.{length, ap, sym, ◌∙◌, refl, length_refill, View, after_rewrite}
 use Rattle.ring_fixed.proofs.Straight.{rewritten, rewritten_sound}
 use Rattle.ringbuffer.proofs.heap.AllocRingBuffer.make_contiguous.Goals as goal
 

@@ -1,5 +1,4 @@
-use Rattle.std.proofs.Common.{ap}
-use Rattle.ring_fixed.specs.View.{View}
+use Rattle.ringbuffer.proofs.Words.{ap, View}
 use Rattle.ringbuffer.proofs.heap.AllocRingBufferRingBuffer.fill_with.Goals as goal
 
 -- What the ring holds is what the closure answered.

@@ -1,6 +1,4 @@
-use Rattle.std.proofs.Common.{ap, ◌∙◌}
-use Rattle.std.specs.Str.Iter.{chars_rest}
-use Rattle.std.proofs.lemmas.Iterator.{YieldsList-from_chars}
+use Rattle.ringbuffer.proofs.Words.{ap, ◌∙◌, chars_rest, YieldsList-from_chars}
 use Rattle.ringbuffer.proofs.Conversions.{last_made}
 use Rattle.ringbuffer.proofs.array.convert.ConstGenericRingBuffer+char+CAP.from_text.Goals as goal
 

@@ -1,6 +1,4 @@
-use Rattle.std.proofs.Common.{ap, ◌∙◌}
-use Rattle.std.specs.Str.Iter.{chars_rest}
-use Rattle.std.proofs.lemmas.Iterator.{YieldsList-from_chars}
+use Rattle.ringbuffer.proofs.Words.{ap, ◌∙◌, chars_rest, YieldsList-from_chars}
 use Rattle.ringbuffer.proofs.Conversions.{list_made}
 use Rattle.ringbuffer.proofs.grow.convert.GrowableAllocRingBuffer+char.from_text.Goals as goal
 

@@ -1,7 +1,4 @@
-use Rattle.std.proofs.Common.{ap, refl, ◌∙◌}
-use Rattle.std.specs.Str.Iter.{chars_rest}
-use Rattle.std.proofs.lemmas.Iterator.{YieldsList-from_chars}
-use Rattle.std.proofs.lemmas.Result.{IfOk-weaker}
+use Rattle.ringbuffer.proofs.Words.{ap, refl, ◌∙◌, chars_rest, YieldsList-from_chars, IfOk-weaker}
 use Rattle.ringbuffer.proofs.Conversions.{all_made, length-chars_le}
 use Rattle.ringbuffer.proofs.heap.convert.AllocRingBuffer+char.from_text.Goals as goal
 
