@@ -33,8 +33,7 @@ pub fn sliding_sums(alloc: Global, series: &[i64], n: usize) -> Result<Vec<i128>
     let mut window = WindowSum::new(AllocRingBuffer::new(alloc, n)?);
     let mut sums = Vec::with_capacity(alloc, series.len())?;
     for sample in series {
-        let _ = window.push(*sample);
-        sums.push(window.sum())?;
+        sums.push(slide(&mut window, *sample))?;
     }
     Ok(sums)
 }
