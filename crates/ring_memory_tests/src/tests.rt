@@ -8,9 +8,16 @@ mod moving;
 mod runs;
 mod sums;
 
-use ringbuffer::RingBuffer;
+use ring_test_support::rings::Case;
+use ringbuffer::{GrowableAllocRingBuffer, RingBuffer};
 use std::fmt::Debug;
 use std::process::Abort;
+
+/// The case on a growable ring that has no room yet.
+fn on_growable<Rt: Abort + AllocGlobal>(rt: &Rt, case: &impl Case<Rt>) {
+    let ring = GrowableAllocRingBuffer::new(rt.alloc());
+    case.on(rt, ring).expect(rt, "memory");
+}
 
 /// Both are equal. A call of it is proved at once, where each `assert_eq!` takes a second or two: use `assert_eq!` only
 /// where the proof goes on from what it found. A failure names the test and both values, not the line.

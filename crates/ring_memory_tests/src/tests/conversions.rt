@@ -7,135 +7,149 @@ use std::collections::{LinkedList, VecDeque};
 use std::iter::repeat_n;
 use std::process::Abort;
 
-/// A ring that was made of '1' and '2'. A push of '3' leaves the characters that follow.
-fn assert_made<R: RingBuffer<char> + PartialEq + Drop>(
+/// The ring holds '1' and '2'. A push of '3' leaves the characters that follow.
+fn assert_takes<R: RingBuffer<char> + PartialEq>(rt: &impl Abort, ring: &mut R, pushed: &[char]) {
+    assert_holds(rt, ring, &['1', '2']);
+    assert!(rt; ring.push('3').is_ok());
+    assert_holds(rt, ring, pushed);
+    assert!(rt; *ring == *ring);
+}
+
+/// Each ring was made, of '1' and '2'. A push of '3' leaves the characters that follow.
+fn assert_made<R: RingBuffer<char> + PartialEq>(
     rt: &impl Abort,
-    mut ring: R,
+    rings: &mut [Result<R, AllocError>],
     pushed: &[char],
 ) {
-    assert_holds(rt, &ring, &['1', '2']);
-    assert!(rt; ring.push('3').is_ok());
-    assert_holds(rt, &ring, pushed);
-    assert!(rt; ring == ring);
+    for made in rings {
+        let Ok(ring) = made else {
+            panic!(rt; "a ring was refused memory");
+        };
+        assert_takes(rt, ring, pushed);
+    }
 }
 
 #[test]
-fn an_array_ring_is_made_of_each_source(rt: HostRuntime) -> Result<(), AllocError> {
-    fn on(rt: &impl Abort, ring: ConstGenericRingBuffer<char, 2>) {
-        assert_made(rt, ring, &['2', '3']);
-    }
+fn an_array_ring_is_made_of_each_source(rt: HostRuntime) {
     let alloc = rt.alloc();
-    let vector = vec![in alloc; '1', '2']?;
-    on(&rt, ConstGenericRingBuffer::from_vec(vector));
-    let list = LinkedList::from_array(alloc, ['1', '2'])?;
-    on(&rt, ConstGenericRingBuffer::from_linked_list(list));
-    let deque = VecDeque::from_array(alloc, ['1', '2'])?;
-    on(&rt, ConstGenericRingBuffer::from_deque(deque));
-    let string = String::from_str(alloc, "12")?;
-    on(&rt, ConstGenericRingBuffer::from_string(string));
-    on(&rt, ConstGenericRingBuffer::from_text("12"));
-    on(&rt, ConstGenericRingBuffer::from_slice(&['1', '2'])?);
-    on(&rt, ConstGenericRingBuffer::from_array_ref(&['1', '2'])?);
-    on(
-        &rt,
-        ConstGenericRingBuffer::from_array([Some('1'), Some('2')]),
+    let vector = vec![in alloc; '1', '2'].expect(&rt, "memory");
+    let list = LinkedList::from_array(alloc, ['1', '2']).expect(&rt, "memory");
+    let deque = VecDeque::from_array(alloc, ['1', '2']).expect(&rt, "memory");
+    let string = String::from_str(alloc, "12").expect(&rt, "memory");
+    let growable = GrowableAllocRingBuffer::from_array(alloc, [Some('1'), Some('2')]).expect(
+        &rt, "memory",
     );
-    let growable = GrowableAllocRingBuffer::from_array(alloc, [Some('1'), Some('2')])?;
-    on(&rt, ConstGenericRingBuffer::from_growable(growable));
-    let heap = AllocRingBuffer::from_array(alloc, [Some('1'), Some('2')])?;
-    on(&rt, ConstGenericRingBuffer::from_alloc(heap));
-    Ok(())
+    let heap = AllocRingBuffer::from_array(alloc, [Some('1'), Some('2')]).expect(&rt, "memory");
+    let mut rings = [
+        Ok(ConstGenericRingBuffer::<char, 2>::from_vec(vector)),
+        Ok(ConstGenericRingBuffer::from_linked_list(list)),
+        Ok(ConstGenericRingBuffer::from_deque(deque)),
+        Ok(ConstGenericRingBuffer::from_string(string)),
+        Ok(ConstGenericRingBuffer::from_text("12")),
+        ConstGenericRingBuffer::from_slice(&['1', '2']),
+        ConstGenericRingBuffer::from_array_ref(&['1', '2']),
+        Ok(ConstGenericRingBuffer::from_array([Some('1'), Some('2')])),
+        Ok(ConstGenericRingBuffer::from_growable(growable)),
+        Ok(ConstGenericRingBuffer::from_alloc(heap)),
+    ];
+    assert_made(&rt, &mut rings, &['2', '3']);
 }
 
 #[test]
 fn a_heap_ring_is_made_of_each_source(rt: HostRuntime) -> Result<(), AllocError> {
-    fn on(rt: &impl Abort, ring: AllocRingBuffer<char>) {
-        assert_made(rt, ring, &['2', '3']);
-    }
     let alloc = rt.alloc();
     let vector = vec![in alloc; '1', '2']?;
-    on(&rt, AllocRingBuffer::from_vec(alloc, vector)?);
     let list = LinkedList::from_array(alloc, ['1', '2'])?;
-    on(&rt, AllocRingBuffer::from_linked_list(alloc, list)?);
     let deque = VecDeque::from_array(alloc, ['1', '2'])?;
-    on(&rt, AllocRingBuffer::from_deque(alloc, deque)?);
     let string = String::from_str(alloc, "12")?;
-    on(&rt, AllocRingBuffer::from_string(alloc, string)?);
-    on(&rt, AllocRingBuffer::from_text(alloc, "12")?);
-    on(&rt, AllocRingBuffer::from_slice(alloc, &['1', '2'])?);
-    on(&rt, AllocRingBuffer::from_array_ref(alloc, &['1', '2'])?);
-    on(
-        &rt,
-        AllocRingBuffer::from_array(alloc, [Some('1'), Some('2')])?,
-    );
-    let array = ConstGenericRingBuffer::<char, 2>::from_array([Some('1'), Some('2')]);
-    on(&rt, AllocRingBuffer::from_const(alloc, array)?);
     let growable = GrowableAllocRingBuffer::from_array(alloc, [Some('1'), Some('2')])?;
-    on(&rt, AllocRingBuffer::from_growable(alloc, growable)?);
+    let array = ConstGenericRingBuffer::<char, 2>::from_array([Some('1'), Some('2')]);
+    let mut rings = [
+        AllocRingBuffer::from_vec(alloc, vector),
+        AllocRingBuffer::from_linked_list(alloc, list),
+        AllocRingBuffer::from_deque(alloc, deque),
+        AllocRingBuffer::from_string(alloc, string),
+        AllocRingBuffer::from_text(alloc, "12"),
+        AllocRingBuffer::from_slice(alloc, &['1', '2']),
+        AllocRingBuffer::from_array_ref(alloc, &['1', '2']),
+        AllocRingBuffer::from_array(alloc, [Some('1'), Some('2')]),
+        AllocRingBuffer::from_const(alloc, array),
+        AllocRingBuffer::from_growable(alloc, growable),
+    ];
+    assert_made(&rt, &mut rings, &['2', '3']);
     Ok(())
 }
 
 #[test]
 fn a_growable_ring_is_made_of_each_source(rt: HostRuntime) -> Result<(), AllocError> {
-    fn on(rt: &impl Abort, ring: GrowableAllocRingBuffer<char>) {
-        assert_made(rt, ring, &['1', '2', '3']);
-    }
     let alloc = rt.alloc();
     let vector = vec![in alloc; '1', '2']?;
-    on(&rt, GrowableAllocRingBuffer::from_vec(alloc, vector)?);
     let list = LinkedList::from_array(alloc, ['1', '2'])?;
-    on(&rt, GrowableAllocRingBuffer::from_linked_list(alloc, list)?);
     let deque = VecDeque::from_array(alloc, ['1', '2'])?;
-    on(&rt, GrowableAllocRingBuffer::from(deque));
     let string = String::from_str(alloc, "12")?;
-    on(&rt, GrowableAllocRingBuffer::from_string(alloc, string)?);
-    on(&rt, GrowableAllocRingBuffer::from_text(alloc, "12")?);
-    on(
-        &rt,
-        GrowableAllocRingBuffer::from_slice(alloc, &['1', '2'])?,
-    );
-    on(
-        &rt,
-        GrowableAllocRingBuffer::from_array_ref(alloc, &['1', '2'])?,
-    );
-    on(
-        &rt,
-        GrowableAllocRingBuffer::from_array(alloc, [Some('1'), Some('2')])?,
-    );
-    let array = ConstGenericRingBuffer::<char, 2>::from_array([Some('1'), Some('2')]);
-    on(&rt, GrowableAllocRingBuffer::from_const(alloc, array)?);
     let heap = AllocRingBuffer::from_array(alloc, [Some('1'), Some('2')])?;
-    on(&rt, GrowableAllocRingBuffer::from_alloc(alloc, heap)?);
+    let array = ConstGenericRingBuffer::<char, 2>::from_array([Some('1'), Some('2')]);
+    let mut rings = [
+        GrowableAllocRingBuffer::from_vec(alloc, vector),
+        GrowableAllocRingBuffer::from_linked_list(alloc, list),
+        Ok(GrowableAllocRingBuffer::from(deque)),
+        GrowableAllocRingBuffer::from_string(alloc, string),
+        GrowableAllocRingBuffer::from_text(alloc, "12"),
+        GrowableAllocRingBuffer::from_slice(alloc, &['1', '2']),
+        GrowableAllocRingBuffer::from_array_ref(alloc, &['1', '2']),
+        GrowableAllocRingBuffer::from_array(alloc, [Some('1'), Some('2')]),
+        GrowableAllocRingBuffer::from_const(alloc, array),
+        GrowableAllocRingBuffer::from_alloc(alloc, heap),
+    ];
+    assert_made(&rt, &mut rings, &['1', '2', '3']);
     Ok(())
 }
 
-#[test]
-fn an_array_ring_holds_numbers_of_each_source(rt: HostRuntime) -> Result<(), AllocError> {
-    fn on(rt: &impl Abort, ring: ConstGenericRingBuffer<i64, 3>) {
-        assert_holds(rt, &ring, &[1, 2, 3]);
-        assert!(rt; ring.is_full());
+/// The ring is full of these items, and has so many slots.
+fn assert_full<R: RingBuffer<i64>>(rt: &impl Abort, ring: &R, slots: usize, items: &[i64]) {
+    assert_equal(rt, ring.capacity(), items.len());
+    assert_equal(rt, ring.buffer_size(), slots);
+    assert!(rt; ring.is_full());
+    assert_holds(rt, ring, items);
+}
+
+/// Each ring was made, is full of these items, and has so many slots.
+fn assert_made_full<R: RingBuffer<i64>>(
+    rt: &impl Abort,
+    rings: &[Result<R, AllocError>],
+    slots: usize,
+    items: &[i64],
+) {
+    for made in rings {
+        let Ok(ring) = made else {
+            panic!(rt; "a ring was refused memory");
+        };
+        assert_full(rt, ring, slots, items);
     }
+}
+
+#[test]
+fn an_array_ring_holds_numbers_of_each_source(rt: HostRuntime) {
     let alloc = rt.alloc();
     let mut items = [1, 2, 3];
-    on(
-        &rt,
-        ConstGenericRingBuffer::from_array([Some(1), Some(2), Some(3)]),
-    );
-    on(&rt, ConstGenericRingBuffer::from_array_ref(&items)?);
-    on(&rt, ConstGenericRingBuffer::from_slice(&items)?);
-    on(&rt, ConstGenericRingBuffer::from_mut_array(&mut items)?);
-    on(&rt, ConstGenericRingBuffer::from_mut_slice(&mut items)?);
-    let vector = vec![in alloc; 1, 2, 3]?;
-    on(&rt, ConstGenericRingBuffer::from_vec(vector));
-    let deque = VecDeque::from_array(alloc, [1, 2, 3])?;
-    on(&rt, ConstGenericRingBuffer::from_deque(deque));
-    let list = LinkedList::from_array(alloc, [1, 2, 3])?;
-    on(&rt, ConstGenericRingBuffer::from_linked_list(list));
-    let growable = GrowableAllocRingBuffer::from_slice(alloc, &[1, 2, 3])?;
-    on(&rt, ConstGenericRingBuffer::from_growable(growable));
-    let heap = AllocRingBuffer::from_slice(alloc, &[1, 2, 3])?;
-    on(&rt, ConstGenericRingBuffer::from_alloc(heap));
-    Ok(())
+    let vector = vec![in alloc; 1, 2, 3].expect(&rt, "memory");
+    let deque = VecDeque::from_array(alloc, [1, 2, 3]).expect(&rt, "memory");
+    let list = LinkedList::from_array(alloc, [1, 2, 3]).expect(&rt, "memory");
+    let growable = GrowableAllocRingBuffer::from_slice(alloc, &[1, 2, 3]).expect(&rt, "memory");
+    let heap = AllocRingBuffer::from_slice(alloc, &[1, 2, 3]).expect(&rt, "memory");
+    let rings = [
+        Ok(ConstGenericRingBuffer::<i64, 3>::from_array([Some(1), Some(2), Some(3)])),
+        ConstGenericRingBuffer::from_array_ref(&items),
+        ConstGenericRingBuffer::from_slice(&items),
+        ConstGenericRingBuffer::from_mut_array(&mut items),
+        ConstGenericRingBuffer::from_mut_slice(&mut items),
+        Ok(ConstGenericRingBuffer::from_vec(vector)),
+        Ok(ConstGenericRingBuffer::from_deque(deque)),
+        Ok(ConstGenericRingBuffer::from_linked_list(list)),
+        Ok(ConstGenericRingBuffer::from_growable(growable)),
+        Ok(ConstGenericRingBuffer::from_alloc(heap)),
+    ];
+    assert_made_full(&rt, &rings, 3, &[1, 2, 3]);
 }
 
 #[test]
@@ -153,46 +167,45 @@ fn an_array_ring_holds_the_characters_of_a_text(rt: HostRuntime) -> Result<(), A
 }
 
 #[test]
-fn a_heap_ring_has_room_for_its_source(rt: HostRuntime) -> Result<(), AllocError> {
-    fn on(rt: &impl Abort, ring: AllocRingBuffer<i64>) {
-        assert_equal(rt, ring.capacity(), 4);
-        assert_holds(rt, &ring, &[1, 2, 3, 4]);
-    }
+fn a_heap_ring_has_room_for_its_source(rt: HostRuntime) {
     let items = [1, 2, 3, 4];
-    on(&rt, AllocRingBuffer::from_slice(rt.alloc(), &items)?);
-    on(&rt, AllocRingBuffer::from_array_ref(rt.alloc(), &items)?);
     let places = [Some(1), Some(2), Some(3), Some(4)];
-    on(&rt, AllocRingBuffer::from_array(rt.alloc(), places)?);
-    Ok(())
+    let rings = [
+        AllocRingBuffer::from_slice(rt.alloc(), &items),
+        AllocRingBuffer::from_array_ref(rt.alloc(), &items),
+        AllocRingBuffer::from_array(rt.alloc(), places),
+    ];
+    assert_made_full(&rt, &rings, 4, &items);
 }
 
 #[test]
-fn a_source_that_could_be_written_is_as_it_was(rt: HostRuntime) -> Result<(), AllocError> {
-    fn on<R: RingBuffer<i64> + Drop>(rt: &impl Abort, ring: R) {
-        assert_holds(rt, &ring, &[1, 2]);
+fn a_source_that_could_be_written_is_as_it_was(rt: HostRuntime) {
+    fn on<R: RingBuffer<i64> + Drop>(
+        rt: &impl Abort,
+        of_array: Result<R, AllocError>,
+        of_slice: Result<R, AllocError>,
+    ) {
+        assert_holds(rt, &of_array.expect(rt, "memory"), &[1, 2]);
+        assert_holds(rt, &of_slice.expect(rt, "memory"), &[1, 2]);
     }
     let alloc = rt.alloc();
     let mut items = [1, 2];
     on(
         &rt,
-        ConstGenericRingBuffer::<i64, 2>::from_mut_array(&mut items)?,
+        ConstGenericRingBuffer::<i64, 2>::from_mut_array(&mut items),
+        ConstGenericRingBuffer::from_mut_slice(&mut items),
     );
     on(
         &rt,
-        ConstGenericRingBuffer::<i64, 2>::from_mut_slice(&mut items)?,
-    );
-    on(&rt, AllocRingBuffer::from_mut_array(alloc, &mut items)?);
-    on(&rt, AllocRingBuffer::from_mut_slice(alloc, &mut items)?);
-    on(
-        &rt,
-        GrowableAllocRingBuffer::from_mut_array(alloc, &mut items)?,
+        AllocRingBuffer::from_mut_array(alloc, &mut items),
+        AllocRingBuffer::from_mut_slice(alloc, &mut items),
     );
     on(
         &rt,
-        GrowableAllocRingBuffer::from_mut_slice(alloc, &mut items)?,
+        GrowableAllocRingBuffer::from_mut_array(alloc, &mut items),
+        GrowableAllocRingBuffer::from_mut_slice(alloc, &mut items),
     );
     assert!(rt; items == [1, 2]);
-    Ok(())
 }
 
 #[test]
@@ -284,35 +297,27 @@ fn an_array_ring_keeps_the_last_characters(rt: HostRuntime) -> Result<(), AllocE
 }
 
 #[test]
-fn a_heap_ring_of_an_array_ring_has_room_for_its_items(rt: HostRuntime) -> Result<(), AllocError> {
+fn a_heap_ring_of_an_array_ring_has_room_for_its_items(rt: HostRuntime) {
     let mut array = ConstGenericRingBuffer::<i64, 4>::new();
     push_all(&rt, &mut array, &[1, 2]);
-    assert_eq!(rt; array.len(), 2);
-    let ring = AllocRingBuffer::from_const(rt.alloc(), array)?;
-    assert_equal(&rt, ring.capacity(), 2);
-    assert_holds(&rt, &ring, &[1, 2]);
-    Ok(())
+    assert!(rt; array.len() == 2);
+    let made = AllocRingBuffer::from_const(rt.alloc(), array);
+    assert_made_full(&rt, &[made], 2, &[1, 2]);
 }
 
 #[test]
-fn a_heap_ring_of_a_growable_ring_is_full(rt: HostRuntime) -> Result<(), AllocError> {
-    fn on<R: RingBuffer<i64> + Drop>(rt: &impl Abort, ring: R) {
-        assert_equal(rt, ring.capacity(), 3);
-        assert_equal(rt, ring.buffer_size(), 4);
-        assert!(rt; ring.is_full());
-        assert_holds(rt, &ring, &[1, 2, 3]);
-    }
+fn a_heap_ring_of_a_growable_ring_is_full(rt: HostRuntime) {
     let mut growable = GrowableAllocRingBuffer::new(rt.alloc());
     push_all(&rt, &mut growable, &[1, 2, 3]);
-    assert_eq!(rt; growable.len(), 3);
-    on(&rt, AllocRingBuffer::from_growable(rt.alloc(), growable)?);
-    Ok(())
+    assert!(rt; growable.len() == 3);
+    let made = AllocRingBuffer::from_growable(rt.alloc(), growable);
+    assert_made_full(&rt, &[made], 4, &[1, 2, 3]);
 }
 
 #[test]
 fn a_ring_may_be_made_of_one_after_the_other(rt: HostRuntime) -> Result<(), AllocError> {
-    let mut heap = AllocRingBuffer::new(rt.alloc(), 5)?;
-    push_all(&rt, &mut heap, &[1, 2, 3, 4, 5]);
+    let places = [Some(1), Some(2), Some(3), Some(4), Some(5)];
+    let heap = AllocRingBuffer::from_array(rt.alloc(), places)?;
     let array = ConstGenericRingBuffer::<i64, 3>::from_alloc(heap);
     let mut growable = GrowableAllocRingBuffer::from_const(rt.alloc(), array)?;
     assert_gives(&rt, &mut growable, &[3, 4, 5]);

@@ -1,7 +1,7 @@
 //! How large a ring may be, memory that is refused to it, and calls that ask for none.
 
 use super::runs::{REPLIES_OF_TWO, every_command};
-use super::{assert_equal, assert_holds, push_all};
+use super::{assert_equal, assert_holds, on_growable, push_all};
 use ring_test_support::drought::Drought;
 use ring_test_support::rings::{Case, Rings};
 use ring_test_support::steps::Step::{
@@ -135,42 +135,52 @@ fn a_refused_push_can_be_tried_again(rt: HostRuntime) -> Result<(), AllocError> 
     let refused = ring.push(7);
     drop(drought);
     assert_equal(&rt, refused.err(), Some(7));
-    assert_equal(&rt, ring.len(), 0);
-    assert_equal(&rt, ring.push(7), Ok(None));
-    assert_holds(&rt, &ring, &[7]);
+    let again = first_fault(&mut ring, &[Len(0), Push(7, None), Holds(&[7])]);
+    assert_equal(&rt, again, None);
     Ok(())
 }
 
-#[test]
-fn a_step_that_is_refused_is_found(rt: HostRuntime) -> Result<(), AllocError> {
-    let mut ring = GrowableAllocRingBuffer::new(rt.alloc());
-    let drought = Drought::total(rt.alloc())?;
-    let by_push = first_fault(&mut ring, &[Len(0), Push(1, None)]);
-    let by_pushes = first_fault(&mut ring, &[PushAll(&[1])]);
-    let by_extension = first_fault(&mut ring, &[Extend(&[1])]);
-    drop(drought);
-    let refused = Outcome::Refused;
-    assert_equal(&rt, by_push, Some((1, refused)));
-    assert_equal(
-        &rt,
-        (by_pushes, by_extension),
-        (Some((0, refused)), Some((0, refused))),
-    );
-    Ok(())
+struct StepsRefused;
+
+impl<Rt: Abort + AllocGlobal> Case<Rt> for StepsRefused {
+    fn on<R: RingBuffer<i64> + Drop>(&self, rt: &Rt, mut ring: R) -> Result<(), AllocError> {
+        let drought = Drought::total(rt.alloc())?;
+        let by_push = first_fault(&mut ring, &[Len(0), Push(1, None)]);
+        let by_pushes = first_fault(&mut ring, &[PushAll(&[1])]);
+        let by_extension = first_fault(&mut ring, &[Extend(&[1])]);
+        drop(drought);
+        assert_equal(rt, by_push, Some((1, Outcome::Refused)));
+        assert_equal(rt, by_pushes, Some((0, Outcome::Refused)));
+        assert_equal(rt, by_extension, Some((0, Outcome::Refused)));
+        Ok(())
+    }
 }
 
 #[test]
-fn a_refused_extension_keeps_what_there_was_room_for(rt: HostRuntime) -> Result<(), AllocError> {
-    let mut ring = GrowableAllocRingBuffer::new(rt.alloc());
-    push_all(&rt, &mut ring, &[1, 2]);
-    let drought = Drought::total(rt.alloc())?;
-    let extended = ring.extend([3, 4, 5]);
-    drop(drought);
-    assert!(rt; extended.is_err());
-    let held = ring.len();
-    assert!(rt; (2..5).contains(&held));
-    assert_holds(&rt, &ring, &[1, 2, 3, 4][..held]);
-    Ok(())
+fn a_step_that_is_refused_is_found(rt: HostRuntime) {
+    on_growable(&rt, &StepsRefused);
+}
+
+struct ExtensionRefused;
+
+impl<Rt: Abort + AllocGlobal> Case<Rt> for ExtensionRefused {
+    fn on<R: RingBuffer<i64> + Drop>(&self, rt: &Rt, mut ring: R) -> Result<(), AllocError> {
+        push_all(rt, &mut ring, &[1, 2]);
+        let drought = Drought::total(rt.alloc())?;
+        let extended = ring.extend([3, 4, 5]);
+        drop(drought);
+        assert!(rt; extended.is_err());
+        let held = ring.len();
+        assert!(rt; 2 <= held);
+        assert!(rt; held < 5);
+        assert_holds(rt, &ring, &[1, 2, 3, 4][..held]);
+        Ok(())
+    }
+}
+
+#[test]
+fn a_refused_extension_keeps_what_there_was_room_for(rt: HostRuntime) {
+    on_growable(&rt, &ExtensionRefused);
 }
 
 #[test]
@@ -304,13 +314,12 @@ struct WalksTakeNone;
 impl<Rt: Abort + AllocGlobal> Case<Rt> for WalksTakeNone {
     fn on<R: RingBuffer<i64> + Drop>(&self, rt: &Rt, mut ring: R) -> Result<(), AllocError> {
         push_all(rt, &mut ring, &[1, 2, 3]);
-        let drought = Drought::total(rt.alloc())?;
-        assert!(rt; RingBufferIterator::new(&ring).copied().eq([1, 2, 3]));
+        let _drought = Drought::total(rt.alloc())?;
+        assert_read(rt, RingBufferIterator::new(&ring), [1, 2, 3]);
         *RingBufferMutIterator::new(&mut ring)
             .next_back()
             .expect(rt, "a last item") = 9;
         assert!(rt; RingBufferDrainingIterator::new(&mut ring).eq([1, 2, 9]));
-        drop(drought);
         Ok(())
     }
 }
@@ -320,8 +329,12 @@ fn walks_take_no_memory(rt: HostRuntime) -> Result<(), AllocError> {
     Rings::<3>::each(&rt, &WalksTakeNone)
 }
 
-fn assert_read<R: RingBuffer<i64>>(rt: &impl Abort, walk: RingBufferIterator<'_, i64, R>) {
-    assert!(rt; walk.copied().eq([1, 5, 3]));
+fn assert_read<R: RingBuffer<i64>>(
+    rt: &impl Abort,
+    walk: RingBufferIterator<'_, i64, R>,
+    items: [i64; 3],
+) {
+    assert!(rt; walk.copied().eq(items));
 }
 
 fn write_first<R: RingBuffer<i64>>(rt: &impl Abort, mut walk: RingBufferMutIterator<'_, i64, R>) {
@@ -344,15 +357,14 @@ macro_rules! assert_own_calls_take_none {
     ($rt:ident, $ring:expr) => {
         let mut ring = $ring;
         push_all(&$rt, &mut ring, &[1, 2, 3]);
-        assert_eq!($rt; ring.len(), 3);
-        let drought = Drought::total($rt.alloc())?;
-        assert_equal(&$rt, ring[4], 2);
+        assert!($rt; ring.len() == 3);
+        let _drought = Drought::total($rt.alloc())?;
+        assert!($rt; ring[4] == 2);
         ring[4] = 5;
-        assert_read(&$rt, ring.iter());
+        assert_read(&$rt, ring.iter(), [1, 5, 3]);
         write_first(&$rt, ring.iter_mut());
         assert_drains_first(&$rt, ring.drain());
         assert_rest(&$rt, ring.into_iter());
-        drop(drought);
     };
 }
 
