@@ -4,7 +4,10 @@ ghost use Rattle.std.specs.Prelude.{◌<◌, ◌^◌};
 
 use super::assert_equal;
 use ring_test_support::rings::Twin;
-use ringbuffer::{AllocRingBuffer, ConstGenericRingBuffer, GrowableAllocRingBuffer, RingBuffer};
+use ringbuffer::{
+    AllocRingBuffer, Command, ConstGenericRingBuffer, GrowableAllocRingBuffer, Refused, Reply,
+    RingBuffer, apply,
+};
 use std::alloc::AllocError;
 use std::cell::Cell;
 use std::process::Abort;
@@ -166,6 +169,23 @@ pub fn push_items<'a, R: RingBuffer<Counted<'a>>>(
     }
 }
 
+/// The answer to a command. A call of it is proved at once, where each `apply` takes seconds.
+pub fn answer_to<'a, R: RingBuffer<Counted<'a>>>(
+    ring: &mut R,
+    command: Command<Counted<'a>>,
+) -> Result<Reply<Counted<'a>>, Refused<Counted<'a>>> {
+    apply(ring, command)
+}
+
+/// The command is not refused. Its reply is dropped at once.
+pub fn assert_applied<'a, R: RingBuffer<Counted<'a>>>(
+    rt: &impl Abort,
+    ring: &mut R,
+    command: Command<Counted<'a>>,
+) {
+    assert!(rt; answer_to(ring, command).is_ok());
+}
+
 /// The ring holds items that are numbered in order, from this number on.
 pub fn assert_numbered<'a, R: RingBuffer<Counted<'a>>>(rt: &impl Abort, ring: &R, first: usize) {
     for i in 0..ring.len() {
@@ -190,6 +210,17 @@ pub trait CountedCase<T: Drop, S> {
     );
 }
 
+/// The case on a ring that was made. It begins with the whole supply.
+fn on_made<'a, R: RingBuffer<Counted<'a>> + Twin + Drop>(
+    rt: &(impl Abort + AllocGlobal),
+    made: Result<R, AllocError>,
+    supply: &'a Supply,
+    case: &impl CountedCase<Counted<'a>, &'a Supply>,
+) {
+    supply.begin_again();
+    case.on(rt, made.expect(rt, "memory"), supply);
+}
+
 /// The case on a ring of each type that has a limit. Each begins with the whole supply.
 pub fn on_fixed<'a, const CAP: usize>(
     rt: &(impl Abort + AllocGlobal),
@@ -199,8 +230,8 @@ pub fn on_fixed<'a, const CAP: usize>(
     requires some { 0 < CAP }
     requires few { CAP < 2 ^ 16 }
 {
-    supply.begin_again();
-    case.on(rt, ConstGenericRingBuffer::<Counted, CAP>::new(), supply);
+    let ring = ConstGenericRingBuffer::<Counted, CAP>::new();
+    on_made(rt, Ok(ring), supply, case);
     on_heap::<CAP>(rt, supply, case);
 }
 
@@ -212,9 +243,7 @@ pub fn on_heap<'a, const CAP: usize>(
 )
     requires some { 0 < CAP }
 {
-    supply.begin_again();
-    let ring = AllocRingBuffer::new(rt.alloc(), CAP).expect(rt, "memory");
-    case.on(rt, ring, supply);
+    on_made(rt, AllocRingBuffer::new(rt.alloc(), CAP), supply, case);
 }
 
 /// The case on a growable ring, which has room for so many items.
@@ -223,9 +252,8 @@ pub fn on_growable<'a, const CAP: usize>(
     supply: &'a Supply,
     case: &impl CountedCase<Counted<'a>, &'a Supply>,
 ) {
-    supply.begin_again();
-    let ring = GrowableAllocRingBuffer::with_capacity(rt.alloc(), CAP).expect(rt, "memory");
-    case.on(rt, ring, supply);
+    let made = GrowableAllocRingBuffer::with_capacity(rt.alloc(), CAP);
+    on_made(rt, made, supply, case);
 }
 
 /// The case on a ring of each type.

@@ -2,13 +2,15 @@
 
 use super::assert_equal;
 use super::counted::{
-    Counted, CountedCase, Supply, assert_three, on_each, on_fixed, on_growable, push_items,
+    Counted, CountedCase, Supply, answer_to, assert_applied, assert_three, on_each, on_fixed,
+    on_growable, push_items,
 };
 use ring_test_support::rings::Twin;
 use ringbuffer::{
     AllocRingBuffer, Command, ConstGenericRingBuffer, GrowableAllocRingBuffer, RingBuffer,
-    RingBufferDrainingIterator, RingBufferIntoIterator, apply,
+    RingBufferDrainingIterator, RingBufferIntoIterator,
 };
+use std::alloc::AllocError;
 use std::process::Abort;
 
 #[derive(Drop)]
@@ -63,11 +65,11 @@ impl<'a> CountedCase<Counted<'a>, &'a Supply> for HandsBackToNobody {
         supply: &'a Supply,
     ) {
         push_items(rt, &mut ring, supply, 1);
-        let _ = ring.push(supply.item(rt));
+        push_items(rt, &mut ring, supply, 1);
         supply.assert_drops_from(rt, 0, &[self.overwritten, 0]);
-        let _ = ring.enqueue(supply.item(rt));
+        assert!(rt; ring.enqueue(supply.item(rt)).is_ok());
         supply.assert_drops_from(rt, 1, &[self.overwritten, 0]);
-        let _ = apply(&mut ring, Command::Push(supply.item(rt)));
+        assert_applied(rt, &mut ring, Command::Push(supply.item(rt)));
         supply.assert_drops_from(rt, 2, &[self.overwritten, 0]);
         supply.assert_each_dropped_with(rt, ring);
     }
@@ -270,15 +272,6 @@ fn an_owning_walk_that_ends_drops_the_rest(rt: HostRuntime) {
     on_each::<4>(&rt, &supply, &WalksAndEnds);
 }
 
-/// The command is not refused.
-fn assert_applied<'a, R: RingBuffer<Counted<'a>>>(
-    rt: &impl Abort,
-    ring: &mut R,
-    command: Command<Counted<'a>>,
-) {
-    assert!(rt; apply(ring, command).is_ok());
-}
-
 struct Commands;
 
 impl<'a> CountedCase<Counted<'a>, &'a Supply> for Commands {
@@ -291,7 +284,7 @@ impl<'a> CountedCase<Counted<'a>, &'a Supply> for Commands {
         assert_applied(rt, &mut ring, Command::Push(supply.item(rt)));
         assert_applied(rt, &mut ring, Command::Extend(supply.items(rt, 3)));
         supply.assert_drops(rt, 3, 0);
-        let dequeued = apply(&mut ring, Command::Dequeue);
+        let dequeued = answer_to(&mut ring, Command::Dequeue);
         assert_applied(rt, &mut ring, Command::Clear);
         supply.assert_drops(rt, 3, 1);
         drop(dequeued);
@@ -307,7 +300,8 @@ fn commands_hand_their_items_to_the_ring(rt: HostRuntime) {
 
 #[test]
 fn items_may_have_no_size(rt: HostRuntime) {
-    fn on<R: RingBuffer<()> + Drop>(rt: &impl Abort, mut ring: R, kept: usize) {
+    fn on<R: RingBuffer<()> + Drop>(rt: &impl Abort, made: Result<R, AllocError>, kept: usize) {
+        let mut ring = made.expect(rt, "memory");
         for _ in 0..7 {
             assert!(rt; ring.push(()).is_ok());
         }
@@ -318,9 +312,11 @@ fn items_may_have_no_size(rt: HostRuntime) {
         }
         assert_equal(rt, ring.dequeue(), None);
     }
-    on(&rt, ConstGenericRingBuffer::<(), 5>::new(), 5);
-    let heap = AllocRingBuffer::new(rt.alloc(), 5).expect(&rt, "memory");
-    on(&rt, heap, 5);
-    let growable = GrowableAllocRingBuffer::with_capacity(rt.alloc(), 5).expect(&rt, "memory");
-    on(&rt, growable, 7);
+    on(&rt, Ok(ConstGenericRingBuffer::<(), 5>::new()), 5);
+    on(&rt, AllocRingBuffer::new(rt.alloc(), 5), 5);
+    on(
+        &rt,
+        GrowableAllocRingBuffer::with_capacity(rt.alloc(), 5),
+        7,
+    );
 }

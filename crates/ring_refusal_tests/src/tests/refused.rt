@@ -2,15 +2,15 @@
 //! count their drops, and each is dropped exactly once.
 
 use super::counted::{
-    Counted, CountedCase, Supply, assert_numbered, assert_three, on_each, on_growable, on_heap,
-    push_items,
+    Counted, CountedCase, Supply, answer_to, assert_numbered, assert_three, on_each, on_growable,
+    on_heap, push_items,
 };
-use super::scarce::{MOST_STEPS, drought, is_cloned, spared};
+use super::scarce::{MOST_STEPS, drought, drought_if, is_cloned, spared};
 use super::{assert_equal, assert_holds, push_all};
 use ring_test_support::rings::{Case, Rings, Twin};
 use ringbuffer::{
     AllocRingBuffer, Command, ConstGenericRingBuffer, GrowableAllocRingBuffer, Refused, Reply,
-    RingBuffer, RunFault, Stopped, apply, run, run_into,
+    RingBuffer, RunFault, Stopped, run, run_into,
 };
 use std::alloc::{AllocError, Global};
 use std::cell::Cell;
@@ -30,20 +30,64 @@ fn hold_first<'a, R: RingBuffer<Counted<'a>>>(
     push_items(rt, ring, supply, held);
 }
 
-struct ClonesItems;
+/// Clones of a ring of three items, or lists of its clones. Each is refused in turn: in droughts, or where fewer clones
+/// are had than there are items.
+#[derive(Drop)]
+struct Copies {
+    to_list: bool,
+    in_droughts: bool,
+}
 
-impl<'a> CountedCase<Counted<'a>, &'a Supply> for ClonesItems {
+impl Copies {
+    /// Copies a ring of the first items of a supply of so many, in a drought if it is said what that spares. The ring is
+    /// as it was. Returns whether the copy was made.
+    fn is_copied<'a, R: RingBuffer<Counted<'a>> + Twin + Drop>(
+        &self,
+        rt: &(impl Abort + AllocGlobal),
+        ring: &mut R,
+        supply: &'a Supply,
+        most: usize,
+        spare: Option<usize>,
+    ) -> bool {
+        hold_first(rt, ring, supply, 3, most);
+        let drought = drought_if(rt, spare);
+        let is_made = if self.to_list {
+            let made = ring.to_vec(rt.alloc());
+            drop(drought);
+            is_listed(rt, made, supply)
+        } else {
+            let made = ring.twin();
+            drop(drought);
+            is_cloned(rt, made, supply)
+        };
+        assert_three(rt, ring, 0);
+        is_made
+    }
+}
+
+impl<'a> CountedCase<Counted<'a>, &'a Supply> for Copies {
     fn on<R: RingBuffer<Counted<'a>> + Twin + Drop>(
         &self,
         rt: &(impl Abort + AllocGlobal),
         mut ring: R,
         supply: &'a Supply,
     ) {
-        for clones in 0..4 {
-            hold_first(rt, &mut ring, supply, 3, clones + 3);
-            let made = ring.twin();
-            assert_equal(rt, is_cloned(rt, made, supply), clones == 3);
-            assert_three(rt, &ring, 0);
+        let mut refused = 0;
+        for step in 0..MOST_STEPS {
+            let (most, spare) = if self.in_droughts {
+                (6, Some(spared(step)))
+            } else {
+                (step + 3, None)
+            };
+            if self.is_copied(rt, &mut ring, supply, most, spare) {
+                break;
+            }
+            refused = step + 1;
+        }
+        if self.in_droughts {
+            assert!(rt; 0 < refused && refused < MOST_STEPS);
+        } else {
+            assert_equal(rt, refused, 3);
         }
         supply.assert_each_dropped_with(rt, ring);
     }
@@ -52,39 +96,22 @@ impl<'a> CountedCase<Counted<'a>, &'a Supply> for ClonesItems {
 #[test]
 fn a_refused_clone_of_an_item_ends_a_clone(rt: HostRuntime) {
     let supply = Supply::new(&rt, 6);
-    on_each::<3>(&rt, &supply, &ClonesItems);
-}
-
-struct ClonesInADrought;
-
-impl<'a> CountedCase<Counted<'a>, &'a Supply> for ClonesInADrought {
-    fn on<R: RingBuffer<Counted<'a>> + Twin + Drop>(
-        &self,
-        rt: &(impl Abort + AllocGlobal),
-        mut ring: R,
-        supply: &'a Supply,
-    ) {
-        for step in 0..MOST_STEPS {
-            hold_first(rt, &mut ring, supply, 3, 6);
-            let drought = drought(rt, spared(step));
-            let made = ring.twin();
-            drop(drought);
-            let is_made = is_cloned(rt, made, supply);
-            assert_three(rt, &ring, 0);
-            if is_made {
-                assert!(rt; step > 0);
-                return;
-            }
-        }
-        panic!(rt; "each attempt was refused")
-    }
+    let case = Copies {
+        to_list: false,
+        in_droughts: false,
+    };
+    on_each::<3>(&rt, &supply, &case);
 }
 
 #[test]
 fn a_clone_is_refused_in_turn(rt: HostRuntime) {
     let supply = Supply::new(&rt, 6);
-    on_heap::<3>(&rt, &supply, &ClonesInADrought);
-    on_growable::<0>(&rt, &supply, &ClonesInADrought);
+    let case = Copies {
+        to_list: false,
+        in_droughts: true,
+    };
+    on_heap::<3>(&rt, &supply, &case);
+    on_growable::<0>(&rt, &supply, &case);
 }
 
 /// A list of clones of three items has them in order, and where it was refused they were dropped. Returns whether the
@@ -92,69 +119,40 @@ fn a_clone_is_refused_in_turn(rt: HostRuntime) {
 fn is_listed(rt: &impl Abort, made: Result<Vec<Counted<'_>>, AllocError>, supply: &Supply) -> bool {
     let is_made = made.is_ok();
     if let Ok(items) = made {
-        assert_equal(rt, items.len(), 3);
-        for (i, item) in items.iter().enumerate() {
-            assert_equal(rt, item.number, i.saturating_add(3));
-        }
+        assert_equal(rt, (items.len(), are_numbered(&items, 3)), (3, true));
     }
     supply.assert_all_dropped_but(rt, 3);
     is_made
 }
 
-struct ListsClones;
-
-impl<'a> CountedCase<Counted<'a>, &'a Supply> for ListsClones {
-    fn on<R: RingBuffer<Counted<'a>> + Twin + Drop>(
-        &self,
-        rt: &(impl Abort + AllocGlobal),
-        mut ring: R,
-        supply: &'a Supply,
-    ) {
-        for clones in 0..4 {
-            hold_first(rt, &mut ring, supply, 3, clones + 3);
-            let made = ring.to_vec(rt.alloc());
-            assert_equal(rt, is_listed(rt, made, supply), clones == 3);
-            assert_three(rt, &ring, 0);
+/// Whether the items are numbered in order, from this number on.
+fn are_numbered(items: &[Counted<'_>], first: usize) -> bool {
+    for (i, item) in items.iter().enumerate() {
+        if item.number != i.saturating_add(first) {
+            return false;
         }
-        supply.assert_each_dropped_with(rt, ring);
     }
+    true
 }
 
 #[test]
 fn a_refused_clone_of_an_item_ends_a_list(rt: HostRuntime) {
     let supply = Supply::new(&rt, 6);
-    on_each::<3>(&rt, &supply, &ListsClones);
-}
-
-struct ListsInADrought;
-
-impl<'a> CountedCase<Counted<'a>, &'a Supply> for ListsInADrought {
-    fn on<R: RingBuffer<Counted<'a>> + Twin + Drop>(
-        &self,
-        rt: &(impl Abort + AllocGlobal),
-        mut ring: R,
-        supply: &'a Supply,
-    ) {
-        for step in 0..MOST_STEPS {
-            hold_first(rt, &mut ring, supply, 3, 6);
-            let drought = drought(rt, spared(step));
-            let made = ring.to_vec(rt.alloc());
-            drop(drought);
-            let is_made = is_listed(rt, made, supply);
-            assert_three(rt, &ring, 0);
-            if is_made {
-                assert!(rt; step > 0);
-                return;
-            }
-        }
-        panic!(rt; "each attempt was refused")
-    }
+    let case = Copies {
+        to_list: true,
+        in_droughts: false,
+    };
+    on_each::<3>(&rt, &supply, &case);
 }
 
 #[test]
 fn a_list_is_refused_in_turn(rt: HostRuntime) {
     let supply = Supply::new(&rt, 6);
-    on_each::<3>(&rt, &supply, &ListsInADrought);
+    let case = Copies {
+        to_list: true,
+        in_droughts: true,
+    };
+    on_each::<3>(&rt, &supply, &case);
 }
 
 struct FillsByClones;
@@ -400,6 +398,17 @@ fn comparisons_take_no_memory(rt: HostRuntime) -> Result<(), AllocError> {
     Ok(())
 }
 
+/// The item that the refusal of a push hands back.
+fn refused_item<'a>(
+    rt: &impl Abort,
+    answer: Result<Reply<Counted<'a>>, Refused<Counted<'a>>>,
+) -> Counted<'a> {
+    match answer {
+        Err(Refused::Push(item)) => item,
+        _ => panic!(rt; "the push was not refused"),
+    }
+}
+
 // Only a growable ring is refused a push. This one has room for so many items, and they are there.
 struct PushesOntoFull;
 
@@ -419,11 +428,8 @@ impl<'a> CountedCase<Counted<'a>, &'a Supply> for PushesOntoFull {
             .enqueue(pushed.expect(rt, "the item that was pushed"))
             .err();
         let item = enqueued.expect(rt, "the item that was enqueued");
-        let applied = apply(&mut ring, Command::Push(item));
+        let item = refused_item(rt, answer_to(&mut ring, Command::Push(item)));
         drop(drought);
-        let Err(Refused::Push(item)) = applied else {
-            panic!(rt; "the push was not refused");
-        };
         assert_equal(rt, (item.number, ring.len()), (room, room));
         assert_numbered(rt, &ring, 0);
         drop(item);
@@ -439,6 +445,15 @@ fn a_refused_push_hands_its_item_back(rt: HostRuntime) {
 
 // How many items the extensions below have.
 const MANY: usize = 100;
+
+/// Whether the command to extend was done.
+fn is_extended(rt: &impl Abort, answer: Result<Reply<Counted<'_>>, Refused<Counted<'_>>>) -> bool {
+    match answer {
+        Ok(Reply::Extended) => true,
+        Err(Refused::Extend) => false,
+        _ => panic!(rt; "an answer to another command"),
+    }
+}
 
 /// An extension by a call or by a command, in a drought that spares so many bytes.
 #[derive(Drop)]
@@ -459,18 +474,14 @@ impl<'a> CountedCase<Counted<'a>, &'a Supply> for ExtendsInADrought {
         let extension = supply.items(rt, MANY);
         let drought = drought(rt, self.spare);
         let is_done = if self.by_command {
-            match apply(&mut ring, Command::Extend(extension)) {
-                Ok(Reply::Extended) => true,
-                Err(Refused::Extend) => false,
-                _ => panic!(rt; "an answer to another command"),
-            }
+            is_extended(rt, answer_to(&mut ring, Command::Extend(extension)))
         } else {
             ring.extend(extension).is_ok()
         };
         drop(drought);
         let held = ring.len();
-        let found = ((2..MANY + 3).contains(&held), is_done);
-        assert_equal(rt, found, (true, held == MANY + 2));
+        assert!(rt; 2 <= held && held <= MANY + 2);
+        assert_equal(rt, is_done, held == MANY + 2);
         assert_numbered(rt, &ring, 0);
         supply.assert_each_dropped_with(rt, ring);
         self.is_done.set(is_done);
@@ -549,11 +560,7 @@ impl Script {
             Command::Push(item) if at == 0 => item.number == 0,
             Command::Push(item) => at == 3 && item.number == self.extension.saturating_add(1),
             Command::Extend(items) if at == 1 => {
-                items.len() == self.extension
-                    && items
-                        .iter()
-                        .enumerate()
-                        .all(|(i, item)| item.number == i.saturating_add(1))
+                items.len() == self.extension && are_numbered(items, 1)
             }
             Command::Extend(items) => at == 2 && !self.takes && items.is_empty(),
             Command::Dequeue => at == 2 && self.takes,
@@ -606,17 +613,20 @@ impl Script {
         done: usize,
     ) {
         let first = if self.takes && done > 2 { 1 } else { 0 };
+        let found = ring.len().saturating_add(first);
         let end = match done {
             0 => 0,
             1 => {
-                assert!(rt; (1..self.extension.saturating_add(1)).contains(&ring.len()));
-                ring.len()
+                assert!(rt; 1 <= found && found <= self.extension);
+                found
             }
             3 => self.extension.saturating_add(1),
-            4 => self.items(),
-            _ => panic!(rt; "command {done} takes no memory"),
+            _ => {
+                assert_equal(rt, done, 4);
+                self.items()
+            }
         };
-        assert_equal(rt, ring.len().saturating_add(first), end);
+        assert_equal(rt, found, end);
         assert_numbered(rt, &ring, first);
     }
 }

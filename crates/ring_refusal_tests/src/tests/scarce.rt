@@ -24,7 +24,7 @@ pub fn drought(rt: &(impl Abort + AllocGlobal), spare: usize) -> Drought {
 }
 
 /// The same, if it is said what it spares.
-fn drought_if(rt: &(impl Abort + AllocGlobal), spare: Option<usize>) -> Option<Drought> {
+pub fn drought_if(rt: &(impl Abort + AllocGlobal), spare: Option<usize>) -> Option<Drought> {
     match spare {
         Some(bytes) => Some(drought(rt, bytes)),
         None => None,
@@ -40,7 +40,7 @@ enum Kind {
 }
 
 /// What holds three items before a ring does.
-#[derive(Debug, Drop)]
+#[derive(Drop)]
 enum Holder {
     Array,
     Iterator,
@@ -51,6 +51,29 @@ enum Holder {
     HeapRing,
     GrowableRing,
 }
+
+/// How items are lent to a conversion that clones them.
+#[derive(Drop)]
+enum Lent {
+    Slice,
+    MutSlice,
+    ArrayRef,
+    MutArray,
+}
+
+/// Where a ring gets three items: they are moved into it, or it clones them.
+#[derive(Drop)]
+enum Source {
+    Moved(Holder),
+    Cloned(Lent),
+}
+
+const EACH_LENT: [Source; 4] = [
+    Source::Cloned(Lent::Slice),
+    Source::Cloned(Lent::MutSlice),
+    Source::Cloned(Lent::ArrayRef),
+    Source::Cloned(Lent::MutArray),
+];
 
 /// Three items in what holds them.
 #[derive(Drop)]
@@ -182,9 +205,9 @@ impl<'a> MadeOf<Three<'a>> for ConstGenericRingBuffer<Counted<'a>, 3> {
     }
 }
 
-/// Makes a ring of three items, in a drought if it is said what that spares. The ring holds them, and they are dropped
-/// when it ends, and not before. Where it was refused they were dropped. Returns whether it was made.
-fn is_made<'a, R>(
+/// Moves three items into a ring, in a drought if it is said what that spares. No more items are had. The ring holds them,
+/// and they are dropped when it ends, and not before. Where it was refused they were dropped. Returns whether it was made.
+fn is_made_of_moved<'a, R>(
     rt: &(impl Abort + AllocGlobal),
     supply: &'a Supply,
     holder: &Holder,
@@ -193,7 +216,7 @@ fn is_made<'a, R>(
 where
     R: RingBuffer<Counted<'a>> + MadeOf<Three<'a>> + Drop,
 {
-    supply.begin_again();
+    supply.begin_again_with(3);
     let source = Three::of(rt, supply, holder);
     let drought = drought_if(rt, spare);
     let made = R::made_of(rt, source);
@@ -207,18 +230,34 @@ where
     is_made
 }
 
+/// Makes a ring of three items, in a drought if it is said what that spares. Returns whether it was made.
+fn is_made<'a, R>(
+    rt: &(impl Abort + AllocGlobal),
+    supply: &'a Supply,
+    source: &Source,
+    spare: Option<usize>,
+) -> bool
+where
+    R: RingBuffer<Counted<'a>> + MadeOf<Three<'a>> + MadeOfClones<Counted<'a>> + Drop,
+{
+    match source {
+        Source::Moved(holder) => is_made_of_moved::<R>(rt, supply, holder, spare),
+        Source::Cloned(lent) => is_made_of_clones::<R>(rt, supply, lent, spare),
+    }
+}
+
 /// The same for a type of ring.
 fn is_made_as(
     rt: &(impl Abort + AllocGlobal),
     supply: &Supply,
     kind: &Kind,
-    holder: &Holder,
+    source: &Source,
     spare: Option<usize>,
 ) -> bool {
     match kind {
-        Kind::Array => is_made::<ConstGenericRingBuffer<Counted, 3>>(rt, supply, holder, spare),
-        Kind::Heap => is_made::<AllocRingBuffer<Counted>>(rt, supply, holder, spare),
-        Kind::Growable => is_made::<GrowableAllocRingBuffer<Counted>>(rt, supply, holder, spare),
+        Kind::Array => is_made::<ConstGenericRingBuffer<Counted, 3>>(rt, supply, source, spare),
+        Kind::Heap => is_made::<AllocRingBuffer<Counted>>(rt, supply, source, spare),
+        Kind::Growable => is_made::<GrowableAllocRingBuffer<Counted>>(rt, supply, source, spare),
     }
 }
 
@@ -226,79 +265,86 @@ fn is_made_as(
 fn items_that_were_moved_in_are_dropped_once(rt: HostRuntime) {
     let supply = Supply::new(&rt, 3);
     for kind in [Kind::Array, Kind::Heap, Kind::Growable] {
-        let is_made = is_made_as(&rt, &supply, &kind, &Holder::Array, None);
+        let is_made = is_made_as(&rt, &supply, &kind, &Source::Moved(Holder::Array), None);
         assert_equal(&rt, is_made, true);
     }
 }
 
-/// Makes rings of three items, of each holder in one drought after the other until none is refused. The first is.
-fn assert_made_at_last(rt: &(impl Abort + AllocGlobal), kind: &Kind, holders: &[Holder]) {
-    let supply = Supply::new(rt, 3);
-    for holder in holders {
+/// Whether some attempts were refused, and not all.
+fn is_in_turn(refused: usize) -> bool {
+    0 < refused && refused < MOST_STEPS
+}
+
+/// Makes rings of three items, of each source in one drought after the other until none is refused. The first is.
+fn assert_made_at_last(rt: &(impl Abort + AllocGlobal), kind: &Kind, sources: &[Source]) {
+    let supply = Supply::new(rt, 6);
+    for (i, source) in sources.iter().enumerate() {
         let mut refused = 0;
         for step in 0..MOST_STEPS {
-            if is_made_as(rt, &supply, kind, holder, Some(spared(step))) {
+            supply.begin_again();
+            if is_made_as(rt, &supply, kind, source, Some(spared(step))) {
                 break;
             }
             refused = step + 1;
         }
-        assert!(rt; (1..MOST_STEPS).contains(&refused), "of {holder:?}");
+        assert_equal(rt, (i, is_in_turn(refused)), (i, true));
     }
 }
 
-/// Makes rings of three items while there is no memory, one of each holder.
-fn assert_made_of_nothing(rt: &(impl Abort + AllocGlobal), kind: &Kind, holders: &[Holder]) {
+/// Makes rings of three items while there is no memory, one of each source.
+fn assert_made_of_nothing(rt: &(impl Abort + AllocGlobal), kind: &Kind, sources: &[Source]) {
     let supply = Supply::new(rt, 3);
-    for holder in holders {
-        assert!(rt;
-            is_made_as(rt, &supply, kind, holder, Some(0)),
-            "of {holder:?}"
-        );
+    for (i, source) in sources.iter().enumerate() {
+        let is_made = is_made_as(rt, &supply, kind, source, Some(0));
+        assert_equal(rt, (i, is_made), (i, true));
     }
 }
 
 #[test]
 fn a_refused_heap_ring_drops_its_source(rt: HostRuntime) {
-    let holders = [
-        Holder::Array,
-        Holder::Vec,
-        Holder::Deque,
-        Holder::LinkedList,
-        Holder::GrowableRing,
-        Holder::ArrayRing,
+    let sources = [
+        Source::Moved(Holder::Array),
+        Source::Moved(Holder::Vec),
+        Source::Moved(Holder::Deque),
+        Source::Moved(Holder::LinkedList),
+        Source::Moved(Holder::GrowableRing),
+        Source::Moved(Holder::ArrayRing),
     ];
-    assert_made_at_last(&rt, &Kind::Heap, &holders);
+    assert_made_at_last(&rt, &Kind::Heap, &sources);
 }
 
 #[test]
 fn a_refused_growable_ring_drops_its_source(rt: HostRuntime) {
-    let holders = [
-        Holder::Array,
-        Holder::Iterator,
-        Holder::LinkedList,
-        Holder::HeapRing,
-        Holder::ArrayRing,
+    let sources = [
+        Source::Moved(Holder::Array),
+        Source::Moved(Holder::Iterator),
+        Source::Moved(Holder::LinkedList),
+        Source::Moved(Holder::HeapRing),
+        Source::Moved(Holder::ArrayRing),
     ];
-    assert_made_at_last(&rt, &Kind::Growable, &holders);
+    assert_made_at_last(&rt, &Kind::Growable, &sources);
 }
 
 #[test]
 fn an_array_ring_is_made_without_memory(rt: HostRuntime) {
-    let holders = [
-        Holder::Array,
-        Holder::Vec,
-        Holder::Iterator,
-        Holder::Deque,
-        Holder::LinkedList,
+    let sources = [
+        Source::Moved(Holder::Array),
+        Source::Moved(Holder::Vec),
+        Source::Moved(Holder::Iterator),
+        Source::Moved(Holder::Deque),
+        Source::Moved(Holder::LinkedList),
     ];
-    assert_made_of_nothing(&rt, &Kind::Array, &holders);
+    assert_made_of_nothing(&rt, &Kind::Array, &sources);
 }
 
 #[test]
 fn a_ring_becomes_another_without_memory(rt: HostRuntime) {
-    let rings = [Holder::GrowableRing, Holder::HeapRing];
+    let rings = [
+        Source::Moved(Holder::GrowableRing),
+        Source::Moved(Holder::HeapRing),
+    ];
     assert_made_of_nothing(&rt, &Kind::Array, &rings);
-    let queues = [Holder::Vec, Holder::Deque];
+    let queues = [Source::Moved(Holder::Vec), Source::Moved(Holder::Deque)];
     assert_made_of_nothing(&rt, &Kind::Growable, &queues);
 }
 
@@ -368,8 +414,7 @@ fn assert_spelled_at_last<R: RingBuffer<char> + MadeOfText + Drop>(
             }
             refused = step + 1;
         }
-        let is_in_turn = (1..MOST_STEPS).contains(&refused);
-        assert_equal(rt, (is_lent, is_in_turn), (is_lent, true));
+        assert_equal(rt, (is_lent, is_in_turn(refused)), (is_lent, true));
     }
 }
 
@@ -384,7 +429,7 @@ fn a_growable_ring_of_a_text_is_refused_in_turn(rt: HostRuntime) {
 }
 
 /// What makes an empty ring with room for eight items.
-#[derive(Debug, Drop)]
+#[derive(Drop)]
 enum Maker {
     HeapNew,
     HeapWithCapacity,
@@ -392,60 +437,57 @@ enum Maker {
     GrowableWithCapacity,
 }
 
-/// The capacity of a ring that is empty.
-fn capacity_of<R: RingBuffer<i64> + Drop>(rt: &impl Abort, ring: R) -> usize {
-    assert!(rt; ring.is_empty());
-    ring.capacity()
+/// The capacity of a ring, if it was made. It is empty.
+fn capacity_of<R: RingBuffer<i64> + Drop>(
+    rt: &impl Abort,
+    made: Result<R, AllocError>,
+) -> Option<usize> {
+    match made {
+        Ok(ring) => {
+            assert!(rt; ring.is_empty());
+            Some(ring.capacity())
+        }
+        Err(_) => None,
+    }
 }
 
-/// Makes a ring, and returns its capacity.
-fn made_by(rt: &(impl Abort + AllocGlobal), maker: &Maker) -> Result<usize, AllocError> {
+/// Makes a ring, and returns its capacity, if it was made.
+fn made_by(rt: &(impl Abort + AllocGlobal), maker: &Maker) -> Option<usize> {
     let alloc = rt.alloc();
-    let ring = match maker {
-        Maker::HeapNew => AllocRingBuffer::new(alloc, 8)?,
-        Maker::HeapWithCapacity => AllocRingBuffer::with_capacity(alloc, 8)?,
-        Maker::HeapWithCapacityPowerOf2 => AllocRingBuffer::with_capacity_power_of_2(alloc, 3)?,
+    let made = match maker {
+        Maker::HeapNew => AllocRingBuffer::new(alloc, 8),
+        Maker::HeapWithCapacity => AllocRingBuffer::with_capacity(alloc, 8),
+        Maker::HeapWithCapacityPowerOf2 => AllocRingBuffer::with_capacity_power_of_2(alloc, 3),
         Maker::GrowableWithCapacity => {
-            let ring = GrowableAllocRingBuffer::with_capacity(alloc, 8)?;
-            return Ok(capacity_of(rt, ring));
+            return capacity_of(rt, GrowableAllocRingBuffer::with_capacity(alloc, 8));
         }
     };
-    Ok(capacity_of(rt, ring))
+    capacity_of(rt, made)
 }
 
 #[test]
 fn a_maker_is_refused_in_turn(rt: HostRuntime) {
-    for maker in [
+    let makers = [
         Maker::HeapNew,
         Maker::HeapWithCapacity,
         Maker::HeapWithCapacityPowerOf2,
         Maker::GrowableWithCapacity,
-    ] {
+    ];
+    for (i, maker) in makers.iter().enumerate() {
         let mut refused = 0;
         for step in 0..MOST_STEPS {
             let drought = drought(&rt, spared(step));
-            let made = made_by(&rt, &maker);
+            let made = made_by(&rt, maker);
             drop(drought);
-            if let Ok(capacity) = made {
-                assert!(rt; capacity >= 8, "by {maker:?}");
+            if let Some(capacity) = made {
+                assert_equal(&rt, (i, capacity >= 8), (i, true));
                 break;
             }
             refused = step + 1;
         }
-        assert!(rt; (1..MOST_STEPS).contains(&refused), "by {maker:?}");
+        assert_equal(&rt, (i, is_in_turn(refused)), (i, true));
     }
 }
-
-/// How items are lent to a conversion that clones them.
-#[derive(Debug, Drop, PartialEq)]
-enum Lent {
-    Slice,
-    MutSlice,
-    ArrayRef,
-    MutArray,
-}
-
-const EACH_LENT: [Lent; 4] = [Lent::Slice, Lent::MutSlice, Lent::ArrayRef, Lent::MutArray];
 
 /// A ring that can be made of clones of three items.
 trait MadeOfClones<T>: Sized {
@@ -531,34 +573,15 @@ where
     is_made
 }
 
-/// The same for a type of ring.
-fn is_made_of_clones_as(
-    rt: &(impl Abort + AllocGlobal),
-    supply: &Supply,
-    kind: &Kind,
-    lent: &Lent,
-    spare: Option<usize>,
-) -> bool {
-    match kind {
-        Kind::Array => {
-            is_made_of_clones::<ConstGenericRingBuffer<Counted, 3>>(rt, supply, lent, spare)
-        }
-        Kind::Heap => is_made_of_clones::<AllocRingBuffer<Counted>>(rt, supply, lent, spare),
-        Kind::Growable => {
-            is_made_of_clones::<GrowableAllocRingBuffer<Counted>>(rt, supply, lent, spare)
-        }
-    }
-}
-
 /// Clones three items into a ring, where from none to three clones are had.
 fn assert_clones_needed(rt: &(impl Abort + AllocGlobal), kind: &Kind) {
     let supply = Supply::new(rt, 6);
-    for lent in &EACH_LENT {
+    for (i, source) in EACH_LENT.iter().enumerate() {
         for clones in 0..4 {
             supply.begin_again_with(clones + 3);
-            let is_made = is_made_of_clones_as(rt, &supply, kind, lent, None);
-            let found = (lent, is_made, supply.given());
-            assert_equal(rt, found, (lent, clones == 3, clones + 3));
+            let is_made = is_made_as(rt, &supply, kind, source, None);
+            let found = (i, is_made, supply.given());
+            assert_equal(rt, found, (i, clones == 3, clones + 3));
         }
     }
 }
@@ -578,29 +601,12 @@ fn a_refused_clone_ends_a_growable_ring_of_references(rt: HostRuntime) {
     assert_clones_needed(&rt, &Kind::Growable);
 }
 
-/// Clones three items into a ring, lent in each way, in one drought after the other until none is refused. The first is.
-fn assert_cloned_at_last(rt: &(impl Abort + AllocGlobal), kind: &Kind) {
-    let supply = Supply::new(rt, 6);
-    for lent in &EACH_LENT {
-        let mut refused = 0;
-        for step in 0..MOST_STEPS {
-            supply.begin_again();
-            if is_made_of_clones_as(rt, &supply, kind, lent, Some(spared(step))) {
-                break;
-            }
-            refused = step + 1;
-        }
-        let is_in_turn = (1..MOST_STEPS).contains(&refused);
-        assert_equal(rt, (lent, is_in_turn), (lent, true));
-    }
-}
-
 #[test]
 fn a_refused_heap_ring_leaves_what_it_clones(rt: HostRuntime) {
-    assert_cloned_at_last(&rt, &Kind::Heap);
+    assert_made_at_last(&rt, &Kind::Heap, &EACH_LENT);
 }
 
 #[test]
 fn a_refused_growable_ring_leaves_what_it_clones(rt: HostRuntime) {
-    assert_cloned_at_last(&rt, &Kind::Growable);
+    assert_made_at_last(&rt, &Kind::Growable, &EACH_LENT);
 }
