@@ -283,7 +283,7 @@ impl<T: Drop, const CAP: usize> IntoIterator for ConstGenericRingBuffer<T, CAP> 
 
     #[inline]
     fn into_iter(self) -> RingBufferIntoIterator<T, ConstGenericRingBuffer<T, CAP>> {
-        RingBufferIntoIterator::new(self)
+        self.into_iter()
     }
 }
 
@@ -299,7 +299,7 @@ impl<'a, T: Drop, const CAP: usize> IntoIterator for &'a ConstGenericRingBuffer<
 
     #[inline]
     fn into_iter(self) -> RingBufferIterator<'a, T, ConstGenericRingBuffer<T, CAP>> {
-        RingBufferIterator::new(self)
+        self.iter()
     }
 }
 

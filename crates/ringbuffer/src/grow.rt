@@ -410,7 +410,7 @@ impl<T: Drop> IntoIterator for GrowableAllocRingBuffer<T> {
 
     #[inline]
     fn into_iter(self) -> RingBufferIntoIterator<T, GrowableAllocRingBuffer<T>> {
-        RingBufferIntoIterator::new(self)
+        self.into_iter()
     }
 }
 
@@ -426,7 +426,7 @@ impl<'a, T: Drop> IntoIterator for &'a GrowableAllocRingBuffer<T> {
 
     #[inline]
     fn into_iter(self) -> RingBufferIterator<'a, T, GrowableAllocRingBuffer<T>> {
-        RingBufferIterator::new(self)
+        self.iter()
     }
 }
 

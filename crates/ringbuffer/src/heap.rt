@@ -411,7 +411,7 @@ impl<T: Drop> IntoIterator for AllocRingBuffer<T> {
 
     #[inline]
     fn into_iter(self) -> RingBufferIntoIterator<T, AllocRingBuffer<T>> {
-        RingBufferIntoIterator::new(self)
+        self.into_iter()
     }
 }
 
@@ -427,7 +427,7 @@ impl<'a, T: Drop> IntoIterator for &'a AllocRingBuffer<T> {
 
     #[inline]
     fn into_iter(self) -> RingBufferIterator<'a, T, AllocRingBuffer<T>> {
-        RingBufferIterator::new(self)
+        self.iter()
     }
 }
 
