@@ -86,11 +86,14 @@ module _ {T : Type 0} {limit : Option ℕ} {start : List T} {all done todo : Lis
       let answers : at ≡ length so_far = h.count ∙ sym (length-replies_to limit start done) in
       rw (replies_to-turn c r h is, written, answered, answers) (places-more (length all) so_far r (length-replies_so_far c rest h first))
 
+  -- The commands that are done are the first ones.
+  pub HasDone-first : HasDone limit start all done todo at limit' now before after → take at all ≡ done
+  HasDone-first h = rw (← h.parts, h.count) (take_at done todo (length done) refl)
+
   -- A refusal of the next command stops the run at its number.
   pub HasDone-stops : (c : Command T) (rest : List (Command T)) (new : List T) (r : Refused T) → HasDone limit start all done todo at limit' now before after → todo ≡ c ∷ rest
       → IsRefused c now new r → StopsAt limit start all at new
   HasDone-stops c rest new r h first refused =
       let whole : done ++ c ∷ rest ≡ all = rw (← first) h.parts in
-      let before : take at all ≡ done = rw (← whole, h.count) (take_at done (c ∷ rest) (length done) refl) in
       let next : slice_get all at ≡ Some c = rw (← whole, h.count) (slice_get-at done c rest) in
-      (c, next, rw (before, ← h.left) (LeavesPart-refused c now new r refused))
+      (c, next, rw (HasDone-first h, ← h.left) (LeavesPart-refused c now new r refused))

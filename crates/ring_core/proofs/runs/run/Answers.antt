@@ -1,7 +1,7 @@
 -- One turn of the loop, its end, its stop at a refusal, and what holds where no command was done.
 use Rattle.ring_core.proofs.Words.{◌<◌, length, arith, rules, steps}
 use Rattle.ring_core.proofs.HeldWindow.{KeepsToNumbers-held}
-use Rattle.ring_core.proofs.CommandLoop.{HasDone-end, HasDone-next, HasDone-stops, HasDone-turn, length-replies_so_far, replies_to-turn}
+use Rattle.ring_core.proofs.CommandLoop.{HasDone-end, HasDone-first, HasDone-next, HasDone-stops, HasDone-turn, length-replies_so_far, replies_to-turn}
 use Rattle.ring_core.proofs.runs.run.Goals as goal
 
 pub store-requires : goal.store-requires
@@ -23,9 +23,24 @@ loop-command-preserved g c =
       room = omega (arith, so_far.room, c.store.ensures.capacity);
     }
 
-pub returns-in_default-apply-clause-stopped : goal.returns-in_default-apply-clause-stopped
-returns-in_default-apply-clause-stopped g c =
-    HasDone-stops c.in-Some.command _ _ c.in_default-apply.field-0 c.loop-command.invariant.done c.in-Some.ensures.steps.0 c.in_default-apply.ensures.refused
+pub returns-in_default-apply : goal.returns-in_default-apply
+returns-in_default-apply g c =
+    let so_far = c.loop-command.invariant in let done = so_far.done in
+    record {
+      never_stopped = grind arith;
+      same_limit = grind arith;
+      in_turn = tt;
+      replies_in_turn = tt;
+      contents = tt;
+      replies = tt;
+      numbers = KeepsToNumbers-held _ _ (steps c.args.commands.items) c.len.ensures.within;
+      changes = grind arith;
+      few_changes = grind arith;
+      twice = grind arith;
+      no_room = tt;
+      stopped = HasDone-stops c.in-Some.command _ _ c.in_default-apply.field-0 done c.in-Some.ensures.steps.0 c.in_default-apply.ensures.refused;
+      replies_before = rw (HasDone-first done) so_far.answered;
+    }
 
 pub returns : goal.returns
 returns g c =
@@ -47,9 +62,6 @@ returns g c =
       stopped = tt;
       replies_before = tt;
     }
-
-pub returns-in_default-apply-clause-numbers : goal.returns-in_default-apply-clause-numbers
-returns-in_default-apply-clause-numbers g c = KeepsToNumbers-held _ _ (steps c.args.commands.items) c.len.ensures.within
 
 pub returns-in_default-clause-numbers : goal.returns-in_default-clause-numbers
 returns-in_default-clause-numbers g c = KeepsToNumbers-held _ _ (steps c.args.commands.items) c.len.ensures.within

@@ -2,7 +2,7 @@
 use Rattle.ring_core.proofs.Words.{arith, rules, steps}
 use Rattle.ring_core.proofs.RunParts.{places_all}
 use Rattle.ring_core.proofs.HeldWindow.{KeepsToNumbers-held}
-use Rattle.ring_core.proofs.CommandLoop.{HasDone-end, HasDone-next, HasDone-stops, HasDone-turn, places-turn}
+use Rattle.ring_core.proofs.CommandLoop.{HasDone-end, HasDone-first, HasDone-next, HasDone-stops, HasDone-turn, places-turn}
 use Rattle.ring_core.proofs.runs.run_into.Goals as goal
 
 pub put-requires : goal.put-requires
@@ -19,9 +19,23 @@ loop-command-preserved g c =
       answered = places-turn c.in-Some.command _ _ _ c.in-Ok.reply so_far.done next so_far.answered c.in-Ok.ensures.reply c.put.ensures;
     }
 
-pub returns-in_default-clause-stopped : goal.returns-in_default-clause-stopped
-returns-in_default-clause-stopped g c =
-    HasDone-stops c.in-Some.command _ _ c.in_default.field-0 c.loop-command.invariant.done c.in-Some.ensures.steps.0 c.in_default.ensures.refused
+pub returns-in_default : goal.returns-in_default
+returns-in_default g c =
+    let so_far = c.loop-command.invariant in let done = so_far.done in
+    record {
+      never_refused = grind arith;
+      same_limit = grind arith;
+      in_turn = tt;
+      replies_in_turn = tt;
+      contents = tt;
+      replies = tt;
+      numbers = KeepsToNumbers-held _ _ (steps c.args.commands.items) c.len.ensures.within;
+      changes = grind arith;
+      few_changes = grind arith;
+      twice = grind arith;
+      stopped = HasDone-stops c.in-Some.command _ _ c.in_default.field-0 done c.in-Some.ensures.steps.0 c.in_default.ensures.refused;
+      replies_before = rw (HasDone-first done) so_far.answered;
+    }
 
 pub returns : goal.returns
 returns g c =
@@ -42,9 +56,6 @@ returns g c =
       stopped = tt;
       replies_before = tt;
     }
-
-pub returns-in_default-clause-numbers : goal.returns-in_default-clause-numbers
-returns-in_default-clause-numbers g c = KeepsToNumbers-held _ _ (steps c.args.commands.items) c.len.ensures.within
 
 pub loop-command-init : goal.loop-command-init
 loop-command-init g c = search rules

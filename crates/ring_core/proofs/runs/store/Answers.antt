@@ -1,3 +1,2 @@
--- found by search, which alone is tried where a wrong body breaks it
 pub returns-clause-items : Rattle.ring_core.proofs.runs.store.Goals.returns-clause-items
 returns-clause-items c = search Rattle.std.proofs.Common.rules

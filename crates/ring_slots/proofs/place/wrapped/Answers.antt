@@ -1,3 +1,2 @@
--- found by search, which alone is tried where a wrong body breaks it
 pub returns-then-sum-size : Rattle.ring_slots.proofs.place.wrapped.Goals.returns-then-sum-size
 returns-then-sum-size c = search Rattle.std.proofs.Common.rules

@@ -1,3 +1,2 @@
--- found by search, which alone is tried where a wrong body breaks it
 pub returns-then-place-size : Rattle.ring_slots.proofs.place.wrapped_next.Goals.returns-then-place-size
 returns-then-place-size c = search Rattle.std.proofs.Common.rules

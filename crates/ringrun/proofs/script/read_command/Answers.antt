@@ -1,6 +1,5 @@
 use Rattle.std.proofs.Common.{rules}
 use Rattle.ringrun.proofs.script.read_command.Goals as goal
 
--- found by search, which alone is tried where a wrong body breaks it
 pub returns-clause-name : goal.returns-clause-name
 returns-clause-name c = search rules

@@ -1,6 +1,5 @@
 use Rattle.std.proofs.Common.{rules}
 use Rattle.ringrun.proofs.service.answer_by_array.Goals as goal
 
--- found by search, which alone is tried where a wrong body breaks it
 pub answer_by_array_of-requires-clause-some : goal.answer_by_array_of-requires-clause-some
 answer_by_array_of-requires-clause-some g c = search rules

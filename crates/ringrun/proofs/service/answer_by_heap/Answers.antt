@@ -1,6 +1,5 @@
 use Rattle.std.proofs.Common.{rules}
 use Rattle.ringrun.proofs.service.answer_by_heap.Goals as goal
 
--- found by search, which alone is tried where a wrong body breaks it
 pub returns-in_err-ring-clause-ring_first : goal.returns-in_err-ring-clause-ring_first
 returns-in_err-ring-clause-ring_first g c = search rules

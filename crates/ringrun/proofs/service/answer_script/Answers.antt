@@ -1,6 +1,5 @@
 use Rattle.std.proofs.Common.{rules}
 use Rattle.ringrun.proofs.service.answer_script.Goals as goal
 
--- found by search, which alone is tried where a wrong body breaks it
 pub returns-clause-all_read : goal.returns-clause-all_read
 returns-clause-all_read g c = search rules

@@ -1,3 +1,2 @@
--- found by search, which alone is tried where a wrong body breaks it
 pub returns-clause-steps : Rattle.ring_core.proofs.iter.RingBufferIntoIteratorIterator.next.Goals.returns-clause-steps
 returns-clause-steps g c = search Rattle.std.proofs.Common.rules

@@ -1,4 +1,3 @@
--- found by search, which alone is tried where a wrong body breaks it
 pub returns-clause-lower : Rattle.ring_core.proofs.iter.RingBufferIteratorIterator.size_hint.Goals.returns-clause-lower
 returns-clause-lower g c = search Rattle.std.proofs.Common.rules
 

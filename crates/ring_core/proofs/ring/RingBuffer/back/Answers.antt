@@ -1,3 +1,2 @@
--- found by search, which alone is tried where a wrong body breaks it
 pub returns : Rattle.ring_core.proofs.ring.RingBuffer.back.Goals.returns
 returns g c = search Rattle.std.proofs.Common.rules

@@ -1,4 +1,3 @@
--- found by search, which alone is tried where a wrong body breaks it
 pub loop-init : Rattle.ring_core.proofs.ring.RingBuffer.fill.Goals.loop-init
 loop-init g c = search Rattle.std.proofs.Common.rules
 

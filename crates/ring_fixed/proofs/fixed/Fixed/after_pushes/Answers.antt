@@ -1,3 +1,2 @@
--- found by search, which alone is tried where a wrong body breaks it
 pub returns-then-full : Rattle.ring_fixed.proofs.fixed.Fixed.after_pushes.Goals.returns-then-full
 returns-then-full c = search Rattle.std.proofs.Common.rules

@@ -1,4 +1,4 @@
-use Rattle.ring_fixed.proofs.Words.{◌≡◌, ℕ, ◌+◌, ◌-◌, ◌%◌, ◌++◌, drop, ap, refl, sym, ◌∙◌, arith, length, length-append, take-append-drop, mod_self, View, after_keep_newest, after_puts, view_from}
+use Rattle.ring_fixed.proofs.Words.{◌≡◌, ℕ, ◌+◌, ◌-◌, ◌%◌, ◌++◌, drop, ap, refl, sym, ◌∙◌, arith, length, length-append, length-drop, take-append-drop, mod_self, View, after_keep_newest, after_puts, view_from, items_from}
 use Rattle.ring_fixed.proofs.SlotsHold.{count_on}
 use Rattle.ring_fixed.proofs.LaysOut.{LaysOut-then}
 use Rattle.ring_fixed.proofs.RepeatedSteps.{after_extend_from_slice-by, after_puts-then}
@@ -15,6 +15,25 @@ put_copies-requires-2-clause-place g c =
     let ends : c.place_after-end.result + length c.split_at-2.result.0.now ≡ length (g.S.RingSlots.seen ring.slots).slots =
     omega (arith, c.min.ensures, c.size.ensures, parts.front_len, parts.back_len) in
     rw size (round ring.start ring.len c.place_after-end.result _ _ c.place_after-end.ensures ends)
+
+-- The newest items fit behind those that are kept.
+pub put_copies-requires-clause-room : goal.put_copies-requires-clause-room
+put_copies-requires-clause-room g c =
+    let items = items_from (g.S.RingSlots.seen c.args.self.slots).slots c.args.self.start in let k = c.args.given.1 - length c.split_at.result.1.now in
+    let kept = c.keep_newest.ensures in let long : c.keep_newest.new.self.len ≡ length (drop (length items - k) items) = kept.1 in
+    omega (arith, long, length-drop (length items - k) items, kept.0.same_size, c.saturating_sub.ensures, c.split_at.ensures.back_len, c.split_at-2.ensures.front_len, c.min.ensures, c.requires.room)
+
+pub put_copies-requires-2-clause-room : goal.put_copies-requires-2-clause-room
+put_copies-requires-2-clause-room g c =
+    let items = items_from (g.S.RingSlots.seen c.args.self.slots).slots c.args.self.start in let k = c.args.given.1 - length c.split_at.result.1.now in
+    let kept = c.keep_newest.ensures in let long : c.keep_newest.new.self.len ≡ length (drop (length items - k) items) = kept.1 in
+    omega (arith, long, length-drop (length items - k) items, kept.0.same_size, c.put_copies.ensures.same_size, c.saturating_sub.ensures, c.split_at.ensures.back_len, c.split_at-2.ensures.front_len, c.split_at-2.ensures.back_len, c.min.ensures, c.requires.room)
+
+pub put_copies-requires-2-clause-len : goal.put_copies-requires-2-clause-len
+put_copies-requires-2-clause-len g c =
+    let items = items_from (g.S.RingSlots.seen c.keep_newest.new.self.slots).slots c.keep_newest.new.self.start in
+    let kept = c.keep_newest.ensures in let now : items_from (g.S.RingSlots.seen c.put_copies.new.slots).slots c.keep_newest.new.self.start ≡ items ++ c.split_at-2.result.0.now = ap (λ (w : View _). w.items) c.put_copies.ensures.shows in
+    rw now (omega (arith, kept.1 ∙ ap (λ (w : View _). length w.items) (sym kept.0.shows), length-append items c.split_at-2.result.0.now))
 
 -- So many are kept that the newest fit, which are put in two runs.
 pub returns : goal.returns

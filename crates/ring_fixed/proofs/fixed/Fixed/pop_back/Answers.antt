@@ -1,4 +1,3 @@
--- found by search, which alone is tried where a wrong body breaks it
 pub returns-clause-value : Rattle.ring_fixed.proofs.fixed.Fixed.pop_back.Goals.returns-clause-value
 returns-clause-value g c = search Rattle.std.proofs.Common.rules
 

@@ -1,3 +1,2 @@
--- found by search, which alone is tried where a wrong body breaks it
 pub deallocate-requires-clause-empty : Rattle.ring_slots.proofs.heap.HeapSlots.free.Goals.deallocate-requires-clause-empty
 deallocate-requires-clause-empty g c = search Rattle.std.proofs.Common.rules

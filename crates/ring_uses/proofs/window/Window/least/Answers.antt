@@ -1,6 +1,5 @@
 use Rattle.std.proofs.Common.{rules}
 use Rattle.ring_uses.proofs.window.Window.least.Goals as goal
 
--- found by search, which alone is tried where a wrong body breaks it
 pub returns-clause-least : goal.returns-clause-least
 returns-clause-least g c = search rules

@@ -1,3 +1,2 @@
--- found by search, which alone is tried where a wrong body breaks it
 pub returns-clause-counts : Rattle.ringbuffer.proofs.array.ConstGenericRingBufferRingBuffer.push.Goals.returns-clause-counts
 returns-clause-counts g c = search Rattle.std.proofs.Common.rules

@@ -1,3 +1,2 @@
--- found by search, which alone is tried where a wrong body breaks it
 pub returns-clause-items : Rattle.ringbuffer.proofs.grow.GrowableAllocRingBuffer.from_vec.Goals.returns-clause-items
 returns-clause-items g c = search Rattle.std.proofs.Common.rules

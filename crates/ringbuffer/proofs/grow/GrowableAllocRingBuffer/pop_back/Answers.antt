@@ -1,4 +1,3 @@
--- found by search, which alone is tried where a wrong body breaks it
 pub returns-clause-items : Rattle.ringbuffer.proofs.grow.GrowableAllocRingBuffer.pop_back.Goals.returns-clause-items
 returns-clause-items g c = search Rattle.std.proofs.Common.rules
 

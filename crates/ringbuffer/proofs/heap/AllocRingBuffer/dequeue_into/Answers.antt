@@ -1,3 +1,2 @@
--- found by search, which alone is tried where a wrong body breaks it
 pub returns-clause-rest : Rattle.ringbuffer.proofs.heap.AllocRingBuffer.dequeue_into.Goals.returns-clause-rest
 returns-clause-rest g c = search Rattle.std.proofs.Common.rules

@@ -1,3 +1,2 @@
--- found by search, which alone is tried where a wrong body breaks it
 pub returns-clause-made : Rattle.ringbuffer.proofs.heap.AllocRingBuffer.new.Goals.returns-clause-made
 returns-clause-made g c = search Rattle.std.proofs.Common.rules

@@ -1,3 +1,2 @@
--- found by search, which alone is tried where a wrong body breaks it
 pub returns-then-len : Rattle.ringbuffer.proofs.heap.AllocRingBufferPartialEq.eq.Goals.returns-then-len
 returns-then-len g c = search Rattle.std.proofs.Common.rules

@@ -1,7 +1,6 @@
 use Rattle.std.proofs.Common.{rules}
 use Rattle.window.proofs.window.WindowSum.new.Goals as goal
 
--- found by search, which alone is tried where a wrong body breaks it
 pub returns-clause-contents : goal.returns-clause-contents
 returns-clause-contents g c = search rules
 
