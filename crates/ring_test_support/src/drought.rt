@@ -42,6 +42,12 @@ impl Drought {
         Ok(Drought { _taken: taken })
     }
 
+    /// A drought that leaves a gibibyte. Droughts within it are short: all other address space, of which a block has some
+    /// 16 GiB, is taken once.
+    pub fn of_most(alloc: Global) -> Result<Drought, AllocError> {
+        Drought::but_for(alloc, 1 << 30)
+    }
+
     /// A drought that leaves nothing.
     pub fn total(alloc: Global) -> Result<Drought, AllocError> {
         Drought::but_for(alloc, 0)

@@ -7,6 +7,7 @@ use super::counted::{
 };
 use super::scarce::{MOST_STEPS, drought, drought_if, is_cloned, spared};
 use super::{assert_equal, assert_holds, push_all};
+use ring_test_support::drought::Drought;
 use ring_test_support::rings::{Case, Rings, Twin};
 use ringbuffer::{
     AllocRingBuffer, Command, ConstGenericRingBuffer, GrowableAllocRingBuffer, Refused, Reply,
@@ -72,6 +73,7 @@ impl<'a> CountedCase<Counted<'a>, &'a Supply> for Copies {
         mut ring: R,
         supply: &'a Supply,
     ) {
+        let _most = Drought::of_most(rt.alloc()).expect(rt, "memory");
         let mut refused = 0;
         for step in 0..MOST_STEPS {
             let (most, spare) = if self.in_droughts {
@@ -332,6 +334,7 @@ fn held_after_fill<'a, R: RingBuffer<Costly<'a>> + Drop>(
 #[test]
 fn a_fill_of_a_growable_ring_is_refused_at_each_clone(rt: HostRuntime) {
     let supply = Supply::new(&rt, 40);
+    let _most = Drought::of_most(rt.alloc()).expect(&rt, "memory");
     let mut held = 0;
     for step in 0..MOST_STEPS {
         supply.begin_again();
@@ -492,6 +495,7 @@ impl<'a> CountedCase<Counted<'a>, &'a Supply> for ExtendsInADrought {
 /// is.
 fn assert_extended_at_last(rt: &(impl Abort + AllocGlobal), by_command: bool) {
     let supply = Supply::new(rt, MANY + 2);
+    let _most = Drought::of_most(rt.alloc()).expect(rt, "memory");
     for step in 0..MOST_STEPS {
         let case = ExtendsInADrought {
             by_command,
@@ -681,6 +685,7 @@ fn spared_for_run(step: usize) -> usize {
 fn assert_run_at_last(rt: &(impl Abort + AllocGlobal), script: &Script, ends: &[Option<usize>]) {
     let supply = Supply::new(rt, script.items());
     let mut met = Vec::new(rt.alloc());
+    let _most = Drought::of_most(rt.alloc()).expect(rt, "memory");
     for step in 0..MOST_STEPS {
         let case = RunsInADrought {
             script,
@@ -779,6 +784,7 @@ fn places_hold_the_replies_before_a_refusal(rt: HostRuntime) {
         takes: true,
     };
     let supply = Supply::new(&rt, script.items());
+    let _most = Drought::of_most(rt.alloc()).expect(&rt, "memory");
     for step in 0..MOST_STEPS {
         let case = RunsIntoPlaces {
             script: &script,

@@ -278,6 +278,7 @@ fn is_in_turn(refused: usize) -> bool {
 /// Makes rings of three items, of each source in one drought after the other until none is refused. The first is.
 fn assert_made_at_last(rt: &(impl Abort + AllocGlobal), kind: &Kind, sources: &[Source]) {
     let supply = Supply::new(rt, 6);
+    let _most = Drought::of_most(rt.alloc()).expect(rt, "memory");
     for (i, source) in sources.iter().enumerate() {
         let mut refused = 0;
         for step in 0..MOST_STEPS {
@@ -406,6 +407,7 @@ fn is_spelled_in_a_drought<R: RingBuffer<char> + MadeOfText + Drop>(
 fn assert_spelled_at_last<R: RingBuffer<char> + MadeOfText + Drop>(
     rt: &(impl Abort + AllocGlobal),
 ) {
+    let _most = Drought::of_most(rt.alloc()).expect(rt, "memory");
     for is_lent in [true, false] {
         let mut refused = 0;
         for step in 0..MOST_STEPS {
@@ -473,6 +475,7 @@ fn a_maker_is_refused_in_turn(rt: HostRuntime) {
         Maker::HeapWithCapacityPowerOf2,
         Maker::GrowableWithCapacity,
     ];
+    let _most = Drought::of_most(rt.alloc()).expect(&rt, "memory");
     for (i, maker) in makers.iter().enumerate() {
         let mut refused = 0;
         for step in 0..MOST_STEPS {

@@ -537,12 +537,6 @@ fn serve_in_drought(
     outcome
 }
 
-/// A drought that leaves more than a run asks for. Each drought within it is short: all other address space, of which a
-/// block has some 16 GiB, is taken once.
-fn drought_of_most(rt: &(impl Abort + AllocGlobal)) -> Drought {
-    Drought::but_for(rt.alloc(), 1 << 30).expect(rt, "memory")
-}
-
 /// How often runs were refused memory before one ended so. All that a run can have is one block, of no bytes at first, which
 /// grows by a step. Where the step is below any request, they are refused one after the other.
 fn refusals(
@@ -552,7 +546,7 @@ fn refusals(
     step: usize,
     ending: Ending<'_>,
 ) -> usize {
-    let _most = drought_of_most(rt);
+    let _most = Drought::of_most(rt.alloc()).expect(rt, "memory");
     for refused in 0..400 {
         let outcome = run_in_drought(rt, arguments, script, step.saturating_mul(refused));
         if outcome.status == ending.status {
@@ -618,7 +612,7 @@ fn names_a_line_behind_what_is_refused(rt: HostRuntime) {
     let script = repeated(&rt, &[lines]);
     let faulty = repeated(&rt, &[lines, ("extend 1 2 x\n", 1)]);
     let named_line = fails(1, "ringrun: line 6001: not a command\n");
-    let _most = drought_of_most(&rt);
+    let _most = Drought::of_most(rt.alloc()).expect(&rt, "memory");
     let mut named = 0usize;
     let mut refused = 0usize;
     for step in 0..100usize {
