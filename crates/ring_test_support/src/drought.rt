@@ -42,8 +42,8 @@ impl Drought {
         Ok(Drought { _taken: taken })
     }
 
-    /// A drought that leaves a gibibyte. Droughts within it are short: all other address space, of which a block has some
-    /// 16 GiB, is taken once.
+    /// A drought that leaves a gibibyte. Droughts within it are short: the thousands of blocks that all other address space
+    /// is cut into are taken once.
     pub fn of_most(alloc: Global) -> Result<Drought, AllocError> {
         Drought::but_for(alloc, 1 << 30)
     }

@@ -1,4 +1,4 @@
-use Rattle.ring_fixed.proofs.Words.{◌≡◌, ℕ, ◌+◌, ◌-◌, ◌%◌, ◌++◌, drop, ap, refl, sym, ◌∙◌, arith, length, length-append, length-drop, take-append-drop, mod_self, View, after_keep_newest, after_puts, view_from, items_from}
+use Rattle.ring_fixed.proofs.Words.{◌≡◌, ◌≤◌, ℕ, List, ◌+◌, ◌-◌, ◌%◌, ◌++◌, drop, ap, refl, sym, ◌∙◌, arith, length, length-append, length-drop, take-append-drop, mod_self, View, after_keep_newest, after_puts, view_from, items_from}
 use Rattle.ring_fixed.proofs.SlotsHold.{count_on}
 use Rattle.ring_fixed.proofs.LaysOut.{LaysOut-then}
 use Rattle.ring_fixed.proofs.RepeatedSteps.{after_extend_from_slice-by, after_puts-then}
@@ -8,6 +8,10 @@ use Rattle.ring_fixed.proofs.fixed.Fixed.extended_from_slice.Goals as goal
 round : (start len end first size : ℕ) → end ≡ (start + len) % size → end + first ≡ size → 0 ≡ (start + (len + first)) % size
 round start len end first size found all =
     sym (sym (count_on start len first (len + first) size refl) ∙ ap (λ p. (p + first) % size) (sym found) ∙ ap (λ n. n % size) all ∙ mod_self size)
+
+-- no more are kept than were asked for
+kept_within : {X : Type 0} (items : List X) (k len : ℕ) → len ≡ length (drop (length items - k) items) → len ≤ k
+kept_within items k len kept = omega (arith, kept, length-drop (length items - k) items)
 
 pub put_copies-requires-2-clause-place : goal.put_copies-requires-2-clause-place
 put_copies-requires-2-clause-place g c =
@@ -19,15 +23,13 @@ put_copies-requires-2-clause-place g c =
 -- The newest items fit behind those that are kept.
 pub put_copies-requires-clause-room : goal.put_copies-requires-clause-room
 put_copies-requires-clause-room g c =
-    let items = items_from (g.S.RingSlots.seen c.args.self.slots).slots c.args.self.start in let k = c.args.given.1 - length c.split_at.result.1.now in
-    let kept = c.keep_newest.ensures in let long : c.keep_newest.new.self.len ≡ length (drop (length items - k) items) = kept.1 in
-    omega (arith, long, length-drop (length items - k) items, kept.0.same_size, c.saturating_sub.ensures, c.split_at.ensures.back_len, c.split_at-2.ensures.front_len, c.min.ensures, c.requires.room)
+    let kept = c.keep_newest.ensures in
+    omega (arith, kept_within (items_from (g.S.RingSlots.seen c.args.self.slots).slots c.args.self.start) (c.args.given.1 - length c.split_at.result.1.now) _ kept.1, kept.0.same_size, c.saturating_sub.ensures, c.split_at.ensures.back_len, c.split_at-2.ensures.front_len, c.min.ensures, c.requires.room)
 
 pub put_copies-requires-2-clause-room : goal.put_copies-requires-2-clause-room
 put_copies-requires-2-clause-room g c =
-    let items = items_from (g.S.RingSlots.seen c.args.self.slots).slots c.args.self.start in let k = c.args.given.1 - length c.split_at.result.1.now in
-    let kept = c.keep_newest.ensures in let long : c.keep_newest.new.self.len ≡ length (drop (length items - k) items) = kept.1 in
-    omega (arith, long, length-drop (length items - k) items, kept.0.same_size, c.put_copies.ensures.same_size, c.saturating_sub.ensures, c.split_at.ensures.back_len, c.split_at-2.ensures.front_len, c.split_at-2.ensures.back_len, c.min.ensures, c.requires.room)
+    let kept = c.keep_newest.ensures in
+    omega (arith, kept_within (items_from (g.S.RingSlots.seen c.args.self.slots).slots c.args.self.start) (c.args.given.1 - length c.split_at.result.1.now) _ kept.1, kept.0.same_size, c.put_copies.ensures.same_size, c.saturating_sub.ensures, c.split_at.ensures.back_len, c.split_at-2.ensures.front_len, c.split_at-2.ensures.back_len, c.min.ensures, c.requires.room)
 
 pub put_copies-requires-2-clause-len : goal.put_copies-requires-2-clause-len
 put_copies-requires-2-clause-len g c =
