@@ -11,3 +11,15 @@ pub returns-in_err-kind-clause-ring_first : goal.returns-in_err-kind-clause-ring
 returns-in_err-kind-clause-ring_first g c =
     let asks_for_none = c.in_err-kind.ensures.asks_for_none in
     λ asks. absurd (asks_for_none (search rules) asks.0 asks.1)
+
+pub returns-in_err-kind-clause-unread : goal.returns-in_err-kind-clause-unread
+returns-in_err-kind-clause-unread g c = search rules
+
+pub returns-in-Array-clause-unread : goal.returns-in-Array-clause-unread
+returns-in-Array-clause-unread g c = search rules
+
+pub returns-in-Heap-clause-unread : goal.returns-in-Heap-clause-unread
+returns-in-Heap-clause-unread g c = search rules
+
+pub returns-in-Heap-clause-ring_first : goal.returns-in-Heap-clause-ring_first
+returns-in-Heap-clause-ring_first g c = search rules
