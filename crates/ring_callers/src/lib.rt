@@ -3,4 +3,5 @@
 
 pub mod callers;
 pub mod counts;
+pub mod everyday;
 pub mod headline;

@@ -1,5 +1,5 @@
--- What a source gave that was taken to its end.
-use Rattle.ring_core.proofs.Words.{◌≡◌, ℕ, ◌++◌, List, length, map, Option, Some, IsOk, MatchResult, OnOk, Ok, Err, Result, is_ok, true, Drains, YieldsThen, ◌∙◌, ap, sym, YieldsList-from_shown, map-id, keep_last, DrainsFirst, UnpacksFirst, drain_to_come, into_iter_to_come}
+-- What a source gave that was taken to its end, or up to an item that was refused.
+use Rattle.ring_core.proofs.Words.{◌≡◌, ℕ, ◌++◌, List, length, map, Option, Some, IsOk, MatchResult, OnErr, OnOk, Ok, Err, Result, is_ok, true, Drains, YieldsThen, ◌∙◌, ap, refl, sym, YieldsList-from_shown, YieldsList-so_far, YieldsList-turn, AppendsCut, IsCut, None, map-id, keep_last, DrainsFirst, UnpacksFirst, drain_to_come, into_iter_to_come}
 use Rattle.std.proofs.lemmas.Iterator.{YieldsList, items_from_drains}
 use Rattle.ring_core.specs.declared.iter.RingBufferDrainingIterator.{RingBufferDrainingIterator}
 use Rattle.ring_core.specs.declared.iter.RingBufferIntoIterator.{RingBufferIntoIterator}
@@ -16,6 +16,17 @@ module _ {S A B : Type 0} {steps : S → Option A → S → Type 0} {s : S} wher
       → IsOk r → YieldsList steps v s all → map v xs ≡ all
   shown_extended {v = v} {all = all} xs (Ok _) drained ok yields = shown_drained v xs all drained yields
   shown_extended {E = E} xs (Err e) ran ok yields = absurd (let no : is_ok {T = Unit {0}} {E = E} (Err e) ≡ true = ok in cc)
+
+module _ {S A : Type 0} {steps : S → Option A → S → Type 0} {all : List A} where
+  -- what a source gave before one item more is a cut beginning of the list that it shows
+  pub IsCut-given : {s : S} (xs : List A) (x : A) (u : S) → YieldsThen steps s xs (Some x) u → YieldsList steps (λ x. x) s all → IsCut all xs
+  IsCut-given xs x u (t, given, more) yields = ((YieldsList-turn yields xs t given (Some x) u x refl more).0, sym (map-id xs) ∙ YieldsList-so_far yields xs t given)
+
+  -- a refused extension of a ring without a limit appends a cut beginning of its source
+  pub cut_extended : {I E : Type 0} (becomes : I → S → Type 0) (source : I) (old new : List A) (a b : ℕ) (r : Result (Unit {0}) E)
+      → Extends becomes steps source None old new a b r → ((it : S) → becomes source it → YieldsList steps (λ x. x) it all) → OnErr r (AppendsCut old all new)
+  cut_extended becomes source old new a b (Ok u) extended yields = tt
+  cut_extended becomes source old new a b (Err e) (it, xs, is, kept, counts, (x, after, more)) yields = (xs, IsCut-given xs x after more (yields it is), kept)
 
 module _ {T RB : Type 0} (contents : RB → List T) (limit : RB → Option ℕ) (slot_changes : RB → ℕ) where
   -- an owning walk gives what its ring holds

@@ -1,5 +1,5 @@
 -- What the contents of a ring are: a list, oldest item first, within a limit; and which place a position names.
-use Rattle.std.specs.Prelude.{◌≡◌, ℕ, ◌+◌, ◌-◌, ◌%◌, ◌<◌, ◌≤◌, List, length, take, drop, slice_get, ℤ, pos, negsuc, Option, None, Some}
+use Rattle.std.specs.Prelude.{◌≡◌, ℕ, ◌+◌, ◌-◌, ◌%◌, ◌<◌, ◌≤◌, List, ◌++◌, length, take, drop, slice_get, ℤ, pos, negsuc, Option, None, Some, IsSome}
 
 -- what a limit leaves of a list: its last items, at most so many
 abbrev pub keep_last : {A : Type 0} → Option ℕ → List A → List A
@@ -20,6 +20,10 @@ IsWithin xs (Some limit) = (0 < limit) × (length xs ≤ limit)
 abbrev pub IsCut : {A : Type 0} → List A → List A → Type 0
 IsCut whole part = (length part < length whole) × (part ≡ take (length part) whole)
 
+-- a cut beginning of the source's items came after the old ones
+abbrev pub AppendsCut : {A : Type 0} → List A → List A → List A → Type 0
+AppendsCut {A} old source new = (part : List A) × IsCut source part × (new ≡ old ++ part)
+
 -- the place that position i names among n items: 0 is the oldest, and positions wrap by n
 abbrev pub place : ℕ → ℕ → ℕ
 place n i = i % n
@@ -33,3 +37,7 @@ signed_place n (negsuc i) = n - (1 + i % n)
 -- it never falls, and rises by at most the items put in plus those removed
 abbrev pub ChangesSlots : {A : Type 0} → ℕ → List A → ℕ → List A → ℕ → Type 0
 ChangesSlots a old b new put = (a ≤ b) × (b + length new ≤ a + length old + (put + put))
+
+-- a ring with a limit changed its slots so between two of its states; nothing is said of a ring without one
+abbrev pub Counts : {A R : Type 0} → (R → Option ℕ) → (R → List A) → (R → ℕ) → R → R → ℕ → Type 0
+Counts limit contents count old new put = IsSome (limit old) → ChangesSlots (count old) (contents old) (count new) (contents new) put

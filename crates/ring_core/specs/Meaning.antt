@@ -9,7 +9,7 @@ use Rattle.ring_core.specs.declared.runs.Refused.{Refused}
 use Rattle.ring_core.specs.declared.runs.Refused.TheVariants as refused
 use Rattle.ring_core.specs.declared.runs.RunFault.{RunFault}
 use Rattle.ring_core.specs.declared.runs.RunFault.TheVariants as fault
-use Rattle.ring_core.specs.Contents.{keep_last, overwritten, IsCut}
+use Rattle.ring_core.specs.Contents.{keep_last, overwritten, AppendsCut}
 
 -- the items that a command pushes
 abbrev pub puts : {T : Type 0} → Command T → List T
@@ -55,7 +55,7 @@ places n replies = map Some replies ++ replicate (n - length replies) None
 
 -- a cut beginning of the command's items came after the contents l
 abbrev pub LeavesPart : {T : Type 0} → List T → Command T → List T → Type 0
-LeavesPart {T} l c new = (part : List T) × IsCut (puts c) part × (new ≡ l ++ part)
+LeavesPart l c new = AppendsCut l (puts c) new
 
 -- the command was refused: a push hands its item back and changes nothing, an extension leaves a part of its items
 abbrev pub IsRefused : {T : Type 0} → Command T → List T → List T → Refused T → Type 0

@@ -1,7 +1,7 @@
 -- What the walks over a ring have still to come.
 use Rattle.std.specs.Prelude.{◌≡◌, ℕ, IsSome, Option, List, length, take, drop}
 use Rattle.std.specs.Iterator.{YieldsFirst, YieldsFirstRef, YieldsLastRef}
-use Rattle.std.specs.Iterator.Runs.{YieldsRefsInOrder, YieldsRefsInReverse}
+use Rattle.std.specs.Iterator.Runs.{YieldsInOrder, YieldsRefsInOrder, YieldsRefsInReverse}
 use Rattle.ring_core.specs.Contents.{ChangesSlots}
 use Rattle.ring_core.specs.declared.iter.RingBufferDrainingIterator.{RingBufferDrainingIterator}
 use Rattle.ring_core.specs.declared.iter.RingBufferIntoIterator.{RingBufferIntoIterator}
@@ -53,3 +53,11 @@ module _ {T RB : Type 0} (contents : RB → List T) (limit : RB → Option ℕ) 
   -- an owning walk takes the first item out of its ring, and does nothing else to it
   abbrev pub UnpacksFirst : RingBufferIntoIterator T RB → Option T → RingBufferIntoIterator T RB → Type 0
   UnpacksFirst s r t = YieldsFirst (into_iter_to_come contents) s r t × OnlyTakes s.ring t.ring
+
+  -- drains give what their rings held, in order
+  abbrev pub DrainsInOrder : Type 0
+  DrainsInOrder = YieldsInOrder DrainsFirst (drain_to_come contents)
+
+  -- owning walks give what their rings held, in order
+  abbrev pub UnpacksInOrder : Type 0
+  UnpacksInOrder = YieldsInOrder UnpacksFirst (into_iter_to_come contents)

@@ -5,7 +5,7 @@ ghost use Rattle.std.specs.Borrow.{sem};
 ghost use Rattle.std.specs.Iterator.{YieldsFirstRef, YieldsLastRef, UpTo, at_most, item_count};
 ghost use Rattle.std.specs.Iterator.SizeHint.{IsWithinCount};
 ghost use Rattle.std.specs.Option.{option_copied, option_copied_mut};
-ghost use Rattle.ring_core.specs.Walk.{DrainsFirst, ReadsInOrder, ReadsInReverse, StartsOver, UnpacksFirst, drain_to_come, into_iter_to_come, iterator_to_come, cursor_to_come};
+ghost use Rattle.ring_core.specs.Walk.{DrainsFirst, DrainsInOrder, ReadsInOrder, ReadsInReverse, StartsOver, UnpacksFirst, UnpacksInOrder, drain_to_come, into_iter_to_come, iterator_to_come, cursor_to_come};
 
 use crate::ring::RingBuffer;
 use std::iter::FusedIterator;
@@ -199,6 +199,7 @@ impl<'rb, T: Drop, RB: RingBuffer<T>> RingBufferDrainingIterator<'rb, T, RB> {
     pub fn new(ring: &'rb mut RB) -> Self
         ensures same_reference { result.ring.ghost_name ≡ ring.entry.ghost_name }
         ensures ring { result.ring.now ≡ ring.entry.now }
+        ensures runs { DrainsInOrder RB.contents RB.limit RB.slot_changes }
     {
         RingBufferDrainingIterator {
             ring,
@@ -241,7 +242,8 @@ pub struct RingBufferIntoIterator<T, RB> {
 impl<T: Drop, RB: RingBuffer<T>> RingBufferIntoIterator<T, RB> {
     /// A walk over what the ring holds.
     pub fn new(ring: RB) -> Self
-        ensures { into_iter_to_come RB.contents result ≡ RB.contents ring }
+        ensures left { into_iter_to_come RB.contents result ≡ RB.contents ring }
+        ensures runs { UnpacksInOrder RB.contents RB.limit RB.slot_changes }
     {
         RingBufferIntoIterator {
             ring,

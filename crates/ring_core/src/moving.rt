@@ -1,7 +1,7 @@
 //! Moving the items of one ring into another.
 
 ghost use Rattle.std.specs.Prelude.{◌≡◌, [], ◌++◌, IfErr, IsOk, IsSome, OnOk, length};
-ghost use Rattle.ring_core.specs.Contents.{ChangesSlots, keep_last};
+ghost use Rattle.ring_core.specs.Contents.{Counts, keep_last};
 ghost use Rattle.ring_core.specs.Extension.{MovesPart};
 
 use crate::ring::RingBuffer;
@@ -25,12 +25,8 @@ pub fn move_all<T: Drop, A: RingBuffer<T>, B: RingBuffer<T>>(
     ensures succeeds { IsSome (A.limit to.old) → IsOk result }
     ensures limit_to { A.limit to.new ≡ A.limit to.old }
     ensures limit_from { B.limit from.new ≡ B.limit from.old }
-    ensures changes_to { IsSome (A.limit to.old)
-        → ChangesSlots (A.slot_changes to.old) (A.contents to.old) (A.slot_changes to.new)
-        (A.contents to.new) (length (B.contents from.old)) }
-    ensures changes_from { IsSome (B.limit from.old)
-        → ChangesSlots (B.slot_changes from.old) (B.contents from.old) (B.slot_changes from.new)
-        (B.contents from.new) 0 }
+    ensures changes_to { Counts A.limit A.contents A.slot_changes to.old to.new (length (B.contents from.old)) }
+    ensures changes_from { Counts B.limit B.contents B.slot_changes from.old from.new 0 }
 {
     // Brings in that the contents of `to` are within its limit.
     let _ = to.len();

@@ -5,7 +5,7 @@ ghost use Rattle.std.specs.Borrow.{LendsIf, sem};
 ghost use Rattle.std.specs.Iterator.{IsFiniteIterable};
 ghost use Rattle.std.specs.List.{AllZip, FoldsTo, list_any};
 ghost use Rattle.std.specs.Option.{option_copied, option_copied_mut};
-ghost use Rattle.ring_core.specs.Contents.{ChangesSlots, IsWithin, keep_last, overwritten, place, signed_place};
+ghost use Rattle.ring_core.specs.Contents.{Counts, IsWithin, keep_last, overwritten, place, signed_place};
 ghost use Rattle.ring_core.specs.Extension.{Extends};
 
 use std::alloc::{AllocError, Global};
@@ -46,7 +46,9 @@ pub trait RingBuffer<T: Drop>: Sized {
     /// Whether the ring holds as many items as `capacity` says. The next push onto a full ring takes out the oldest item
     /// if the ring has a limit, and asks for memory if it has none.
     fn is_full(&self) -> bool
-        ensures { IfSome (limit self.now) (λ n. IsTrue result ↔ (length (contents self.now) ≡ n)) }
+        ensures value { IfSome (limit self.now)
+            (λ n. IsTrue result ↔ (length (contents self.now) ≡ n)) }
+        ensures within { IsWithin (contents self.now) (limit self.now) }
     {
         self.len() == self.capacity()
     }
@@ -75,9 +77,8 @@ pub trait RingBuffer<T: Drop>: Sized {
             → contents self.new ≡ keep_last (limit self.old) (contents self.old ++ item ∷ []) }
         ensures err { IfErr result (λ x. (x ≡ item) × (contents self.new ≡ contents self.old)) }
         ensures limit { limit self.new ≡ limit self.old }
-        ensures changes { IsSome (limit self.old)
-            → ChangesSlots (slot_changes self.old) (contents self.old) (slot_changes self.new)
-            (contents self.new) 1 }
+        ensures changes { Counts limit contents slot_changes self.old self.new 1 }
+        ensures within { IsWithin (contents self.new) (limit self.new) }
         ensures succeeds { IsSome (limit self.old) → IsOk result };
 
     /// Another name for `push`.
@@ -92,9 +93,8 @@ pub trait RingBuffer<T: Drop>: Sized {
             → contents self.new ≡ keep_last (limit self.old) (contents self.old ++ item ∷ []) }
         ensures err { IfErr result (λ x. (x ≡ item) × (contents self.new ≡ contents self.old)) }
         ensures limit { limit self.new ≡ limit self.old }
-        ensures changes { IsSome (limit self.old)
-            → ChangesSlots (slot_changes self.old) (contents self.old) (slot_changes self.new)
-            (contents self.new) 1 }
+        ensures changes { Counts limit contents slot_changes self.old self.new 1 }
+        ensures within { IsWithin (contents self.new) (limit self.new) }
         ensures succeeds { IsSome (limit self.old) → IsOk result }
     {
         self.push(item)
@@ -122,17 +122,13 @@ pub trait RingBuffer<T: Drop>: Sized {
         ensures value { result ≡ slice_get (contents self.old) 0 }
         ensures rest { contents self.new ≡ drop 1 (contents self.old) }
         ensures limit { limit self.new ≡ limit self.old }
-        ensures changes { IsSome (limit self.old)
-            → ChangesSlots (slot_changes self.old) (contents self.old) (slot_changes self.new)
-            (contents self.new) 0 };
+        ensures changes { Counts limit contents slot_changes self.old self.new 0 };
 
     /// Drops the oldest item. Does nothing to an empty ring.
     fn skip(&mut self)
         ensures rest { contents self.new ≡ drop 1 (contents self.old) }
         ensures limit { limit self.new ≡ limit self.old }
-        ensures changes { IsSome (limit self.old)
-            → ChangesSlots (slot_changes self.old) (contents self.old) (slot_changes self.new)
-            (contents self.new) 0 }
+        ensures changes { Counts limit contents slot_changes self.old self.new 0 }
     {
         let _ = self.dequeue();
     }
@@ -141,9 +137,7 @@ pub trait RingBuffer<T: Drop>: Sized {
     fn clear(&mut self)
         ensures empty { contents self.new ≡ [] }
         ensures limit { limit self.new ≡ limit self.old }
-        ensures changes { IsSome (limit self.old)
-            → ChangesSlots (slot_changes self.old) (contents self.old) (slot_changes self.new)
-            (contents self.new) 0 };
+        ensures changes { Counts limit contents slot_changes self.old self.new 0 };
 
     /// Drops all items, and then pushes as many results of `make` as `capacity` said before. An item counts as held
     /// only after it is stored.
@@ -156,9 +150,7 @@ pub trait RingBuffer<T: Drop>: Sized {
         ensures made { (last : F) × FoldsTo F.step make (contents self.new) last }
         ensures full { IfSome (limit self.old) (λ n. length (contents self.new) ≡ n) }
         ensures limit { limit self.new ≡ limit self.old }
-        ensures changes { IsSome (limit self.old)
-            → ChangesSlots (slot_changes self.old) (contents self.old) (slot_changes self.new)
-            (contents self.new) (length (contents self.new)) }
+        ensures changes { Counts limit contents slot_changes self.old self.new (length (contents self.new)) }
         ensures succeeds { IsSome (limit self.old) → IsOk result };
 
     /// Fills the ring with default values, as `fill_with` does.
@@ -172,9 +164,7 @@ pub trait RingBuffer<T: Drop>: Sized {
         ensures items { All T.is_default (contents self.new) }
         ensures full { IfSome (limit self.old) (λ n. length (contents self.new) ≡ n) }
         ensures limit { limit self.new ≡ limit self.old }
-        ensures changes { IsSome (limit self.old)
-            → ChangesSlots (slot_changes self.old) (contents self.old) (slot_changes self.new)
-            (contents self.new) (length (contents self.new)) }
+        ensures changes { Counts limit contents slot_changes self.old self.new (length (contents self.new)) }
         ensures succeeds { IsSome (limit self.old) → IsOk result }
     {
         self.fill_with(|| T::default())
@@ -192,10 +182,9 @@ pub trait RingBuffer<T: Drop>: Sized {
         ensures full { OnOk result (IfSome (limit self.old) (λ n. length (contents self.new) ≡ n)) }
         ensures short { OnErr result
             (IfSome (limit self.old) (λ n. length (contents self.new) < n)) }
+        ensures succeeds { IsSome (limit self.old) → T.is_infallible value → IsOk result }
         ensures limit { limit self.new ≡ limit self.old }
-        ensures changes { IsSome (limit self.old)
-            → ChangesSlots (slot_changes self.old) (contents self.old) (slot_changes self.new)
-            (contents self.new) (length (contents self.new)) }
+        ensures changes { Counts limit contents slot_changes self.old self.new (length (contents self.new)) }
     {
         self.clear();
         for _ in 0..self.capacity() {

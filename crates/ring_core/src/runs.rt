@@ -1,7 +1,7 @@
 //! Commands for a ring as values, and runs of them on any lawful ring.
 
 ghost use Rattle.std.specs.Prelude.{◌≡◌, [], ◌∷◌, ◌++◌, ◌+◌, ◌*◌, ◌<◌, ◌≤◌, IfErr, IfOk, IsOk, IsSome, OnOk, None, Some, length, map, replicate, slice_set, take, vec_capacity, vec_len};
-ghost use Rattle.ring_core.specs.Contents.{ChangesSlots};
+ghost use Rattle.ring_core.specs.Contents.{Counts};
 ghost use Rattle.ring_core.specs.History.{ChangesFewSlots, KeepsToNumbers, MeaningsAgree, RunsJoinByNumber, all_items, contents_after, pushed, replies_of, steps};
 ghost use Rattle.ring_core.specs.Meaning.{IfNoRoom, IfStopped, IsRefused, RunsJoin, StopsAt, after_all, after_one, places, puts, replies_to, reply_to};
 
@@ -83,9 +83,7 @@ pub fn apply<T: Drop, R: RingBuffer<T>>(
         (λ reply. reply ≡ reply_to (R.limit ring.old) (R.contents ring.old) command) }
     ensures refused { IfErr result (IsRefused command (R.contents ring.old) (R.contents ring.new)) }
     ensures limit { R.limit ring.new ≡ R.limit ring.old }
-    ensures changes { IsSome (R.limit ring.old)
-        → ChangesSlots (R.slot_changes ring.old) (R.contents ring.old) (R.slot_changes ring.new)
-        (R.contents ring.new) (length (puts command)) }
+    ensures changes { Counts R.limit R.contents R.slot_changes ring.old ring.new (length (puts command)) }
     ensures succeeds { IsSome (R.limit ring.old) → IsOk result }
 {
     match command {
@@ -154,9 +152,7 @@ pub fn run_into<T: Drop, R: RingBuffer<T>>(
         ≡ map Some (replies_of (R.limit ring.old) (R.contents ring.old) commands.items)) }
     ensures numbers { KeepsToNumbers (R.limit ring.old) (R.contents ring.old)
         (steps commands.items) }
-    ensures changes { IsSome (R.limit ring.old)
-        → ChangesSlots (R.slot_changes ring.old) (R.contents ring.old) (R.slot_changes ring.new)
-        (R.contents ring.new) (length (pushed (steps commands.items))) }
+    ensures changes { Counts R.limit R.contents R.slot_changes ring.old ring.new (length (pushed (steps commands.items))) }
     ensures few_changes { IsSome (R.limit ring.old)
         → ChangesFewSlots (R.limit ring.old) (R.contents ring.old) (steps commands.items)
         (R.slot_changes ring.old) (R.slot_changes ring.new) }
@@ -223,9 +219,7 @@ pub fn run<T: Drop, R: RingBuffer<T>>(
         (λ r. r.items ≡ replies_of (R.limit ring.old) (R.contents ring.old) commands.items) }
     ensures numbers { KeepsToNumbers (R.limit ring.old) (R.contents ring.old)
         (steps commands.items) }
-    ensures changes { IsSome (R.limit ring.old)
-        → ChangesSlots (R.slot_changes ring.old) (R.contents ring.old) (R.slot_changes ring.new)
-        (R.contents ring.new) (length (pushed (steps commands.items))) }
+    ensures changes { Counts R.limit R.contents R.slot_changes ring.old ring.new (length (pushed (steps commands.items))) }
     ensures few_changes { IsSome (R.limit ring.old)
         → ChangesFewSlots (R.limit ring.old) (R.contents ring.old) (steps commands.items)
         (R.slot_changes ring.old) (R.slot_changes ring.new) }

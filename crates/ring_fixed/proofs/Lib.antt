@@ -1,4 +1,3 @@
-pub mod Cycles
 pub mod EmptiedRuns
 pub mod LaysOut
 pub mod LentItem
@@ -9,5 +8,4 @@ pub mod SlotsHold
 pub mod SomesTaken
 pub mod Sources
 pub mod Straight
-pub mod Turned
 mod Words

@@ -9,15 +9,15 @@ pub use Rattle.ring_fixed.specs.Somes.{somes}
 pub use Rattle.ring_fixed.specs.Sources.{Gives}
 pub use Rattle.ring_fixed.specs.View.{View, after_clear, after_extend, after_extend_from_slice, after_keep_newest, after_pop, after_push, after_put, after_puts, after_rewrite, after_take, after_takes, after_truncate, after_write}
 pub use Rattle.ring_fixed.specs.fixed.Sound.{IsSound, view_of}
-pub use Rattle.ring_fixed.specs.slices.Straight.{beside, changed_by, straight_start, straightened}
+pub use Rattle.ring_fixed.specs.slices.Straight.{beside, straight_start, straightened, turned}
 pub use Rattle.ring_slots.specs.Slots.{HoldsRun, IsEmptyAt, IsFullAt, IsFullRun, Slots, changed, refilled, slot_at}
 pub use Rattle.std.proofs.Common.{All, Bool, Bor, IfSome, List, MatchOption, None, Option, Some, [], add-one, ap, append-nil, append_assoc, arith, drop, ext_get_or, false, get_or, get_or-set_other, get_or-set_same, if◌then◌else◌, inl, inr, length, length-append, length-drop, length-set, length-take, length-take-le, map, nat_eq, of_calls, refl, rules, replicate, subst, suc, sym, take, take-append-drop, true, zero, ℕ, ◌%◌, ◌&&◌, ◌*◌, ◌++◌, ◌+◌, ◌-◌, ◌/◌, ◌<◌, ◌^◌, ◌∙◌, ◌∷◌, ◌≡◌, ◌≢◌, ◌≤◌, ◌⊎◌}
 pub use Rattle.std.proofs.Math.Decide.{dec_lt, ℕ_discrete}
 pub use Rattle.std.proofs.Math.ListN.{set}
 pub use Rattle.std.proofs.Math.Nat.{add-mod-mod, add-mod_right, add-mul, add-mul-div_right, add-mul-mod_self_right, div-eq_of_lt, div-lt_iff_lt-mul, le-mul_of_pos_right, mod-add-mod, mod-eq-sub-mod, mod-eq_of_lt, mod-lt, mod-one, mod_self, mul-add, mul-add-div_right, mul-add-mod_self_right, mul-div_cancel, mul_assoc, mul_comm, pow-succ'}
-pub use Rattle.std.proofs.Math.Seq.{drop-length, take-append-add, take-suc}
+pub use Rattle.std.proofs.Math.Seq.{drop-append_seam, drop-cons, drop-length, take-append-add, take-suc}
 pub use Rattle.std.proofs.lemmas.Grind.{common_steps}
-pub use Rattle.std.proofs.lemmas.List.{drop-append-le, drop-drop, drop-map, drop-set-lt, drop_min, get_or-append_right, get_or-drop, get_or-replicate, get_or-take, get_or_append_left, get_or_past, length-map, length-replicate, map-append, nil_from_length, take-map, take_all}
+pub use Rattle.std.proofs.lemmas.List.{drop-append-le, drop-drop, drop-map, drop-set-lt, drop_min, get_or-append_right, get_or-drop, get_or-replicate, get_or-take, get_or_append_left, get_or_past, length-map, length-replicate, map-append, nil_from_length, take-map, take_all, take_at}
 pub use Rattle.std.proofs.lemmas.List.Elements.{AllZip-push, all_zip_more, filter_map-append}
 pub use Rattle.std.proofs.lemmas.Option.{slice_get_cases, slice_get_past}
 pub use Rattle.std.specs.Cmp.Lexicographic.{pointwise}

@@ -62,9 +62,9 @@ module _ {X : Type 0} where
   abbrev pub after_fill : View X → List X → View X
   after_fill v xs = record v { items = xs; changes = v.changes + length v.items + length xs }
 
-  -- all items lent for writing, which counts as three changes of each
+  -- all items lent for writing, which counts as four changes of each
   abbrev pub after_rewrite : View X → List X → View X
-  after_rewrite v xs = record v { items = refill (length v.items) v.items xs; changes = v.changes + 3 * length v.items }
+  after_rewrite v xs = record v { items = refill (length v.items) v.items xs; changes = v.changes + 4 * length v.items }
 
   -- the item at an index written
   abbrev pub after_write : View X → ℕ → X → View X

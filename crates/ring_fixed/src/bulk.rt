@@ -108,7 +108,8 @@ impl<T: Drop, S: RingSlots<T>> Fixed<T, S> {
         requires sound { IsSound S.seen S.is_size self.old }
         requires room { capacity ≤ (view_of S.seen self.old).capacity }
         ensures { (xs : List T) × All (T.is_clone value) xs
-            × MatchResult result (λ _. length xs ≡ capacity) (λ _. length xs < capacity)
+            × MatchResult result (λ _. length xs ≡ capacity)
+            (λ _. (length xs < capacity) × ¬ (T.is_infallible value))
             × ChangesTo S.seen S.is_size self.old self.new
             (after_fill (view_of S.seen self.old) xs) }
     {
@@ -417,7 +418,8 @@ impl<T: Drop, S: RingSlots<T>> Fixed<T, S> {
         requires sound { IsSound S.seen S.is_size self }
         requires room { given.1 ≤ (view_of S.seen self).capacity }
         ensures { (xs : List T) × All (T.is_clone given.0) xs
-            × MatchResult result.1 (λ _. length xs ≡ given.1) (λ _. length xs < given.1)
+            × MatchResult result.1 (λ _. length xs ≡ given.1)
+            (λ _. (length xs < given.1) × ¬ (T.is_infallible given.0))
             × ChangesTo S.seen S.is_size self result.0 (after_fill (view_of S.seen self) xs) }
     {
         let (value, capacity) = given;

@@ -1,12 +1,10 @@
 //! What the two rings of a fixed capacity share: items that lie in slots, counted round from a start.
-ghost use Rattle.std.specs.Prelude.{◌≡◌, ◌+◌, ◌-◌, ◌%◌, ◌<◌, ◌≤◌, ◌↔◌, List, [], length, IfSome, IsNone, None, Some, replicate, slice_get};
-ghost use Rattle.std.specs.Borrow.{Lends, LendsIf, sem};
-ghost use Rattle.std.specs.Option.{option_copied, option_copied_mut};
-ghost use Rattle.ring_core.specs.Contents.{overwritten, place, signed_place};
+ghost use Rattle.std.specs.Prelude.{◌≡◌, ◌+◌, ◌-◌, ◌%◌, ◌<◌, ◌≤◌, List, [], length, None, Some, replicate, slice_get};
+ghost use Rattle.std.specs.Borrow.{Lends, sem};
+ghost use Rattle.ring_core.specs.Contents.{overwritten};
 ghost use Rattle.ring_fixed.specs.View.{after_put, after_take, after_pop, after_push};
 ghost use Rattle.ring_fixed.specs.Layout.{IsLaidOut, LaysOut, view_from};
 
-use crate::position::{position, signed_position};
 use ring_slots::RingSlots;
 use std::marker::PhantomData;
 
@@ -136,85 +134,21 @@ impl<T: Drop, S: RingSlots<T>> Fixed<T, S> {
         Some(item)
     }
 
-    /// The item at a position, or `None` if there is no item.
+    /// The item at an index below the length.
     #[inline]
-    pub fn get(&self, index: usize) -> Option<&T>
-        requires { IsSound S.seen S.is_size self.now }
-        ensures { option_copied result
-            ≡ slice_get (view_of S.seen self.now).items
-            (place (length (view_of S.seen self.now).items) index) }
-    {
-        let index = position(index, self.len)?;
-        Some(self.at(index))
-    }
-
-    /// The same for a position that may be negative.
-    #[inline]
-    pub fn get_signed(&self, index: isize) -> Option<&T>
-        requires { IsSound S.seen S.is_size self.now }
-        ensures { option_copied result
-            ≡ slice_get (view_of S.seen self.now).items
-            (signed_place (length (view_of S.seen self.now).items) index) }
-    {
-        let index = signed_position(index, self.len)?;
-        Some(self.at(index))
-    }
-
-    // The item at an index below the length.
-    #[inline]
-    fn at(&self, index: usize) -> &T
+    pub fn at(&self, index: usize) -> &T
         requires sound { IsSound S.seen S.is_size self.now }
-        requires within { index < self.now.len }
+        requires within { index < length (view_of S.seen self.now).items }
         ensures { slice_get (view_of S.seen self.now).items index ≡ Some result.now }
     {
         self.slots.get(self.slots.place(self.start, index))
     }
 
-    /// The item that `get` returns, for writing.
+    /// The item at an index below the length, for writing.
     #[inline]
-    pub fn get_mut(&mut self, index: usize) -> Option<&mut T>
-        requires { IsSound S.seen S.is_size self.old }
-        ensures* writes_back { sem 𝓛
-            (LendsIf (the_row T.row S.row) T.row self.entry result
-            (with_item S.seen S.with_slot self.old
-            (place (length (view_of S.seen self.old).items) index)) self.old) }
-        ensures value { option_copied_mut result
-            ≡ slice_get (view_of S.seen self.old).items
-            (place (length (view_of S.seen self.old).items) index) }
-        ensures within { IfSome result
-            (λ _. place (length (view_of S.seen self.old).items) index
-            < length (view_of S.seen self.old).items) }
-        ensures none { IsNone result ↔ ((view_of S.seen self.old).items ≡ []) }
-    {
-        let index = position(index, self.len)?;
-        Some(self.at_mut(index))
-    }
-
-    /// The item that `get_signed` returns, for writing.
-    #[inline]
-    pub fn get_mut_signed(&mut self, index: isize) -> Option<&mut T>
-        requires { IsSound S.seen S.is_size self.old }
-        ensures* writes_back { sem 𝓛
-            (LendsIf (the_row T.row S.row) T.row self.entry result
-            (with_item S.seen S.with_slot self.old
-            (signed_place (length (view_of S.seen self.old).items) index)) self.old) }
-        ensures value { option_copied_mut result
-            ≡ slice_get (view_of S.seen self.old).items
-            (signed_place (length (view_of S.seen self.old).items) index) }
-        ensures within { IfSome result
-            (λ _. signed_place (length (view_of S.seen self.old).items) index
-            < length (view_of S.seen self.old).items) }
-        ensures none { IsNone result ↔ ((view_of S.seen self.old).items ≡ []) }
-    {
-        let index = signed_position(index, self.len)?;
-        Some(self.at_mut(index))
-    }
-
-    // The item at an index below the length, for writing.
-    #[inline]
-    fn at_mut(&mut self, index: usize) -> &mut T
+    pub fn at_mut(&mut self, index: usize) -> &mut T
         requires sound { IsSound S.seen S.is_size self.old }
-        requires within { index < self.old.len }
+        requires within { index < length (view_of S.seen self.old).items }
         ensures* writes_back { sem 𝓛
             (Lends (the_row T.row S.row) T.row self.entry result
             (with_item S.seen S.with_slot self.old index)) }

@@ -1,9 +1,9 @@
 //! What the ring types share: comparing two rings, and pushing clones.
 
-ghost use Rattle.std.specs.Prelude.{◌≡◌, [], ◌∷◌, ◌++◌, IsOk, IsSome, List, OnOk, length, map};
+ghost use Rattle.std.specs.Prelude.{◌≡◌, [], ◌∷◌, ◌++◌, IsOk, IsSome, List, OnErr, OnOk, Some, length, map};
 ghost use Rattle.std.specs.Cmp.Lexicographic.{pointwise};
 ghost use Rattle.std.specs.Borrow.{Bor};
-ghost use Rattle.std.specs.Iterator.{Drains, IsFinite};
+ghost use Rattle.std.specs.Iterator.{Drains, IsFinite, YieldsThen};
 ghost use Rattle.std.specs.List.{AllZip};
 ghost use Rattle.ring_core.specs.Contents.{keep_last};
 ghost use Rattle.ring_fixed.specs.Somes.{somes};
@@ -46,10 +46,16 @@ pub fn extend_cloned<'a, T: Clone + Drop + 'a, I: Iterator<Item = &'a T>, R: Rin
         × AllZip T.is_clone (map (λ x. x.now) xs) ys
         × (R.contents ring.new ≡ keep_last (R.limit ring.old) (R.contents ring.old ++ ys))) }
     ensures limit { R.limit ring.new ≡ R.limit ring.old }
+    ensures refused { IsSome (R.limit ring.old)
+        → OnErr result ((xs : List (Bor T)) × (x : Bor T) × (after : I)
+        × YieldsThen I.next_gives items xs (Some x) after × ¬ (T.is_infallible x.now)) }
 {
     let _held = ring.len();
     for item in items {
-        push_item(ring, item.clone()?)?;
+        let Ok(clone) = item.clone() else {
+            return Err(AllocError);
+        };
+        push_item(ring, clone)?;
     }
     Ok(())
 }
@@ -68,6 +74,7 @@ pub fn extend_somes<T: Drop, R: RingBuffer<T>, const N: usize>(
     ensures limit { R.limit ring.new ≡ R.limit ring.old }
     ensures places { length items ≡ N }
     ensures succeeds { IsSome (R.limit ring.old) → IsOk result }
+    ensures nothing { N ≡ 0 → IsOk result }
 {
     let _held = ring.len();
     let mut items = items;

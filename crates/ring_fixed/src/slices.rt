@@ -4,8 +4,6 @@ ghost use Rattle.std.specs.Borrow.{sem};
 ghost use Rattle.std.specs.Cmp.Lexicographic.{pointwise};
 ghost use Rattle.std.specs.Int.{IsPowerOfTwo};
 ghost use Rattle.std.specs.List.{AllZip};
-ghost use Rattle.ring_slots.specs.Slots.{slot_at, IsEmptyAt, IsFullAt};
-ghost use Rattle.ring_fixed.specs.Layout.{IsLaidOut, items_from};
 
 use crate::fixed::Fixed;
 use ring_slots::{HeapSlots, RingSlots};
@@ -14,7 +12,7 @@ use std::vec::{Vec, VecCloneMethods};
 
 impl<T: Drop> Fixed<T, HeapSlots<T>> {
     ghost use Rattle.ring_fixed.specs.fixed.Sound.{view_of, IsSound};
-    ghost use Rattle.ring_fixed.specs.slices.Straight.{beside, changed_by, lends_items, straight_start};
+    ghost use Rattle.ring_fixed.specs.slices.Straight.{beside, lends_items, straight_start, turned};
 
     /// The items in two slices: those up to the last slot, and those that go on at the first.
     #[inline]
@@ -30,14 +28,14 @@ impl<T: Drop> Fixed<T, HeapSlots<T>> {
         )
     }
 
-    /// The items in one slice, for writing. It counts as three changes an item, two of which may move it to its place.
+    /// The items in one slice, for writing. It counts as four changes an item, of which at most three put it in its place.
     pub fn make_contiguous(&mut self) -> &mut [T]
         requires { IsSound (λ s. s) IsPowerOfTwo self.old }
         ensures* writes_back { sem 𝓛 (lends_items T.row self.entry result) }
         ensures value { result.now ≡ (view_of (λ s. s) self.old).items }
     {
         let len = self.len;
-        let changes = self.slots.changes().after(len).after(len).after(len);
+        let changes = self.slots.changes().after(len).after(len).after(len).after(len);
         self.straighten();
         let start = self.start;
         self.slots.run_mut(start, len, changes)
@@ -50,62 +48,36 @@ impl<T: Drop> Fixed<T, HeapSlots<T>> {
         ensures len { self.new.len ≡ self.old.len }
         ensures straight { self.new.slots.slots ≡ beside (length self.old.slots.slots)
             self.new.start (view_of (λ s. s) self.old).items }
-        ensures counted { self.new.slots.changes
-            ≤ self.old.slots.changes + 2 * self.old.len }
+        ensures counted { self.new.slots.changes ≤ self.old.slots.changes + 3 * self.old.len }
     {
+        let moved = self.gather();
         let (start, len) = (self.start, self.len);
-        if self.slots.size() - start < len {
-            Self::turn(&mut self.slots, start, len);
-            self.start = 0;
-        }
+        let changes = self.slots.changes().after(len);
+        self.slots.run_mut(start, len, changes).rotate_right(moved);
     }
 
-    // Moves each item to the place of its number, by one move: an item leaves its slot to that which belongs there, until
-    // the cycle is back where it began. There are as many cycles as the greatest power of two says that divides the start.
-    fn turn(slots: &mut HeapSlots<T>, start: usize, len: usize)
-        requires laid_out { IsLaidOut IsPowerOfTwo slots.old start }
-        requires len { len ≡ length (items_from slots.old.slots start) }
-        requires some { 0 < start }
-        ensures straight { slots.new.slots ≡ beside (length slots.old.slots) 0
-            (items_from slots.old.slots start) }
-        ensures counted { slots.new.changes ≤ slots.old.changes + 2 * len }
+    // Moves items from the front behind the last until all lie side by side. Returns how many it moved.
+    fn gather(&mut self) -> usize
+        requires { IsSound (λ s. s) IsPowerOfTwo self.old }
+        ensures start { self.new.start ≡ straight_start self.old }
+        ensures len { self.new.len ≡ self.old.len }
+        ensures moved { result ≤ self.old.len }
+        ensures straight { self.new.slots.slots ≡ beside (length self.old.slots.slots)
+            self.new.start (turned result (view_of (λ s. s) self.old).items) }
+        ensures counted { self.new.slots.changes ≡ self.old.slots.changes + 2 * result }
     {
-        let (size, zeros) = (slots.size(), start.trailing_zeros());
-        let cycles = 1 << zeros;
-        let places = size >> zeros;
-        for first in 0..cycles {
-            let full = slots.place(first, size - start) < len;
-            let held = Self::take_out(slots, first, full);
-            let mut place = first;
-            for _ in 1..places {
-                let next = slots.place(start, place);
-                let item = Self::take_out(slots, next, place < len);
-                Self::put_in(slots, place, item);
-                place = next;
-            }
-            Self::put_in(slots, place, held);
+        let (mut start, len) = (self.start, self.len);
+        let first = self.slots.size() - start;
+        if len <= first {
+            return 0;
         }
-    }
-
-    // Takes what a slot holds, given whether it holds an item.
-    #[inline]
-    fn take_out(slots: &mut HeapSlots<T>, place: usize, full: bool) -> Option<T>
-        requires { IsTrue full ↔ IsFullAt slots.old place }
-        ensures value { result ≡ slot_at slots.old place }
-        ensures after { slots.new ≡ changed_by slots.old place None result }
-    {
-        if full { Some(slots.take(place)) } else { None }
-    }
-
-    // Puts what a slot held into an empty one.
-    #[inline]
-    fn put_in(slots: &mut HeapSlots<T>, place: usize, held: Option<T>)
-        requires { IsEmptyAt slots.old place }
-        ensures { slots.new ≡ changed_by slots.old place held held }
-    {
-        if let Some(item) = held {
-            slots.put(place, item);
+        for _ in 0..first {
+            let (next, item) = Self::take_from(&mut self.slots, start);
+            Self::put_after(&mut self.slots, next, len - 1, item);
+            start = next;
         }
+        self.start = start;
+        first
     }
 }
 

@@ -1,5 +1,5 @@
 -- What rings hold that were made of other collections.
-use Rattle.ringbuffer.proofs.Words.{◌≡◌, ℕ, suc, ◌-◌, ◌≤◌, All, Bor, IfOk, IsOk, IsSome, IsUtf8, OnOk, Result, Ok, Err, is_ok, true, chars, List, [], ◌∷◌, ◌++◌, length, map, Option, None, Some, refl, sym, ap, ◌∙◌, arith, Drains, AllZip, YieldsList, IfOk-weaker, keep_last, shown_drained, View, ClonesMeet}
+use Rattle.ringbuffer.proofs.Words.{◌≡◌, ℕ, suc, ◌-◌, ◌≤◌, All, Bor, IfOk, IsOk, IsSome, IsUtf8, OnOk, Result, Ok, Err, is_ok, true, chars, List, [], ◌∷◌, ◌++◌, length, map, Option, None, Some, refl, sym, ap, ◌∙◌, arith, Drains, AllZip, YieldsList, YieldsList-turn, YieldsThen, IfOk-weaker, keep_last, shown_drained, View, ClonesMeet}
 use Rattle.std.proofs.lemmas.List.{map-id}
 use Rattle.std.proofs.lemmas.List.Elements.{All-head, All-tail}
 use Rattle.std.proofs.lemmas.Str.{encodes-chars, length-le-encodes}
@@ -35,6 +35,12 @@ module _ {S A : Type 0} {steps : S → Option A → S → Type 0} {gives : S →
 pub ClonesMeet-drained : {S A : Type 0} {steps : S → Option (Bor A) → S → Type 0} {s : S} {R : A → A → Type 0} {P : List A → Type 0} {all : List A}
     → (xs : List (Bor A)) × (ys : List A) × Drains steps s xs × AllZip R (map (λ x. x.now) xs) ys × P ys → YieldsList steps (λ x. x.now) s all → ClonesMeet R all P
 ClonesMeet-drained {all = all} (xs, ys, drained, clones, kept) yields = (ys, rw (shown_drained (λ x. x.now) xs all drained yields) at clones, kept)
+
+-- a source that shows no item has none to be refused
+pub refuses_none : {S A B : Type 0} {steps : S → Option A → S → Type 0} {v : A → B} {s : S} {P : A → Type 0} {all : List B}
+    → (xs : List A) × (x : A) × (after : S) × YieldsThen steps s xs (Some x) after × P x → YieldsList steps v s all → all ≡ [] → ⊥
+refuses_none (xs, x, after, (t, given, more), is) yields none =
+    let before = (YieldsList-turn yields xs t given (Some x) after x refl more).0 in omega (arith, ap length none)
 
 -- a text has no more characters than bytes
 pub length-chars_le : (bs : List ℕ) → IsUtf8 bs → length (chars bs) ≤ length bs

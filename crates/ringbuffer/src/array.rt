@@ -5,8 +5,8 @@ ghost use Rattle.std.specs.Cmp.{on_per};
 ghost use Rattle.std.specs.Cmp.Lexicographic.{lists_per, pointwise};
 ghost use Rattle.std.specs.List.{AllZip};
 ghost use Rattle.std.proofs.lemmas.Cmp.{lists_equiv, on_equiv};
-ghost use Rattle.ring_core.specs.Contents.{ChangesSlots, keep_last, overwritten, place};
-ghost use Rattle.ring_core.specs.Walk.{ReadsInOrder, ReadsInReverse, StartsOver, into_iter_to_come, iterator_to_come};
+ghost use Rattle.ring_core.specs.Contents.{ChangesSlots, IsWithin, keep_last, overwritten, place};
+ghost use Rattle.ring_core.specs.Walk.{DrainsInOrder, ReadsInOrder, ReadsInReverse, StartsOver, UnpacksInOrder, into_iter_to_come, iterator_to_come};
 ghost use Rattle.ring_fixed.specs.View.{after_keep_newest, after_pop, after_push, after_truncate, after_write};
 
 mod convert;
@@ -16,6 +16,7 @@ use ring_core::{
     RingBufferMutIterator,
 };
 use ring_fixed::fixed::Fixed;
+use ring_fixed::position::{position, signed_position};
 use ring_fixed::shared::{extend_cloned, same_items};
 use ring_slots::{ArraySlots, RingSlots};
 use std::alloc::AllocError;
@@ -112,6 +113,7 @@ impl<T: Drop, const CAP: usize> RingBuffer<T> for ConstGenericRingBuffer<T, CAP>
         ensures err { IfErr result (λ x. (x ≡ item) × (self.new.items ≡ self.old.items)) }
         ensures changes { IsSome (Some CAP)
             → ChangesSlots self.old.changes self.old.items self.new.changes self.new.items 1 }
+        ensures within { IsWithin self.new.items (Some CAP) }
         ensures succeeds { IsSome (Some CAP) → IsOk result }
         ensures pushes { self.new ≡ after_push CAP self.old item }
 
@@ -153,28 +155,43 @@ impl<T: Drop, const CAP: usize> RingBuffer<T> for ConstGenericRingBuffer<T, CAP>
 
     #[inline]
     fn get(&self, index: usize) -> Option<&T> {
-        self.ring.get(index)
+        let index = position(index, self.ring.len())?;
+        Some(self.ring.at(index))
     }
 
     #[inline]
     fn get_signed(&self, index: isize) -> Option<&T> {
-        self.ring.get_signed(index)
+        let index = signed_position(index, self.ring.len())?;
+        Some(self.ring.at(index))
     }
 
     #[inline]
     fn get_mut(&mut self, index: usize) -> Option<&mut T> {
-        let item = self.ring.get_mut(index)?;
-        Some(item)
+        let index = position(index, self.ring.len())?;
+        Some(self.at_mut(index))
     }
 
     #[inline]
     fn get_mut_signed(&mut self, index: isize) -> Option<&mut T> {
-        let item = self.ring.get_mut_signed(index)?;
-        Some(item)
+        let index = signed_position(index, self.ring.len())?;
+        Some(self.at_mut(index))
     }
 }
 
 impl<T: Drop, const CAP: usize> ConstGenericRingBuffer<T, CAP> {
+    ghost use Rattle.ringbuffer.specs.contracts.array.ConstGenericRingBuffer.{the_row};
+
+    // The item at an index below the length, for writing.
+    #[inline]
+    fn at_mut(&mut self, index: usize) -> &mut T
+        requires { index < length self.old.items }
+        ensures* writes_back { sem 𝓛
+            (Lends (the_row T.row CAP.row) T.row self.entry result (after_write self.old index)) }
+        ensures value { slice_get self.old.items index ≡ Some result.now }
+    {
+        self.ring.at_mut(index)
+    }
+
     /// Takes out the newest item, if there is one.
     #[inline]
     #[tactic(auto, using(ring_fixed::proofs::RepeatedSteps::last_behind))]
@@ -258,6 +275,9 @@ impl<T: Drop, const CAP: usize> ConstGenericRingBuffer<T, CAP> {
     pub fn drain(&mut self) -> RingBufferDrainingIterator<'_, T, Self>
         ensures same_reference { result.ring.ghost_name ≡ self.entry.ghost_name }
         ensures ring { result.ring.now ≡ self.entry.now }
+        ensures runs { DrainsInOrder ⟦<ConstGenericRingBuffer<T, CAP> as RingBuffer<T>>⟧.contents
+            ⟦<ConstGenericRingBuffer<T, CAP> as RingBuffer<T>>⟧.limit
+            ⟦<ConstGenericRingBuffer<T, CAP> as RingBuffer<T>>⟧.slot_changes }
     {
         RingBufferDrainingIterator::new(self)
     }
@@ -265,8 +285,11 @@ impl<T: Drop, const CAP: usize> ConstGenericRingBuffer<T, CAP> {
     /// A walk that owns the ring, oldest item first.
     #[inline]
     pub fn into_iter(self) -> RingBufferIntoIterator<T, Self>
-        ensures { into_iter_to_come ⟦<ConstGenericRingBuffer<T, CAP> as RingBuffer<T>>⟧.contents
+        ensures left { into_iter_to_come ⟦<ConstGenericRingBuffer<T, CAP> as RingBuffer<T>>⟧.contents
             result ≡ self.items }
+        ensures runs { UnpacksInOrder ⟦<ConstGenericRingBuffer<T, CAP> as RingBuffer<T>>⟧.contents
+            ⟦<ConstGenericRingBuffer<T, CAP> as RingBuffer<T>>⟧.limit
+            ⟦<ConstGenericRingBuffer<T, CAP> as RingBuffer<T>>⟧.slot_changes }
     {
         RingBufferIntoIterator::new(self)
     }
@@ -278,8 +301,11 @@ impl<T: Drop, const CAP: usize> IntoIterator for ConstGenericRingBuffer<T, CAP> 
     type IntoIter = RingBufferIntoIterator<T, ConstGenericRingBuffer<T, CAP>>;
 
     ghost into_iter_gives = { λ ring r.
-        into_iter_to_come ⟦<ConstGenericRingBuffer<T, CAP> as RingBuffer<T>>⟧.contents r
-        ≡ ring.items };
+        (into_iter_to_come ⟦<ConstGenericRingBuffer<T, CAP> as RingBuffer<T>>⟧.contents r
+        ≡ ring.items)
+        × UnpacksInOrder ⟦<ConstGenericRingBuffer<T, CAP> as RingBuffer<T>>⟧.contents
+        ⟦<ConstGenericRingBuffer<T, CAP> as RingBuffer<T>>⟧.limit
+        ⟦<ConstGenericRingBuffer<T, CAP> as RingBuffer<T>>⟧.slot_changes };
 
     #[inline]
     fn into_iter(self) -> RingBufferIntoIterator<T, ConstGenericRingBuffer<T, CAP>> {
@@ -310,7 +336,9 @@ impl<T: Clone + Drop, const CAP: usize> ConstGenericRingBuffer<T, CAP> {
     ///
     /// Where a clone was refused.
     pub fn clone(&self) -> Result<Self, AllocError>
-        ensures { IfOk result (λ ring. AllZip T.is_clone self.now.items ring.items) }
+        ensures items { IfOk result (λ ring. AllZip T.is_clone self.now.items ring.items) }
+        ensures succeeds { ((x : T) → T.is_infallible x) → IsOk result }
+        ensures nothing { self.now.items ≡ [] → IsOk result }
     {
         let _held = self.len();
         let mut ring = Self::new();

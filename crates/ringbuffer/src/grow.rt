@@ -1,13 +1,13 @@
 //! The ring without a limit, over a deque.
 
-ghost use Rattle.std.specs.Prelude.{◌≡◌, ◌↔◌, ◌-◌, ◌%◌, ◌<◌, [], ◌∷◌, ◌++◌, All, IfOk, IsSome, List, MatchResult, None, OnErr, OnOk, Some, drop, length, min, option_to_list, refl, slice_get, slice_set, take};
+ghost use Rattle.std.specs.Prelude.{◌≡◌, ◌↔◌, ◌-◌, ◌%◌, ◌<◌, [], ◌∷◌, ◌++◌, All, IfOk, IsOk, IsSome, List, MatchResult, None, OnErr, OnOk, Some, drop, length, min, option_to_list, refl, slice_get, slice_set, take};
 ghost use Rattle.std.specs.Borrow.{sem};
 ghost use Rattle.std.specs.Cmp.Lexicographic.{lists_per, pointwise};
 ghost use Rattle.std.specs.Iterator.{Drains, IsFinite, YieldsThen};
 ghost use Rattle.std.specs.List.{AllZip};
 ghost use Rattle.std.proofs.lemmas.Cmp.{lists_equiv};
 ghost use Rattle.ring_core.specs.Contents.{keep_last};
-ghost use Rattle.ring_core.specs.Walk.{ReadsInOrder, ReadsInReverse, StartsOver, into_iter_to_come, iterator_to_come};
+ghost use Rattle.ring_core.specs.Walk.{DrainsInOrder, ReadsInOrder, ReadsInReverse, StartsOver, UnpacksInOrder, into_iter_to_come, iterator_to_come};
 
 mod convert;
 
@@ -92,13 +92,6 @@ impl<T: Drop> GrowableAllocRingBuffer<T> {
 }
 
 impl<T: Drop> GrowableAllocRingBuffer<T> {
-    // The deque, with all items.
-    pub(crate) fn into_deque(self) -> VecDeque<T>
-        ensures { result.items ≡ self }
-    {
-        self.deque
-    }
-
     // Takes out all items with their memory.
     fn take_vec(&mut self) -> Vec<T>
         ensures items { result.items ≡ self.old }
@@ -123,6 +116,9 @@ impl<T: Drop> GrowableAllocRingBuffer<T> {
         Ok(())
     }
 }
+
+// An extension by fewer items goes to the deque one at a time.
+const FEW: usize = 16;
 
 // Puts what a source gives behind the items of a vector while there is room. Returns the source, and the item that found
 // none. The vector is a value here and not behind a reference, so that its fields stay in registers.
@@ -197,9 +193,9 @@ impl<T: Drop> RingBuffer<T> for GrowableAllocRingBuffer<T> {
     {
         let items = items.into_iter();
         let least = items.size_hint().0;
-        // A vector takes items in fewer steps, but the old items may have to move for it: it is worth it where as many
-        // new ones come.
-        if least < self.deque.len() {
+        // A vector takes items in fewer steps, but it is made of the deque first, and the old items may have to move for it:
+        // it is worth it where many come, and as many as there are.
+        if least < FEW || least < self.deque.len() {
             return self.push_each(items);
         }
         let mut room = self.take_vec();
@@ -385,6 +381,9 @@ impl<T: Drop> GrowableAllocRingBuffer<T> {
     pub fn drain(&mut self) -> RingBufferDrainingIterator<'_, T, Self>
         ensures same_reference { result.ring.ghost_name ≡ self.entry.ghost_name }
         ensures ring { result.ring.now ≡ self.entry.now }
+        ensures runs { DrainsInOrder ⟦<GrowableAllocRingBuffer<T> as RingBuffer<T>>⟧.contents
+            ⟦<GrowableAllocRingBuffer<T> as RingBuffer<T>>⟧.limit
+            ⟦<GrowableAllocRingBuffer<T> as RingBuffer<T>>⟧.slot_changes }
     {
         RingBufferDrainingIterator::new(self)
     }
@@ -392,8 +391,11 @@ impl<T: Drop> GrowableAllocRingBuffer<T> {
     /// A walk that owns the ring, oldest item first.
     #[inline]
     pub fn into_iter(self) -> RingBufferIntoIterator<T, Self>
-        ensures { into_iter_to_come ⟦<GrowableAllocRingBuffer<T> as RingBuffer<T>>⟧.contents result
+        ensures left { into_iter_to_come ⟦<GrowableAllocRingBuffer<T> as RingBuffer<T>>⟧.contents result
             ≡ self }
+        ensures runs { UnpacksInOrder ⟦<GrowableAllocRingBuffer<T> as RingBuffer<T>>⟧.contents
+            ⟦<GrowableAllocRingBuffer<T> as RingBuffer<T>>⟧.limit
+            ⟦<GrowableAllocRingBuffer<T> as RingBuffer<T>>⟧.slot_changes }
     {
         RingBufferIntoIterator::new(self)
     }
@@ -405,8 +407,11 @@ impl<T: Drop> IntoIterator for GrowableAllocRingBuffer<T> {
     type IntoIter = RingBufferIntoIterator<T, GrowableAllocRingBuffer<T>>;
 
     ghost into_iter_gives = { λ ring r.
-        into_iter_to_come ⟦<GrowableAllocRingBuffer<T> as RingBuffer<T>>⟧.contents r
-        ≡ ring };
+        (into_iter_to_come ⟦<GrowableAllocRingBuffer<T> as RingBuffer<T>>⟧.contents r
+        ≡ ring)
+        × UnpacksInOrder ⟦<GrowableAllocRingBuffer<T> as RingBuffer<T>>⟧.contents
+        ⟦<GrowableAllocRingBuffer<T> as RingBuffer<T>>⟧.limit
+        ⟦<GrowableAllocRingBuffer<T> as RingBuffer<T>>⟧.slot_changes };
 
     #[inline]
     fn into_iter(self) -> RingBufferIntoIterator<T, GrowableAllocRingBuffer<T>> {
@@ -463,8 +468,12 @@ impl<T: Clone + Drop> GrowableAllocRingBuffer<T> {
     ///
     /// Where memory or a clone was refused.
     pub fn clone(&self) -> Result<Self, AllocError>
-        ensures { IfOk result (AllZip T.is_clone self.now) }
+        ensures items { IfOk result (AllZip T.is_clone self.now) }
+        ensures nothing { self.now ≡ [] → IsOk result }
     {
+        if self.deque.is_empty() {
+            return Ok(Self::new(*self.deque.allocator()));
+        }
         Ok(GrowableAllocRingBuffer {
             deque: self.deque.clone()?,
         })

@@ -6,8 +6,8 @@ ghost use Rattle.std.specs.Cmp.{and_per, on_per, partial_equiv_from_equiv};
 ghost use Rattle.std.specs.Cmp.Lexicographic.{lists_per, pointwise};
 ghost use Rattle.std.specs.List.{AllZip};
 ghost use Rattle.std.proofs.lemmas.Cmp.{and_equiv, lists_equiv, nat_eq_equiv, on_equiv};
-ghost use Rattle.ring_core.specs.Contents.{overwritten, place};
-ghost use Rattle.ring_core.specs.Walk.{ReadsInOrder, ReadsInReverse, StartsOver, into_iter_to_come, iterator_to_come};
+ghost use Rattle.ring_core.specs.Contents.{IsWithin, overwritten, place};
+ghost use Rattle.ring_core.specs.Walk.{DrainsInOrder, ReadsInOrder, ReadsInReverse, StartsOver, UnpacksInOrder, into_iter_to_come, iterator_to_come};
 ghost use Rattle.ring_fixed.specs.View.{after_extend_from_slice, after_keep_newest, after_pop, after_push, after_takes, after_truncate, after_write};
 
 mod convert;
@@ -18,6 +18,7 @@ use ring_core::{
     RingBufferMutIterator,
 };
 use ring_fixed::fixed::Fixed;
+use ring_fixed::position::{position, signed_position};
 use ring_fixed::slices::{clone_slices, copy_slices, same_in_slices};
 use ring_slots::{HeapSlots, RingSlots};
 use std::alloc::{AllocError, Global};
@@ -152,6 +153,7 @@ impl<T: Drop> RingBuffer<T> for AllocRingBuffer<T> {
         ensures overwrites { IfOk result
             (λ old. old ≡ overwritten (Some self.old.capacity) self.old.items) }
         ensures pushes { self.new ≡ after_push self.old.capacity self.old item }
+        ensures within { IsWithin self.new.items (Some self.new.capacity) }
         ensures ok { IsOk result }
 
         // The count that the trait shows is the count of the slots themselves.
@@ -214,28 +216,43 @@ impl<T: Drop> RingBuffer<T> for AllocRingBuffer<T> {
 
     #[inline]
     fn get(&self, index: usize) -> Option<&T> {
-        self.ring.get(index)
+        let index = position(index, self.ring.len())?;
+        Some(self.ring.at(index))
     }
 
     #[inline]
     fn get_signed(&self, index: isize) -> Option<&T> {
-        self.ring.get_signed(index)
+        let index = signed_position(index, self.ring.len())?;
+        Some(self.ring.at(index))
     }
 
     #[inline]
     fn get_mut(&mut self, index: usize) -> Option<&mut T> {
-        let item = self.ring.get_mut(index)?;
-        Some(item)
+        let index = position(index, self.ring.len())?;
+        Some(self.at_mut(index))
     }
 
     #[inline]
     fn get_mut_signed(&mut self, index: isize) -> Option<&mut T> {
-        let item = self.ring.get_mut_signed(index)?;
-        Some(item)
+        let index = signed_position(index, self.ring.len())?;
+        Some(self.at_mut(index))
     }
 }
 
 impl<T: Drop> AllocRingBuffer<T> {
+    ghost use Rattle.ringbuffer.specs.contracts.heap.AllocRingBuffer.{the_row};
+
+    // The item at an index below the length, for writing.
+    #[inline]
+    fn at_mut(&mut self, index: usize) -> &mut T
+        requires { index < length self.old.items }
+        ensures* writes_back { sem 𝓛
+            (Lends (the_row T.row) T.row self.entry result (after_write self.old index)) }
+        ensures value { slice_get self.old.items index ≡ Some result.now }
+    {
+        self.ring.at_mut(index)
+    }
+
     /// Takes out the newest item, if there is one.
     #[inline]
     #[tactic(auto, using(ring_fixed::proofs::RepeatedSteps::last_behind))]
@@ -351,8 +368,8 @@ impl<T: Drop> AllocRingBuffer<T> {
         self.ring.as_slices()
     }
 
-    /// The items in one slice, oldest first, for writing. Where some go on at the beginning of the block, each of them is
-    /// moved to its place first, by one move and without memory. It counts as three changes an item, moved or not.
+    /// The items in one slice, oldest first, for writing. Where some go on at the beginning of the block, they are moved
+    /// first, without memory. It counts as four changes an item, moved or not.
     pub fn make_contiguous(&mut self) -> &mut [T]
         ensures* writes_back { sem 𝓛 (lends_items T.row self.entry result) }
         ensures value { result.now ≡ self.old.items }
@@ -386,6 +403,9 @@ impl<T: Drop> AllocRingBuffer<T> {
     pub fn drain(&mut self) -> RingBufferDrainingIterator<'_, T, Self>
         ensures same_reference { result.ring.ghost_name ≡ self.entry.ghost_name }
         ensures ring { result.ring.now ≡ self.entry.now }
+        ensures runs { DrainsInOrder ⟦<AllocRingBuffer<T> as RingBuffer<T>>⟧.contents
+            ⟦<AllocRingBuffer<T> as RingBuffer<T>>⟧.limit
+            ⟦<AllocRingBuffer<T> as RingBuffer<T>>⟧.slot_changes }
     {
         RingBufferDrainingIterator::new(self)
     }
@@ -393,8 +413,11 @@ impl<T: Drop> AllocRingBuffer<T> {
     /// A walk that owns the ring, oldest item first.
     #[inline]
     pub fn into_iter(self) -> RingBufferIntoIterator<T, Self>
-        ensures { into_iter_to_come ⟦<AllocRingBuffer<T> as RingBuffer<T>>⟧.contents result
+        ensures left { into_iter_to_come ⟦<AllocRingBuffer<T> as RingBuffer<T>>⟧.contents result
             ≡ self.items }
+        ensures runs { UnpacksInOrder ⟦<AllocRingBuffer<T> as RingBuffer<T>>⟧.contents
+            ⟦<AllocRingBuffer<T> as RingBuffer<T>>⟧.limit
+            ⟦<AllocRingBuffer<T> as RingBuffer<T>>⟧.slot_changes }
     {
         RingBufferIntoIterator::new(self)
     }
@@ -406,8 +429,11 @@ impl<T: Drop> IntoIterator for AllocRingBuffer<T> {
     type IntoIter = RingBufferIntoIterator<T, AllocRingBuffer<T>>;
 
     ghost into_iter_gives = { λ ring r.
-        into_iter_to_come ⟦<AllocRingBuffer<T> as RingBuffer<T>>⟧.contents r
-        ≡ ring.items };
+        (into_iter_to_come ⟦<AllocRingBuffer<T> as RingBuffer<T>>⟧.contents r
+        ≡ ring.items)
+        × UnpacksInOrder ⟦<AllocRingBuffer<T> as RingBuffer<T>>⟧.contents
+        ⟦<AllocRingBuffer<T> as RingBuffer<T>>⟧.limit
+        ⟦<AllocRingBuffer<T> as RingBuffer<T>>⟧.slot_changes };
 
     #[inline]
     fn into_iter(self) -> RingBufferIntoIterator<T, AllocRingBuffer<T>> {

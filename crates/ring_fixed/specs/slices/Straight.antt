@@ -1,5 +1,5 @@
 -- A ring over heap slots whose items lie side by side, and what it ends as where they are lent for writing.
-use Rattle.std.specs.Prelude.{ℕ, ◌+◌, ◌-◌, ◌*◌, List, ◌++◌, length, map, nat_le, option_to_list, replicate, slice_set, if◌then◌else◌, Option, Some, None}
+use Rattle.std.specs.Prelude.{ℕ, ◌+◌, ◌-◌, ◌*◌, List, ◌++◌, drop, length, map, nat_le, replicate, take, if◌then◌else◌, Option, Some, None}
 use Rattle.std.specs.List.{refill}
 use Rattle.std.specs.Borrow.{Array, Fml, Lends, MutBor, RattleType}
 use Rattle.ring_slots.specs.Slots.{Slots}
@@ -9,9 +9,9 @@ use Rattle.ring_fixed.specs.contracts.fixed.Fixed.{the_row}
 use Rattle.ring_fixed.specs.fixed.Sound.{view_of}
 
 module _ {X : Type 0} where
-  -- the slots with this in the slot at a place, after one change if it is an item that moved
-  abbrev pub changed_by : Slots X → ℕ → Option X → Option X → Slots X
-  changed_by s place slot moved = record { slots = slice_set s.slots place slot; changes = s.changes + length (option_to_list moved) }
+  -- the items after so many of them went from the front to the back, one by one
+  abbrev pub turned : ℕ → List X → List X
+  turned n xs = drop n xs ++ take n xs
 
   -- so many slots, where those from a place on hold these items, and all others nothing
   abbrev pub beside : ℕ → ℕ → List X → List (Option X)
@@ -21,11 +21,11 @@ module _ {X : Type 0} where
   abbrev pub straight_start : Fixed X (Slots X) → ℕ
   straight_start f = if nat_le (f.start + f.len) (length f.slots.slots) then f.start else 0
 
-  -- the ring with its items side by side, with these in their place, after three changes an item
+  -- the ring with its items side by side, with these in their place, after four changes an item
   abbrev pub straightened : Fixed X (Slots X) → List X → Fixed X (Slots X)
   straightened f xs =
       let items = beside (length f.slots.slots) (straight_start f) (refill f.len (view_of (λ s. s) f).items xs) in
-      record f { slots = record { slots = items; changes = f.slots.changes + 3 * f.len }; start = straight_start f }
+      record f { slots = record { slots = items; changes = f.slots.changes + 4 * f.len }; start = straight_start f }
 
 -- once the borrow r ends, the ring holds the last items written through r, side by side
 abbrev pub lends_items : (T : RattleType) → MutBor (Fixed T.Denot (Slots T.Denot)) → MutBor (List T.Denot) → Fml

@@ -1,5 +1,5 @@
 //! Array rings made of other collections. Each function names its source, whose items keep their order.
-ghost use Rattle.std.specs.Prelude.{◌≡◌, ◌<◌, All, IfOk, IsSome, List, chars, string_bytes};
+ghost use Rattle.std.specs.Prelude.{◌≡◌, ◌<◌, All, IfOk, IsOk, IsSome, List, [], chars, string_bytes};
 ghost use Rattle.std.specs.Iterator.{Drains, IsFiniteIterable};
 ghost use Rattle.ring_fixed.specs.Somes.{somes};
 ghost use Rattle.ringbuffer.specs.Conversion.{ClonesMeet, HoldsLast};
@@ -68,7 +68,7 @@ impl<T: Drop, const CAP: usize> ConstGenericRingBuffer<T, CAP> {
         requires { 0 < CAP }
         ensures { HoldsLast CAP ring result }
     {
-        Self::from_deque(ring.into_deque())
+        Self::from_iter(ring)
     }
 
     /// The last `CAP` items of a heap ring, or all where they are fewer. The others are dropped.
@@ -106,8 +106,10 @@ impl<T: Clone + Drop, const CAP: usize> ConstGenericRingBuffer<T, CAP> {
     /// Where a clone was refused.
     pub fn from_slice(items: &[T]) -> Result<Self, AllocError>
         requires { 0 < CAP }
-        ensures { IfOk result
+        ensures items { IfOk result
             (λ ring. ClonesMeet T.is_clone items.now (λ ys. HoldsLast CAP ys ring)) }
+        ensures succeeds { ((x : T) → T.is_infallible x) → IsOk result }
+        ensures nothing { items.now ≡ [] → IsOk result }
     {
         let mut ring = Self::new();
         extend_cloned(&mut ring, items.iter())?;
@@ -123,6 +125,8 @@ impl<T: Clone + Drop, const CAP: usize> ConstGenericRingBuffer<T, CAP> {
         requires { 0 < CAP }
         ensures items { IfOk result
             (λ ring. ClonesMeet T.is_clone items.old (λ ys. HoldsLast CAP ys ring)) }
+        ensures succeeds { ((x : T) → T.is_infallible x) → IsOk result }
+        ensures nothing { items.old ≡ [] → IsOk result }
         ensures unchanged { items.new ≡ items.old }
     {
         Self::from_slice(items)
@@ -135,8 +139,9 @@ impl<T: Clone + Drop, const CAP: usize> ConstGenericRingBuffer<T, CAP> {
     /// As `from_slice`.
     pub fn from_array_ref(items: &[T; CAP]) -> Result<Self, AllocError>
         requires { 0 < CAP }
-        ensures { IfOk result
+        ensures items { IfOk result
             (λ ring. ClonesMeet T.is_clone items.now (λ ys. HoldsLast CAP ys ring)) }
+        ensures succeeds { ((x : T) → T.is_infallible x) → IsOk result }
     {
         Self::from_slice(items)
     }
@@ -150,6 +155,7 @@ impl<T: Clone + Drop, const CAP: usize> ConstGenericRingBuffer<T, CAP> {
         requires { 0 < CAP }
         ensures items { IfOk result
             (λ ring. ClonesMeet T.is_clone items.old (λ ys. HoldsLast CAP ys ring)) }
+        ensures succeeds { ((x : T) → T.is_infallible x) → IsOk result }
         ensures unchanged { items.new ≡ items.old }
     {
         Self::from_slice(items)

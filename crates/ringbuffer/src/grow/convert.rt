@@ -1,6 +1,6 @@
 //! Growable rings made of other collections. Each function names its source, whose items keep their order.
-ghost use Rattle.std.specs.Prelude.{◌≡◌, All, IfOk, IsOk, IsSome, chars, string_bytes};
-ghost use Rattle.std.specs.Iterator.{Drains, IsFiniteIterable};
+ghost use Rattle.std.specs.Prelude.{◌≡◌, [], All, IfOk, IsOk, IsSome, List, OnErr, Some, chars, string_bytes};
+ghost use Rattle.std.specs.Iterator.{Drains, IsFiniteIterable, YieldsThen};
 ghost use Rattle.std.specs.List.{AllZip};
 ghost use Rattle.ring_fixed.specs.Somes.{somes};
 
@@ -23,9 +23,14 @@ impl<T: Drop> GrowableAllocRingBuffer<T> {
         I::IntoIter: Drop,
         requires { IsFiniteIterable I.into_iter_gives I.IntoIter.can_next I.IntoIter.remaining
             items }
-        ensures { IfOk result
+        ensures items { IfOk result
             (λ ring. (it : I.IntoIter) × I.into_iter_gives items it
             × Drains I.IntoIter.next_gives it ring) }
+
+        // A source of nothing is not refused.
+        ensures refused { OnErr result
+            ((it : I.IntoIter) × (xs : List T) × (x : T) × (after : I.IntoIter)
+            × I.into_iter_gives items it × YieldsThen I.IntoIter.next_gives it xs (Some x) after) }
     {
         let mut ring = Self::new(alloc);
         ring.extend(items)?;
@@ -42,7 +47,8 @@ impl<T: Drop> GrowableAllocRingBuffer<T> {
         items: [Option<T>; N],
     ) -> Result<Self, AllocError>
         requires { All IsSome items }
-        ensures { IfOk result (λ ring. ring ≡ somes items) }
+        ensures items { IfOk result (λ ring. ring ≡ somes items) }
+        ensures nothing { N ≡ 0 → IsOk result }
     {
         let mut ring = Self::new(alloc);
         extend_somes(&mut ring, items)?;
@@ -127,8 +133,12 @@ impl<T: Clone + Drop> GrowableAllocRingBuffer<T> {
     ///
     /// Where memory or a clone was refused.
     pub fn from_slice(alloc: Global, items: &[T]) -> Result<Self, AllocError>
-        ensures { IfOk result (AllZip T.is_clone items.now) }
+        ensures items { IfOk result (AllZip T.is_clone items.now) }
+        ensures nothing { items.now ≡ [] → IsOk result }
     {
+        if items.is_empty() {
+            return Ok(Self::new(alloc));
+        }
         Self::from_vec(alloc, items.to_vec(alloc)?)
     }
 
@@ -139,6 +149,7 @@ impl<T: Clone + Drop> GrowableAllocRingBuffer<T> {
     /// As `from_slice`.
     pub fn from_mut_slice(alloc: Global, items: &mut [T]) -> Result<Self, AllocError>
         ensures items { IfOk result (AllZip T.is_clone items.old) }
+        ensures nothing { items.old ≡ [] → IsOk result }
         ensures unchanged { items.new ≡ items.old }
     {
         Self::from_slice(alloc, items)
@@ -150,7 +161,8 @@ impl<T: Clone + Drop> GrowableAllocRingBuffer<T> {
     ///
     /// As `from_slice`.
     pub fn from_array_ref<const N: usize>(alloc: Global, items: &[T; N]) -> Result<Self, AllocError>
-        ensures { IfOk result (AllZip T.is_clone items.now) }
+        ensures items { IfOk result (AllZip T.is_clone items.now) }
+        ensures nothing { N ≡ 0 → IsOk result }
     {
         Self::from_slice(alloc, items)
     }
@@ -165,6 +177,7 @@ impl<T: Clone + Drop> GrowableAllocRingBuffer<T> {
         items: &mut [T; N],
     ) -> Result<Self, AllocError>
         ensures items { IfOk result (AllZip T.is_clone items.old) }
+        ensures nothing { N ≡ 0 → IsOk result }
         ensures unchanged { items.new ≡ items.old }
     {
         Self::from_slice(alloc, items)

@@ -101,7 +101,7 @@ impl<T: Drop> AllocRingBuffer<T> {
         requires { 0 < length ring }
         ensures { IfOk result (HoldsAll ring) }
     {
-        Self::from_deque(alloc, ring.into_deque())
+        Self::holding(alloc, ring.len(), ring)
     }
 
     /// The items of an array ring, of which there must be one. Their number is the ring's capacity.

@@ -9,7 +9,7 @@ returns g c =
     let f = c.args.self.now in let size = length f.slots.slots in let items = items_from f.slots.slots f.start in let after = c.straighten.ensures in
     let enough = c.requires.0.fit in
     let fit : c.straighten.new.self.start + length items ≤ size = rw (after.start, sym c.requires.1) ((straight_fits f.start f.len size c.requires.0.start_within (omega (arith, c.requires.1))).1) in
-    let count : c.after-changes.result.count ≡ f.slots.changes + 3 * f.len = omega (arith, c.after-changes.ensures, c.after-2.ensures, c.after.ensures, c.changes.ensures) in
+    let count : c.after-changes.result.count ≡ f.slots.changes + 4 * f.len = omega (arith, c.after-changes.ensures, c.after-3.ensures, c.after-2.ensures, c.after.ensures, c.changes.ensures) in
     let filled : (w : List _) → refilled c.straighten.new.self.slots.slots c.straighten.new.self.start f.len w ≡ beside size c.straighten.new.self.start (refill f.len items w) =
     λ w. rw (after.straight, c.requires.1) (beside-refilled size c.straighten.new.self.start items fit w) in
     let held : HoldsRun c.straighten.new.self.slots.slots c.straighten.new.self.start f.len items = rw (after.straight, c.requires.1) (beside-run size c.straighten.new.self.start items fit) in
