@@ -1,6 +1,6 @@
 //! Callers of the ring types in the lines that a user writes first, proved from the public contracts alone.
 
-ghost use Rattle.std.specs.Prelude.{◌≡◌, ◌+◌, ◌<◌, ◌^◌, [], ◌∷◌, ◌++◌, IfErr, IfOk, IsOk, IsSome, IsTrue, OnErr, OnOk, Some, drop, length, map, slice_get, sum};
+ghost use Rattle.std.specs.Prelude.{◌≡◌, ◌<◌, ◌≤◌, ◌^◌, [], ◌∷◌, ◌++◌, IfErr, IfOk, IsOk, IsSome, IsTrue, OnErr, OnOk, Some, drop, length, map, slice_get, sum};
 ghost use Rattle.ringbuffer.specs.Contents.{AppendsCut, keep_last};
 
 use ringbuffer::{AllocRingBuffer, ConstGenericRingBuffer, GrowableAllocRingBuffer, RingBuffer};
@@ -46,16 +46,30 @@ pub fn queue_job_in_ring<T: Drop, R: RingBuffer<T>>(queue: &mut R, job: T) -> Re
     Ok(())
 }
 
-/// Pushes a number onto an array ring, and adds up what it holds then.
-pub fn push_and_add_up(ring: &mut ConstGenericRingBuffer<u8, 4>, x: u8) -> u32
-    ensures { result ≡ sum ring.new.items }
+/// Pushes a number onto an array ring, which then holds it last.
+pub fn push_and_read(ring: &mut ConstGenericRingBuffer<u32, 4>, x: u32) -> u32
+    ensures value { result ≡ x }
+    ensures within { length ring.new.items ≤ 4 }
 {
     let _ = ring.push(x);
-    let mut sum = 0u32;
-    for item in ring.iter() {
-        sum += u32::from(*item);
-    }
-    sum
+    *ring.back().unwrap()
+}
+
+/// Pushes a number onto a ring that has a limit, which then holds it last.
+pub fn push_and_read_back<R: RingBuffer<u32>>(ring: &mut R, x: u32) -> u32
+    requires { IsSome (R.limit ring.old) }
+    ensures { result ≡ x }
+{
+    let _ = ring.push(x);
+    *ring.back().unwrap()
+}
+
+/// Pushes a number onto a heap ring, and returns the oldest that it holds then.
+pub fn push_and_read_oldest(ring: &mut AllocRingBuffer<u32>, x: u32) -> u32
+    ensures { Some result ≡ slice_get ring.new.items 0 }
+{
+    let _ = ring.push(x);
+    *ring.front().unwrap()
 }
 
 /// Pushes a number onto a heap ring, and counts what it holds then.

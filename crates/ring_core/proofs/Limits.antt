@@ -1,10 +1,15 @@
 -- What follows of a limit on a list.
-use Rattle.ring_core.proofs.Words.{◌≡◌, ℕ, zero, suc, ◌+◌, ◌-◌, ◌<◌, List, [], ◌∷◌, ◌++◌, length, map, drop, Option, None, Some, IfSome, refl, slice_set, negsuc, ◌≤◌, take, slice_get, option_to_list, ◌∙◌, ap, sym, arith, length-append, length-drop, zero-mod, set-append_seam, drop-append-le, drop-drop, drop-map, drop_all, length-map, IsWithin, keep_last, overwritten, signed_place}
+use Rattle.ring_core.proofs.Words.{◌≡◌, ℕ, zero, suc, ◌+◌, ◌-◌, ◌<◌, List, [], ◌∷◌, ◌++◌, length, map, drop, Option, None, Some, IfSome, IsSome, refl, slice_set, negsuc, ◌≤◌, take, slice_get, option_to_list, ◌∙◌, ap, sym, arith, length-append, length-drop, zero-mod, set-append_seam, drop-append-le, drop-drop, drop-map, drop_all, length-map, IsWithin, keep_last, overwritten, signed_place}
 
 -- a list within its limit loses nothing
 pub keep_last_within : {A : Type 0} (limit : Option ℕ) (xs : List A) → IsWithin xs limit → keep_last limit xs ≡ xs
 keep_last_within None xs within = refl
 keep_last_within (Some n) xs within = let none_over : length xs - n ≡ 0 = omega arith in rw none_over refl
+
+-- without a limit all is kept
+pub keep_last-unlimited : {A : Type 0} (limit : Option ℕ) (xs : List A) → ¬ (IsSome limit) → keep_last limit xs ≡ xs
+keep_last-unlimited None xs unlimited = refl
+keep_last-unlimited (Some n) xs unlimited = absurd (unlimited refl)
 
 -- what a limit leaves does not depend on how often it was applied before
 pub keep_last-keep_last : {A : Type 0} (limit : Option ℕ) (xs ys : List A) → keep_last limit (keep_last limit xs ++ ys) ≡ keep_last limit (xs ++ ys)

@@ -21,7 +21,7 @@ pub struct RingBufferIterator<'rb, T: 'rb, RB> {
 }
 
 impl<'rb, T: Drop, RB: RingBuffer<T>> RingBufferIterator<'rb, T, RB> {
-    /// A walk over all items of the ring.
+    /// Returns a walk over all items of the ring.
     pub fn new(ring: &'rb RB) -> Self
         ensures left { iterator_to_come RB.contents result ≡ RB.contents ring.now }
         ensures runs { ReadsInOrder RB.contents }
@@ -52,7 +52,7 @@ impl<'rb, T: Drop, RB: RingBuffer<T>> RingBufferIterator<'rb, T, RB> {
         self.ring.get(at)
     }
 
-    /// The last item that is left, by one step.
+    /// Returns the last item that is left, by one step.
     pub fn last(mut self) -> Option<&'rb T>
         ensures { let left = iterator_to_come RB.contents self.entry in
             option_copied result ≡ slice_get left (length left - 1) }
@@ -60,7 +60,7 @@ impl<'rb, T: Drop, RB: RingBuffer<T>> RingBufferIterator<'rb, T, RB> {
         self.next_back()
     }
 
-    /// How many items are left, by no step.
+    /// Returns the number of items left, without walking over them.
     pub fn count(self) -> usize
         ensures { result ≡ length (iterator_to_come RB.contents self.entry) }
     {
@@ -130,7 +130,7 @@ pub struct RingBufferMutIterator<'rb, T, RB> {
 impl<'rb, T: Drop, RB: RingBuffer<T>> RingBufferMutIterator<'rb, T, RB> {
     ghost use Rattle.ring_core.specs.Cursor.{lends_back, lends_front};
 
-    /// A cursor over all items of the ring.
+    /// Returns a cursor over all items of the ring.
     pub fn new(ring: &'rb mut RB) -> Self
         ensures same_reference { result.ring.ghost_name ≡ ring.entry.ghost_name }
         ensures ring { result.ring.now ≡ ring.entry.now }
@@ -177,7 +177,7 @@ impl<'rb, T: Drop, RB: RingBuffer<T>> RingBufferMutIterator<'rb, T, RB> {
         self.ring.get_mut(end - 1)
     }
 
-    /// How many items are still to come, as both bounds.
+    /// Returns the number of items still to come, as both bounds.
     pub fn size_hint(&self) -> (usize, Option<usize>)
         ensures { let left = length (cursor_to_come RB.contents self.now) in
             result ≡ (left, Some left) }
@@ -195,7 +195,7 @@ pub struct RingBufferDrainingIterator<'rb, T, RB> {
 }
 
 impl<'rb, T: Drop, RB: RingBuffer<T>> RingBufferDrainingIterator<'rb, T, RB> {
-    /// A walk that takes out what the ring holds.
+    /// Returns a walk that takes out what the ring holds.
     pub fn new(ring: &'rb mut RB) -> Self
         ensures same_reference { result.ring.ghost_name ≡ ring.entry.ghost_name }
         ensures ring { result.ring.now ≡ ring.entry.now }
@@ -240,7 +240,7 @@ pub struct RingBufferIntoIterator<T, RB> {
 }
 
 impl<T: Drop, RB: RingBuffer<T>> RingBufferIntoIterator<T, RB> {
-    /// A walk over what the ring holds.
+    /// Returns a walk over what the ring holds.
     pub fn new(ring: RB) -> Self
         ensures left { into_iter_to_come RB.contents result ≡ RB.contents ring }
         ensures runs { UnpacksInOrder RB.contents RB.limit RB.slot_changes }

@@ -31,20 +31,20 @@ pub trait RingBuffer<T: Drop>: Sized {
     // How often slots were changed. Nothing is said of it for a ring without a limit.
     ghost slot_changes: { Self → ℕ } = { λ _. 0 };
 
-    /// How many items the ring holds.
+    /// Returns the number of items in the ring.
     fn len(&self) -> usize
         ensures value { result ≡ length (contents self.now) }
         ensures within { IsWithin (contents self.now) (limit self.now) };
 
-    /// Whether the ring holds no item.
+    /// Returns whether the ring holds no item.
     fn is_empty(&self) -> bool
         ensures { IsTrue result ↔ (contents self.now ≡ []) }
     {
         self.len() == 0
     }
 
-    /// Whether the ring holds as many items as `capacity` says. The next push onto a full ring takes out the oldest item
-    /// if the ring has a limit, and asks for memory if it has none.
+    /// Returns whether the ring holds as many items as `capacity` says. The next push onto a full ring takes out the
+    /// oldest item if the ring has a limit, and asks for memory if it has none.
     fn is_full(&self) -> bool
         ensures value { IfSome (limit self.now)
             (λ n. IsTrue result ↔ (length (contents self.now) ≡ n)) }
@@ -53,14 +53,14 @@ pub trait RingBuffer<T: Drop>: Sized {
         self.len() == self.capacity()
     }
 
-    /// The limit of a ring that has one. Without a limit, how many items there is room for before the next request for
-    /// memory.
+    /// Returns the limit of a ring that has one. Without a limit it is the number of items that there is room for
+    /// before the next request for memory.
     fn capacity(&self) -> usize
         ensures value { IfSome (limit self.now) (λ n. result ≡ n) }
         ensures holds { length (contents self.now) ≤ result }
         ensures within { IsWithin (contents self.now) (limit self.now) };
 
-    /// How many items the ring's memory has room for, which may be more than its capacity.
+    /// Returns the number of items that the ring's memory has room for, which may be more than its capacity.
     fn buffer_size(&self) -> usize
         ensures room { IfSome (limit self.now) (λ n. n ≤ result) }
         ensures holds { length (contents self.now) ≤ result };
@@ -78,10 +78,10 @@ pub trait RingBuffer<T: Drop>: Sized {
         ensures err { IfErr result (λ x. (x ≡ item) × (contents self.new ≡ contents self.old)) }
         ensures limit { limit self.new ≡ limit self.old }
         ensures changes { Counts limit contents slot_changes self.old self.new 1 }
-        ensures within { IsWithin (contents self.new) (limit self.new) }
+        ensures within { IsWithin (contents self.old) (limit self.old) }
         ensures succeeds { IsSome (limit self.old) → IsOk result };
 
-    /// Another name for `push`.
+    /// Calls `push`.
     ///
     /// # Errors
     ///
@@ -94,7 +94,7 @@ pub trait RingBuffer<T: Drop>: Sized {
         ensures err { IfErr result (λ x. (x ≡ item) × (contents self.new ≡ contents self.old)) }
         ensures limit { limit self.new ≡ limit self.old }
         ensures changes { Counts limit contents slot_changes self.old self.new 1 }
-        ensures within { IsWithin (contents self.new) (limit self.new) }
+        ensures within { IsWithin (contents self.old) (limit self.old) }
         ensures succeeds { IsSome (limit self.old) → IsOk result }
     {
         self.push(item)
@@ -195,17 +195,17 @@ pub trait RingBuffer<T: Drop>: Sized {
         Ok(())
     }
 
-    /// The item at a position, or `None` if the ring is empty.
+    /// Returns the item at a position, or `None` if the ring is empty.
     fn get(&self, index: usize) -> Option<&T>
         ensures { option_copied result
             ≡ slice_get (contents self.now) (place (length (contents self.now)) index) };
 
-    /// The item at a position that may be negative, or `None` if the ring is empty.
+    /// Returns the item at a position that may be negative, or `None` if the ring is empty.
     fn get_signed(&self, index: isize) -> Option<&T>
         ensures { option_copied result
             ≡ slice_get (contents self.now) (signed_place (length (contents self.now)) index) };
 
-    /// The item that `get` returns, for writing. A write changes that place alone.
+    /// Lends the item that `get` returns, for writing. A write changes that place alone.
     fn get_mut(&mut self, index: usize) -> Option<&mut T>
         ensures* writes_back { sem 𝓛
             (LendsIf Self.row T.row self.entry result
@@ -214,7 +214,7 @@ pub trait RingBuffer<T: Drop>: Sized {
             ≡ slice_get (contents self.old) (place (length (contents self.old)) index) }
         ensures none { IsNone result ↔ (contents self.old ≡ []) };
 
-    /// The item that `get_signed` returns, for writing. A write changes that place alone.
+    /// Lends the item that `get_signed` returns, for writing. A write changes that place alone.
     fn get_mut_signed(&mut self, index: isize) -> Option<&mut T>
         ensures* writes_back { sem 𝓛
             (LendsIf Self.row T.row self.entry result
@@ -223,21 +223,21 @@ pub trait RingBuffer<T: Drop>: Sized {
             ≡ slice_get (contents self.old) (signed_place (length (contents self.old)) index) }
         ensures none { IsNone result ↔ (contents self.old ≡ []) };
 
-    /// The oldest item. The next push overwrites it only if the ring is full and has a limit.
+    /// Returns the oldest item. The next push overwrites it only if the ring is full and has a limit.
     fn peek(&self) -> Option<&T>
         ensures { option_copied result ≡ slice_get (contents self.now) 0 }
     {
         self.get(0)
     }
 
-    /// The oldest item.
+    /// Returns the oldest item.
     fn front(&self) -> Option<&T>
         ensures { option_copied result ≡ slice_get (contents self.now) 0 }
     {
         self.get(0)
     }
 
-    /// The oldest item, for writing.
+    /// Lends the oldest item for writing.
     fn front_mut(&mut self) -> Option<&mut T>
         ensures* writes_back { sem 𝓛
             (LendsIf Self.row T.row self.entry result (with_item self.old 0) self.old) }
@@ -247,7 +247,7 @@ pub trait RingBuffer<T: Drop>: Sized {
         self.get_mut(0)
     }
 
-    /// The newest item.
+    /// Returns the newest item.
     fn back(&self) -> Option<&T>
         ensures { option_copied result
             ≡ slice_get (contents self.now) (length (contents self.now) - 1) }
@@ -255,7 +255,7 @@ pub trait RingBuffer<T: Drop>: Sized {
         self.get_signed(-1)
     }
 
-    /// The newest item, for writing.
+    /// Lends the newest item for writing.
     fn back_mut(&mut self) -> Option<&mut T>
         ensures* writes_back { sem 𝓛
             (LendsIf Self.row T.row self.entry result
@@ -267,7 +267,7 @@ pub trait RingBuffer<T: Drop>: Sized {
         self.get_mut_signed(-1)
     }
 
-    /// Clones of the items, in order.
+    /// Returns clones of the items, in order.
     ///
     /// # Errors
     ///
@@ -284,7 +284,7 @@ pub trait RingBuffer<T: Drop>: Sized {
         Ok(items)
     }
 
-    /// Whether an item equals `x`.
+    /// Returns whether an item equals `x`.
     fn contains(&self, x: &T) -> bool
     where
         T: PartialEq,

@@ -289,7 +289,7 @@ impl<T: Drop, S: RingSlots<T>> Fixed<T, S> {
         (first, len, true)
     }
 
-    // How many pushes there are up to the last slot, or to the capacity where the ring isn't full.
+    // Returns the number of pushes up to the last slot, or to the capacity if the ring isn't full.
     #[inline]
     fn pushes_to_end(size: usize, end: usize, room: usize, full: bool) -> usize
         requires { end ≤ size }
@@ -303,7 +303,8 @@ impl<T: Drop, S: RingSlots<T>> Fixed<T, S> {
         }
     }
 
-    // The start and the length of a ring after so many pushes, all of which it had room for, or none.
+    // Returns the start and the length after `count` pushes: onto a full ring the start moves on, otherwise the length
+    // grows.
     #[inline]
     fn after_pushes(slots: &S, start: usize, len: usize, count: usize, full: bool) -> (usize, usize)
         requires size { S.is_size (length (S.seen slots.now).slots) }
@@ -347,7 +348,7 @@ impl<T: Drop, S: RingSlots<T>> Fixed<T, S> {
 impl<T: Drop, S: RingSlots<T>> Fixed<T, S> {
     ghost use Rattle.ring_fixed.specs.fixed.Sound.{view_of, IsSound, ChangesTo};
 
-    /// `extend`, run by run. A ring in an array does better with `extend`.
+    /// Does what `extend` does, run by run. A ring in an array does better with `extend`.
     pub fn extended<I: IntoIterator<Item = T>>(mut self, given: (I, usize)) -> (Self, ())
     where
         I::IntoIter: Drop,
@@ -397,7 +398,7 @@ impl<T: Drop, S: RingSlots<T>> Fixed<T, S> {
         (self, ())
     }
 
-    /// `fill_with`.
+    /// Does what `fill_with` does.
     pub fn filled_with<F: FnMut() -> T + Drop>(mut self, given: (F, usize)) -> (Self, ())
         requires callable { F.IsAlwaysCallable given.0 }
         requires sound { IsSound S.seen S.is_size self }
@@ -411,7 +412,7 @@ impl<T: Drop, S: RingSlots<T>> Fixed<T, S> {
         (self, ())
     }
 
-    /// `fill`.
+    /// Does what `fill` does.
     pub fn filled(mut self, given: (T, usize)) -> (Self, Result<(), AllocError>)
     where
         T: Clone,
@@ -427,7 +428,8 @@ impl<T: Drop, S: RingSlots<T>> Fixed<T, S> {
         (self, filled)
     }
 
-    /// An empty ring with clones of the items of two slices, in order. Where a clone is refused, those before it stay.
+    /// Pushes clones of the items of two slices onto an empty ring, in order. Where a clone is refused, those before it
+    /// stay.
     pub fn cloned_from(mut self, items: (&[T], &[T])) -> (Self, Result<(), AllocError>)
     where
         T: Clone,

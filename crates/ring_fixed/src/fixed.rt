@@ -21,7 +21,7 @@ impl<T: Drop, S: RingSlots<T>> Fixed<T, S> {
     ghost use Rattle.ring_fixed.specs.contracts.fixed.Fixed.{the_row};
     ghost use Rattle.ring_fixed.specs.fixed.Sound.{view_of, with_item, IsSound, ChangesTo};
 
-    /// An empty ring over empty slots.
+    /// Makes an empty ring over empty slots.
     pub fn over(slots: S) -> Self
         requires size { S.is_size (length (S.seen slots).slots) }
         requires some { 0 < length (S.seen slots).slots }
@@ -53,7 +53,7 @@ impl<T: Drop, S: RingSlots<T>> Fixed<T, S> {
         slots
     }
 
-    /// How many items the ring holds.
+    /// Returns the number of items in the ring.
     #[inline]
     pub fn len(&self) -> usize
         requires { IsSound S.seen S.is_size self.now }
@@ -62,7 +62,7 @@ impl<T: Drop, S: RingSlots<T>> Fixed<T, S> {
         self.len
     }
 
-    /// How many slots the ring has.
+    /// Returns the number of slots.
     #[inline]
     pub fn size(&self) -> usize
         ensures { result ≡ (view_of S.seen self.now).capacity }
@@ -134,7 +134,7 @@ impl<T: Drop, S: RingSlots<T>> Fixed<T, S> {
         Some(item)
     }
 
-    /// The item at an index below the length.
+    /// Returns the item at an index below the length.
     #[inline]
     pub fn at(&self, index: usize) -> &T
         requires sound { IsSound S.seen S.is_size self.now }
@@ -144,7 +144,7 @@ impl<T: Drop, S: RingSlots<T>> Fixed<T, S> {
         self.slots.get(self.slots.place(self.start, index))
     }
 
-    /// The item at an index below the length, for writing.
+    /// Lends the item at an index below the length for writing.
     #[inline]
     pub fn at_mut(&mut self, index: usize) -> &mut T
         requires sound { IsSound S.seen S.is_size self.old }
@@ -201,7 +201,7 @@ impl<T: Drop, S: RingSlots<T>> Fixed<T, S> {
         Self::put_at(slots, start, len, place, item);
     }
 
-    // The same where the place is known.
+    // Puts an item after the last, for a caller that knows the place.
     #[inline]
     pub(crate) fn put_at(slots: &mut S, start: usize, len: usize, place: usize, item: T)
         requires laid_out { IsLaidOut S.is_size (S.seen slots.old) start }

@@ -2,7 +2,7 @@
 ghost use Rattle.std.specs.Prelude.{◌≡◌, ◌<◌, MatchOption};
 ghost use Rattle.ring_core.specs.Contents.{place, signed_place};
 
-/// The index that a position names among `len` items, if there is an item.
+/// Returns the index that a position names among `len` items, or `None` if there are none.
 #[inline]
 pub fn position(index: usize, len: usize) -> Option<usize>
     ensures { MatchOption result (len ≡ 0) (λ k. (k < len) × (k ≡ place len index)) }
@@ -16,7 +16,7 @@ pub fn position(index: usize, len: usize) -> Option<usize>
     Some(index % len)
 }
 
-/// The same for a position that may be negative: -1 names the last item.
+/// Returns the index that a position names that may be negative, or `None` if there are no items: -1 names the last.
 #[inline]
 pub fn signed_position(index: isize, len: usize) -> Option<usize>
     ensures { MatchOption result (len ≡ 0) (λ k. (k < len) × (k ≡ signed_place len index)) }

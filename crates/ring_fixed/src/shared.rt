@@ -11,7 +11,7 @@ ghost use Rattle.ring_fixed.specs.Somes.{somes};
 use ring_core::{RingBuffer, RingBufferIterator};
 use std::alloc::AllocError;
 
-/// Whether two rings hold equal items, place by place.
+/// Returns whether two rings hold equal items, place by place.
 pub fn same_items<T: PartialEq + Drop, R: RingBuffer<T>>(a: &R, b: &R) -> bool
     ensures { result ≡ pointwise T.eq (R.contents a.now) (R.contents b.now) }
 {

@@ -14,7 +14,7 @@ impl<T: Drop> Fixed<T, HeapSlots<T>> {
     ghost use Rattle.ring_fixed.specs.fixed.Sound.{view_of, IsSound};
     ghost use Rattle.ring_fixed.specs.slices.Straight.{beside, lends_items, straight_start, turned};
 
-    /// The items in two slices: those up to the last slot, and those that go on at the first.
+    /// Returns the items in two slices: those up to the last slot, and those that go on at the first.
     #[inline]
     pub fn as_slices(&self) -> (&[T], &[T])
         requires { IsSound (λ s. s) IsPowerOfTwo self.now }
@@ -28,7 +28,8 @@ impl<T: Drop> Fixed<T, HeapSlots<T>> {
         )
     }
 
-    /// The items in one slice, for writing. It counts as four changes an item, of which at most three put it in its place.
+    /// Lends the items in one slice for writing. This counts as four changes an item, of which at most three put it in
+    /// its place.
     pub fn make_contiguous(&mut self) -> &mut [T]
         requires { IsSound (λ s. s) IsPowerOfTwo self.old }
         ensures* writes_back { sem 𝓛 (lends_items T.row self.entry result) }
@@ -95,7 +96,7 @@ pub fn copy_slices<T: Copy>(items: (&[T], &[T]), output: &mut [T]) -> usize
     before + copy_slice(second, back)
 }
 
-// The same of one slice.
+// Copies the items of a slice to the first places of another, as many as it has. Returns how many.
 fn copy_slice<T: Copy>(items: &[T], output: &mut [T]) -> usize
     ensures count { result ≡ min (length output.old) (length items.now) }
     ensures copied { output.new ≡ take result items.now ++ drop result output.old }
@@ -105,7 +106,7 @@ fn copy_slice<T: Copy>(items: &[T], output: &mut [T]) -> usize
     count
 }
 
-/// Clones of the items of two slices, in order.
+/// Returns clones of the items of two slices, in order.
 ///
 /// # Errors
 ///
@@ -124,7 +125,7 @@ pub fn clone_slices<T: Clone + Drop>(
     Ok(clones)
 }
 
-/// Whether the items of two slices and the items of two others are equal, place by place.
+/// Returns whether the items of two slices and the items of two others are equal, place by place.
 pub fn same_in_slices<T: PartialEq>(a: (&[T], &[T]), b: (&[T], &[T])) -> bool
     requires { length a.0.now + length a.1.now ≡ length b.0.now + length b.1.now }
     ensures { result ≡ pointwise T.eq (a.entry.0.now ++ a.entry.1.now)

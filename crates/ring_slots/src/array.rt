@@ -69,7 +69,7 @@ impl<T, const CAP: usize> Model for ArraySlots<T, CAP> {
 impl<T: Drop, const CAP: usize> ArraySlots<T, CAP> {
     ghost use Rattle.ring_slots.specs.array.Lends.{lends_slot};
 
-    /// Empty slots.
+    /// Makes empty slots.
     pub fn new() -> Self
         ensures { result ≡ record { slots = replicate CAP None; changes = 0 } }
     {
@@ -79,7 +79,7 @@ impl<T: Drop, const CAP: usize> ArraySlots<T, CAP> {
         }
     }
 
-    // The slot at a place, for one change, which is counted here.
+    // Lends the slot at a place for one change, and counts it.
     #[inline]
     fn slot_mut(&mut self, place: usize) -> &mut Option<T>
         requires { place < length self.old.slots }

@@ -46,7 +46,7 @@ impl<T> Owner<T> {
     ghost use Rattle.ring_slots.specs.block.Block.{IsDeedOf, IsNewBlock};
     ghost use Rattle.ring_slots.specs.block.Lends.{lends_run, lends_slot, with_slot};
 
-    /// Empty slots in a new block.
+    /// Allocates a block of `size` empty slots.
     pub(crate) fn allocate(
         alloc: Global,
         size: usize,
@@ -65,7 +65,7 @@ impl<T> Owner<T> {
         }
     }
 
-    /// Empty slots that need no memory, since items have no size. Their pointer is aligned as items are.
+    /// Makes empty slots for items without size, which need no memory. Their pointer is aligned as items are.
     pub(crate) fn without_memory(alloc: Global, size: usize) -> (*mut T, Owner<T>, Deed<T>)
         requires { type_size T.row ≡ 0 }
         ensures { IsNewBlock alloc size result.0 result.1 result.2 }
@@ -128,7 +128,7 @@ impl<T> Owner<T> {
         unsafe { ptr.add(place).read() }
     }
 
-    /// The items of slots side by side, which are all full.
+    /// Returns the items of `len` full slots that lie side by side from the place `from` on.
     #[inline]
     pub(crate) fn run(&self, ptr: *mut T, from: usize, len: usize) -> &[T]
         requires at { ptr ≡ self.now.at }
@@ -138,7 +138,7 @@ impl<T> Owner<T> {
         unsafe { slice::from_raw_parts(ptr.add(from), len) }
     }
 
-    /// The same items, for writing.
+    /// Lends the items of `len` full slots that lie side by side from the place `from` on, for writing.
     pub(crate) fn run_mut(&mut self, ptr: *mut T, from: usize, len: usize) -> &mut [T]
         requires at { ptr ≡ self.old.at }
         requires full { IsFullRun self.old.slots from len }
@@ -148,7 +148,7 @@ impl<T> Owner<T> {
         unsafe { slice::from_raw_parts_mut(ptr.add(from), len) }
     }
 
-    /// The item of a full slot, for writing.
+    /// Lends the item of a full slot for writing.
     #[inline]
     pub(crate) fn get_mut(&mut self, ptr: *mut T, place: usize) -> &mut T
         requires at { ptr ≡ self.old.at }

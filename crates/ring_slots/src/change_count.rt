@@ -21,7 +21,7 @@ impl ChangeCount {
         ChangeCount {}
     }
 
-    /// The count after so many changes more.
+    /// Returns the count after `changes` more changes.
     #[inline]
     pub fn after(&self, changes: usize) -> ChangeCount
         ensures { result.count ≡ self.now.count + changes }

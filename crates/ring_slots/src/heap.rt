@@ -50,7 +50,7 @@ impl<T> Model for HeapSlots<T> {
 impl<T: Drop> HeapSlots<T> {
     ghost use Rattle.ring_slots.specs.heap.Lends.{lends_run};
 
-    /// Empty slots, as many as `size` says. An error says that the memory for them was refused.
+    /// Makes `size` empty slots. An error says that the memory for them was refused.
     pub fn new(alloc: Global, size: usize) -> Result<HeapSlots<T>, AllocError>
         ensures { IfOk result (λ s. s ≡ record { slots = replicate size None; changes = 0 }) }
     {
@@ -72,7 +72,7 @@ impl<T: Drop> HeapSlots<T> {
         })
     }
 
-    /// The items of slots side by side, which are all full.
+    /// Returns the items of `len` full slots that lie side by side from the place `from` on.
     #[inline]
     pub fn run(&self, from: usize, len: usize) -> &[T]
         requires { IsFullRun self.now.slots from len }
@@ -81,8 +81,8 @@ impl<T: Drop> HeapSlots<T> {
         self.owner.run(self.ptr, from, len)
     }
 
-    /// The same items, for writing. The slots have had as many changes then as `changes` says, at least one of each lent
-    /// slot more than before.
+    /// Lends the items of `len` full slots that lie side by side from the place `from` on, for writing. Sets the count
+    /// of changes to `changes`, which must be at least `len` more than it was.
     #[inline]
     pub fn run_mut(&mut self, from: usize, len: usize, changes: ChangeCount) -> &mut [T]
         requires full { IsFullRun self.old.slots from len }
@@ -95,7 +95,7 @@ impl<T: Drop> HeapSlots<T> {
         self.owner.run_mut(ptr, from, len)
     }
 
-    /// How many changes the slots have had.
+    /// Returns the count of changes of the slots.
     pub fn changes(&self) -> ChangeCount
         ensures { result.count ≡ self.now.changes }
     {
@@ -104,7 +104,7 @@ impl<T: Drop> HeapSlots<T> {
 }
 
 impl<T> HeapSlots<T> {
-    // The number of slots.
+    // Returns the number of slots.
     #[inline]
     fn size(&self) -> usize
         ensures { result ≡ length self.now.slots }
@@ -133,14 +133,14 @@ impl<T> HeapSlots<T> {
     }
 }
 
-// The bytes of an item, or the greatest word where there are more.
+// Returns the size of an item in bytes, or the greatest word where it is larger.
 fn item_size<T>() -> usize
     ensures { result ≡ min (type_size T.row) (2 ^ 64 - 1) }
 {
     size_of::<T>()
 }
 
-// Whether a block for as many items as `size` says can be asked for.
+// Returns whether a block for `size` items can be asked for.
 fn may_hold<T>(size: usize) -> bool
     ensures { IsTrue result ↔ FitsInBlock T.row size }
 {

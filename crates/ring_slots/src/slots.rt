@@ -13,18 +13,19 @@ pub trait RingSlots<T: Drop>: Sized {
     // The slots after a write of this item into the slot at a place.
     ghost with_slot: { Self → ℕ → T → Self };
 
-    /// The number of slots.
+    /// Returns the number of slots.
     fn size(&self) -> usize
         ensures { result ≡ length (seen self.now).slots };
 
-    /// The place `k` after `start`, counted round the slots.
+    /// Returns the place `k` after `start`, counted round the slots.
     fn place(&self, start: usize, k: usize) -> usize
         requires size { is_size (length (seen self.now).slots) }
         requires start { start < length (seen self.now).slots }
         requires count { k ≤ length (seen self.now).slots }
         ensures { result ≡ (start + k) % length (seen self.now).slots };
 
-    /// The place after `len` items that begin at `start`, counted round the slots. It may be `start` again.
+    /// Returns the place after `len` items that begin at `start`, counted round the slots. It is `start` where they
+    /// fill all slots.
     fn place_after(&self, start: usize, len: usize) -> usize
         requires size { is_size (length (seen self.now).slots) }
         requires start { start < length (seen self.now).slots }
@@ -34,7 +35,7 @@ pub trait RingSlots<T: Drop>: Sized {
         self.place(start, len)
     }
 
-    /// The place after a place, counted round the slots.
+    /// Returns the place after a place, counted round the slots.
     fn next(&self, place: usize) -> usize
         requires size { is_size (length (seen self.now).slots) }
         requires place { place < length (seen self.now).slots }
@@ -59,12 +60,12 @@ pub trait RingSlots<T: Drop>: Sized {
         drop(self.take(place));
     }
 
-    /// The item of a full slot.
+    /// Returns the item of a full slot.
     fn get(&self, place: usize) -> &T
         requires { IsFullAt (seen self.now) place }
         ensures { slot_at (seen self.now) place ≡ Some result.now };
 
-    /// The item of a full slot, for writing.
+    /// Lends the item of a full slot for writing.
     fn get_mut(&mut self, place: usize) -> &mut T
         requires { IsFullAt (seen self.old) place }
         ensures* writes_back { sem 𝓛

@@ -45,7 +45,7 @@ impl<T, const CAP: usize> Model for ConstGenericRingBuffer<T, CAP> {
 }
 
 impl<T: Drop, const CAP: usize> ConstGenericRingBuffer<T, CAP> {
-    /// An empty ring.
+    /// Makes an empty ring.
     pub fn new() -> Self
         requires { 0 < CAP }
         ensures { result ≡ record { items = []; changes = 0; capacity = CAP } }
@@ -55,7 +55,7 @@ impl<T: Drop, const CAP: usize> ConstGenericRingBuffer<T, CAP> {
         }
     }
 
-    /// An empty ring.
+    /// Makes an empty ring.
     pub fn default() -> Self
         requires { 0 < CAP }
         ensures { result ≡ record { items = []; changes = 0; capacity = CAP } }
@@ -65,7 +65,7 @@ impl<T: Drop, const CAP: usize> ConstGenericRingBuffer<T, CAP> {
 }
 
 impl<T: Drop, const CAP: usize> Drop for ConstGenericRingBuffer<T, CAP> {
-    // Items are dropped oldest first.
+    // Drops the items, oldest first.
     fn drop(self) {
         let ConstGenericRingBuffer { mut ring } = self;
         ring.clear();
@@ -113,7 +113,7 @@ impl<T: Drop, const CAP: usize> RingBuffer<T> for ConstGenericRingBuffer<T, CAP>
         ensures err { IfErr result (λ x. (x ≡ item) × (self.new.items ≡ self.old.items)) }
         ensures changes { IsSome (Some CAP)
             → ChangesSlots self.old.changes self.old.items self.new.changes self.new.items 1 }
-        ensures within { IsWithin self.new.items (Some CAP) }
+        ensures within { IsWithin self.old.items (Some CAP) }
         ensures succeeds { IsSome (Some CAP) → IsOk result }
         ensures pushes { self.new ≡ after_push CAP self.old item }
 
@@ -181,7 +181,7 @@ impl<T: Drop, const CAP: usize> RingBuffer<T> for ConstGenericRingBuffer<T, CAP>
 impl<T: Drop, const CAP: usize> ConstGenericRingBuffer<T, CAP> {
     ghost use Rattle.ringbuffer.specs.contracts.array.ConstGenericRingBuffer.{the_row};
 
-    // The item at an index below the length, for writing.
+    // Lends the item at an index below the length for writing.
     #[inline]
     fn at_mut(&mut self, index: usize) -> &mut T
         requires { index < length self.old.items }
@@ -248,7 +248,7 @@ impl<T: Drop, const CAP: usize> IndexMut<usize> for ConstGenericRingBuffer<T, CA
 }
 
 impl<T: Drop, const CAP: usize> ConstGenericRingBuffer<T, CAP> {
-    /// A walk over the items, oldest first, from either end.
+    /// Returns a walk over the items, oldest first, from either end.
     #[inline]
     pub fn iter(&self) -> RingBufferIterator<'_, T, Self>
         ensures left { iterator_to_come ⟦<ConstGenericRingBuffer<T, CAP> as RingBuffer<T>>⟧.contents
@@ -259,7 +259,7 @@ impl<T: Drop, const CAP: usize> ConstGenericRingBuffer<T, CAP> {
         RingBufferIterator::new(self)
     }
 
-    /// A cursor that lends the items for writing, one at a time, from either end.
+    /// Returns a cursor that lends the items for writing, one at a time, from either end.
     #[inline]
     pub fn iter_mut(&mut self) -> RingBufferMutIterator<'_, T, Self>
         ensures same_reference { result.ring.ghost_name ≡ self.entry.ghost_name }
@@ -270,7 +270,7 @@ impl<T: Drop, const CAP: usize> ConstGenericRingBuffer<T, CAP> {
         RingBufferMutIterator::new(self)
     }
 
-    /// A walk that takes the items out, oldest first. Those that it didn't hand out stay.
+    /// Returns a walk that takes the items out, oldest first. Those that it didn't hand out stay.
     #[inline]
     pub fn drain(&mut self) -> RingBufferDrainingIterator<'_, T, Self>
         ensures same_reference { result.ring.ghost_name ≡ self.entry.ghost_name }
@@ -282,7 +282,7 @@ impl<T: Drop, const CAP: usize> ConstGenericRingBuffer<T, CAP> {
         RingBufferDrainingIterator::new(self)
     }
 
-    /// A walk that owns the ring, oldest item first.
+    /// Turns the ring into a walk that owns it, oldest item first.
     #[inline]
     pub fn into_iter(self) -> RingBufferIntoIterator<T, Self>
         ensures left { into_iter_to_come ⟦<ConstGenericRingBuffer<T, CAP> as RingBuffer<T>>⟧.contents
@@ -330,7 +330,7 @@ impl<'a, T: Drop, const CAP: usize> IntoIterator for &'a ConstGenericRingBuffer<
 }
 
 impl<T: Clone + Drop, const CAP: usize> ConstGenericRingBuffer<T, CAP> {
-    /// A ring of clones of the items.
+    /// Returns a ring of clones of the items.
     ///
     /// # Errors
     ///

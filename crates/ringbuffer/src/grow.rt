@@ -42,7 +42,7 @@ impl<T> Model for GrowableAllocRingBuffer<T> {
 }
 
 impl<T: Drop> GrowableAllocRingBuffer<T> {
-    /// An empty ring, which has asked for no memory.
+    /// Makes an empty ring, which has asked for no memory.
     pub fn new(alloc: Global) -> Self
         ensures { result ≡ [] }
     {
@@ -51,14 +51,14 @@ impl<T: Drop> GrowableAllocRingBuffer<T> {
         }
     }
 
-    /// Another name for `new`.
+    /// Calls `new`.
     pub fn default(alloc: Global) -> Self
         ensures { result ≡ [] }
     {
         Self::new(alloc)
     }
 
-    /// An empty ring with room for `capacity` items.
+    /// Makes an empty ring with room for `capacity` items.
     ///
     /// # Errors
     ///
@@ -75,19 +75,26 @@ impl<T: Drop> GrowableAllocRingBuffer<T> {
 impl<T: Drop> GrowableAllocRingBuffer<T> {
     ghost use Rattle.ringbuffer.specs.grow.Lends.{lends_deque};
 
-    /// The deque, whose list of items is the contents.
+    /// Returns the deque, whose list of items is the contents.
     pub fn as_ref(&self) -> &VecDeque<T>
         ensures { result.now.items ≡ self.now }
     {
         &self.deque
     }
 
-    /// The deque, for calls that a ring lacks. The ring then holds what the deque holds.
+    /// Lends the deque, for calls that a ring lacks. The ring then holds what the deque holds.
     pub fn as_mut(&mut self) -> &mut VecDeque<T>
         ensures* writes_back { sem 𝓛 (lends_deque T.row self.entry result) }
         ensures value { result.now.items ≡ self.old }
     {
         &mut self.deque
+    }
+
+    /// Turns the ring into its deque, with all items.
+    pub fn into_deque(self) -> VecDeque<T>
+        ensures { result.items ≡ self }
+    {
+        self.deque
     }
 }
 
@@ -337,7 +344,7 @@ impl<T: Copy + Drop> GrowableAllocRingBuffer<T> {
 impl<T: Drop> GrowableAllocRingBuffer<T> {
     ghost use Rattle.ringbuffer.specs.grow.Lends.{lends_items};
 
-    /// The items in two slices, oldest first, as they lie in the deque.
+    /// Returns the items in two slices, oldest first, as they lie in the deque.
     #[inline]
     pub fn as_slices(&self) -> (&[T], &[T])
         ensures items { result.0.now ++ result.1.now ≡ self.now }
@@ -346,7 +353,7 @@ impl<T: Drop> GrowableAllocRingBuffer<T> {
         self.deque.as_slices()
     }
 
-    /// The items in one slice, oldest first, for writing. The deque moves them where they don't lie side by side.
+    /// Lends the items in one slice, oldest first, for writing. The deque moves them where they don't lie side by side.
     pub fn make_contiguous(&mut self) -> &mut [T]
         ensures* writes_back { sem 𝓛 (lends_items T.row self.entry result) }
         ensures value { result.now ≡ self.old }
@@ -354,7 +361,7 @@ impl<T: Drop> GrowableAllocRingBuffer<T> {
         self.deque.make_contiguous()
     }
 
-    /// A walk over the items, oldest first, from either end.
+    /// Returns a walk over the items, oldest first, from either end.
     #[inline]
     pub fn iter(&self) -> RingBufferIterator<'_, T, Self>
         ensures left { iterator_to_come ⟦<GrowableAllocRingBuffer<T> as RingBuffer<T>>⟧.contents
@@ -365,7 +372,7 @@ impl<T: Drop> GrowableAllocRingBuffer<T> {
         RingBufferIterator::new(self)
     }
 
-    /// A cursor that lends the items for writing, one at a time, from either end.
+    /// Returns a cursor that lends the items for writing, one at a time, from either end.
     #[inline]
     pub fn iter_mut(&mut self) -> RingBufferMutIterator<'_, T, Self>
         ensures same_reference { result.ring.ghost_name ≡ self.entry.ghost_name }
@@ -376,7 +383,7 @@ impl<T: Drop> GrowableAllocRingBuffer<T> {
         RingBufferMutIterator::new(self)
     }
 
-    /// A walk that takes the items out, oldest first. Those that it didn't hand out stay.
+    /// Returns a walk that takes the items out, oldest first. Those that it didn't hand out stay.
     #[inline]
     pub fn drain(&mut self) -> RingBufferDrainingIterator<'_, T, Self>
         ensures same_reference { result.ring.ghost_name ≡ self.entry.ghost_name }
@@ -388,7 +395,7 @@ impl<T: Drop> GrowableAllocRingBuffer<T> {
         RingBufferDrainingIterator::new(self)
     }
 
-    /// A walk that owns the ring, oldest item first.
+    /// Turns the ring into a walk that owns it, oldest item first.
     #[inline]
     pub fn into_iter(self) -> RingBufferIntoIterator<T, Self>
         ensures left { into_iter_to_come ⟦<GrowableAllocRingBuffer<T> as RingBuffer<T>>⟧.contents result
@@ -442,7 +449,7 @@ impl<T: Drop> Index<usize> for GrowableAllocRingBuffer<T> {
 
     ghost index_gives = { λ ring i x. Some x ≡ slice_get ring (i % length ring) };
 
-    /// The item at a position. The ring must hold one.
+    /// Returns the item at a position. The ring must hold one.
     fn index(&self, index: usize) -> &T {
         self.get(index).unwrap()
     }
@@ -451,7 +458,7 @@ impl<T: Drop> Index<usize> for GrowableAllocRingBuffer<T> {
 impl<T: Drop> IndexMut<usize> for GrowableAllocRingBuffer<T> {
     ghost use Rattle.ringbuffer.specs.grow.Lends.{lends_item};
 
-    /// The item at a position, for writing. The ring must hold one.
+    /// Lends the item at a position for writing. The ring must hold one.
     fn index_mut(&mut self, index: usize) -> &mut T
         requires { 0 < length self.old }
         ensures* writes_back { sem 𝓛 (lends_item T.row self.entry index result) }
@@ -462,7 +469,7 @@ impl<T: Drop> IndexMut<usize> for GrowableAllocRingBuffer<T> {
 }
 
 impl<T: Clone + Drop> GrowableAllocRingBuffer<T> {
-    /// A ring of clones of the items.
+    /// Returns a ring of clones of the items.
     ///
     /// # Errors
     ///

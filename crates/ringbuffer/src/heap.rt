@@ -55,7 +55,7 @@ impl<T> Model for AllocRingBuffer<T> {
 }
 
 impl<T: Drop> AllocRingBuffer<T> {
-    /// An empty ring of this capacity.
+    /// Makes an empty ring of this capacity.
     ///
     /// # Errors
     ///
@@ -78,7 +78,7 @@ impl<T: Drop> AllocRingBuffer<T> {
         })
     }
 
-    /// Another name for `new`.
+    /// Calls `new`.
     ///
     /// # Errors
     ///
@@ -92,7 +92,7 @@ impl<T: Drop> AllocRingBuffer<T> {
         Self::new(alloc, capacity)
     }
 
-    /// An empty ring of capacity 2 to the power of `exponent`.
+    /// Makes an empty ring of capacity 2 to the power of `exponent`.
     ///
     /// # Errors
     ///
@@ -153,7 +153,7 @@ impl<T: Drop> RingBuffer<T> for AllocRingBuffer<T> {
         ensures overwrites { IfOk result
             (λ old. old ≡ overwritten (Some self.old.capacity) self.old.items) }
         ensures pushes { self.new ≡ after_push self.old.capacity self.old item }
-        ensures within { IsWithin self.new.items (Some self.new.capacity) }
+        ensures within { IsWithin self.old.items (Some self.old.capacity) }
         ensures ok { IsOk result }
 
         // The count that the trait shows is the count of the slots themselves.
@@ -242,7 +242,7 @@ impl<T: Drop> RingBuffer<T> for AllocRingBuffer<T> {
 impl<T: Drop> AllocRingBuffer<T> {
     ghost use Rattle.ringbuffer.specs.contracts.heap.AllocRingBuffer.{the_row};
 
-    // The item at an index below the length, for writing.
+    // Lends the item at an index below the length for writing.
     #[inline]
     fn at_mut(&mut self, index: usize) -> &mut T
         requires { index < length self.old.items }
@@ -331,7 +331,7 @@ impl<T: Drop> Index<usize> for AllocRingBuffer<T> {
 
     ghost index_gives = { λ s i x. slice_get s.items (place (length s.items) i) ≡ Some x };
 
-    /// The item at a position. The ring must hold one.
+    /// Returns the item at a position. The ring must hold one.
     #[inline]
     fn index(&self, index: usize) -> &T {
         self.get(index).unwrap()
@@ -341,7 +341,7 @@ impl<T: Drop> Index<usize> for AllocRingBuffer<T> {
 impl<T: Drop> IndexMut<usize> for AllocRingBuffer<T> {
     ghost use Rattle.ringbuffer.specs.contracts.heap.AllocRingBuffer.{the_row};
 
-    /// The item at a position, for writing. The ring must hold one.
+    /// Lends the item at a position for writing. The ring must hold one.
     #[inline]
     fn index_mut(&mut self, index: usize) -> &mut T
         requires { 0 < length self.old.items }
@@ -358,8 +358,8 @@ impl<T: Drop> IndexMut<usize> for AllocRingBuffer<T> {
 impl<T: Drop> AllocRingBuffer<T> {
     ghost use Rattle.ringbuffer.specs.heap.Lends.{lends_items};
 
-    /// The items in two slices, oldest first: those up to the end of the block, and those that go on at its beginning.
-    /// The second is empty where the items don't reach the end.
+    /// Returns the items in two slices, oldest first: those up to the end of the block, and those that go on at its
+    /// beginning. The second is empty where the items don't reach the end.
     #[inline]
     pub fn as_slices(&self) -> (&[T], &[T])
         ensures items { result.0.now ++ result.1.now ≡ self.now.items }
@@ -368,8 +368,8 @@ impl<T: Drop> AllocRingBuffer<T> {
         self.ring.as_slices()
     }
 
-    /// The items in one slice, oldest first, for writing. Where some go on at the beginning of the block, they are moved
-    /// first, without memory. It counts as four changes an item, moved or not.
+    /// Lends the items in one slice, oldest first, for writing. Where some go on at the beginning of the block, they
+    /// are moved first, without memory. This counts as four changes an item, moved or not.
     pub fn make_contiguous(&mut self) -> &mut [T]
         ensures* writes_back { sem 𝓛 (lends_items T.row self.entry result) }
         ensures value { result.now ≡ self.old.items }
@@ -377,7 +377,7 @@ impl<T: Drop> AllocRingBuffer<T> {
         self.ring.make_contiguous()
     }
 
-    /// A walk over the items, oldest first, from either end.
+    /// Returns a walk over the items, oldest first, from either end.
     #[inline]
     pub fn iter(&self) -> RingBufferIterator<'_, T, Self>
         ensures left { iterator_to_come ⟦<AllocRingBuffer<T> as RingBuffer<T>>⟧.contents result
@@ -388,7 +388,7 @@ impl<T: Drop> AllocRingBuffer<T> {
         RingBufferIterator::new(self)
     }
 
-    /// A cursor that lends the items for writing, one at a time, from either end.
+    /// Returns a cursor that lends the items for writing, one at a time, from either end.
     #[inline]
     pub fn iter_mut(&mut self) -> RingBufferMutIterator<'_, T, Self>
         ensures same_reference { result.ring.ghost_name ≡ self.entry.ghost_name }
@@ -398,7 +398,7 @@ impl<T: Drop> AllocRingBuffer<T> {
         RingBufferMutIterator::new(self)
     }
 
-    /// A walk that takes the items out, oldest first. Those that it didn't hand out stay.
+    /// Returns a walk that takes the items out, oldest first. Those that it didn't hand out stay.
     #[inline]
     pub fn drain(&mut self) -> RingBufferDrainingIterator<'_, T, Self>
         ensures same_reference { result.ring.ghost_name ≡ self.entry.ghost_name }
@@ -410,7 +410,7 @@ impl<T: Drop> AllocRingBuffer<T> {
         RingBufferDrainingIterator::new(self)
     }
 
-    /// A walk that owns the ring, oldest item first.
+    /// Turns the ring into a walk that owns it, oldest item first.
     #[inline]
     pub fn into_iter(self) -> RingBufferIntoIterator<T, Self>
         ensures left { into_iter_to_come ⟦<AllocRingBuffer<T> as RingBuffer<T>>⟧.contents result
@@ -458,7 +458,7 @@ impl<'a, T: Drop> IntoIterator for &'a AllocRingBuffer<T> {
 }
 
 impl<T: Clone + Drop> AllocRingBuffer<T> {
-    /// A ring of the same capacity, of clones of the items.
+    /// Returns a ring of the same capacity, of clones of the items.
     ///
     /// # Errors
     ///
@@ -471,7 +471,7 @@ impl<T: Clone + Drop> AllocRingBuffer<T> {
         Self::of_clones(self.alloc, self.capacity, self.as_slices())
     }
 
-    // A ring of this capacity, of clones of the items of two slices in order.
+    // Makes a ring of this capacity, of clones of the items of two slices in order.
     fn of_clones(alloc: Global, capacity: usize, items: (&[T], &[T])) -> Result<Self, AllocError>
         requires capacity { 0 < capacity }
         requires within { length items.0.now + length items.1.now ≤ capacity }

@@ -13,7 +13,7 @@ use std::alloc::AllocError;
 use std::collections::{LinkedList, VecDeque};
 
 impl<T: Drop, const CAP: usize> ConstGenericRingBuffer<T, CAP> {
-    /// The last `CAP` items of a source that ends, or all where they are fewer. The others are dropped.
+    /// Makes a ring of the last `CAP` items of a source that ends, or all where they are fewer. The others are dropped.
     pub fn from_iter<I: IntoIterator<Item = T>>(items: I) -> Self
     where
         I::IntoIter: Drop,
@@ -28,7 +28,7 @@ impl<T: Drop, const CAP: usize> ConstGenericRingBuffer<T, CAP> {
         ring
     }
 
-    /// The items of an array, moved out of their places, which must all hold one.
+    /// Makes a ring of the items of an array, moved out of their places, which must all hold one.
     pub fn from_array(items: [Option<T>; CAP]) -> Self
         requires capacity { 0 < CAP }
         requires some { All IsSome items }
@@ -39,7 +39,7 @@ impl<T: Drop, const CAP: usize> ConstGenericRingBuffer<T, CAP> {
         ring
     }
 
-    /// The last `CAP` items of a vector, or all where they are fewer. The others are dropped.
+    /// Makes a ring of the last `CAP` items of a vector, or all where they are fewer. The others are dropped.
     pub fn from_vec(items: Vec<T>) -> Self
         requires { 0 < CAP }
         ensures { HoldsLast CAP items.items result }
@@ -47,7 +47,7 @@ impl<T: Drop, const CAP: usize> ConstGenericRingBuffer<T, CAP> {
         Self::from_iter(items)
     }
 
-    /// The last `CAP` items of a deque, or all where they are fewer. The others are dropped.
+    /// Makes a ring of the last `CAP` items of a deque, or all where they are fewer. The others are dropped.
     pub fn from_deque(items: VecDeque<T>) -> Self
         requires { 0 < CAP }
         ensures { HoldsLast CAP items.items result }
@@ -55,7 +55,7 @@ impl<T: Drop, const CAP: usize> ConstGenericRingBuffer<T, CAP> {
         Self::from_vec(items.into_vec())
     }
 
-    /// The last `CAP` items of a linked list, or all where they are fewer. The others are dropped.
+    /// Makes a ring of the last `CAP` items of a linked list, or all where they are fewer. The others are dropped.
     pub fn from_linked_list(items: LinkedList<T>) -> Self
         requires { 0 < CAP }
         ensures { HoldsLast CAP items result }
@@ -63,15 +63,15 @@ impl<T: Drop, const CAP: usize> ConstGenericRingBuffer<T, CAP> {
         Self::from_iter(items)
     }
 
-    /// The last `CAP` items of a growable ring, or all where they are fewer. The others are dropped.
+    /// Makes a ring of the last `CAP` items of a growable ring, or all where they are fewer. The others are dropped.
     pub fn from_growable(ring: GrowableAllocRingBuffer<T>) -> Self
         requires { 0 < CAP }
         ensures { HoldsLast CAP ring result }
     {
-        Self::from_iter(ring)
+        Self::from_deque(ring.into_deque())
     }
 
-    /// The last `CAP` items of a heap ring, or all where they are fewer. The others are dropped.
+    /// Makes a ring of the last `CAP` items of a heap ring, or all where they are fewer. The others are dropped.
     pub fn from_alloc(ring: AllocRingBuffer<T>) -> Self
         requires { 0 < CAP }
         ensures { HoldsLast CAP ring.items result }
@@ -81,7 +81,7 @@ impl<T: Drop, const CAP: usize> ConstGenericRingBuffer<T, CAP> {
 }
 
 impl<const CAP: usize> ConstGenericRingBuffer<char, CAP> {
-    /// The last `CAP` characters of a text, or all where they are fewer.
+    /// Makes a ring of the last `CAP` characters of a text, or all where they are fewer.
     pub fn from_text(text: &str) -> Self
         requires { 0 < CAP }
         ensures { HoldsLast CAP (chars text.now) result }
@@ -89,7 +89,7 @@ impl<const CAP: usize> ConstGenericRingBuffer<char, CAP> {
         Self::from_iter(text.chars())
     }
 
-    /// The last `CAP` characters of a string, or all where they are fewer.
+    /// Makes a ring of the last `CAP` characters of a string, or all where they are fewer.
     pub fn from_string(text: String) -> Self
         requires { 0 < CAP }
         ensures { HoldsLast CAP (chars (string_bytes text)) result }
@@ -99,7 +99,7 @@ impl<const CAP: usize> ConstGenericRingBuffer<char, CAP> {
 }
 
 impl<T: Clone + Drop, const CAP: usize> ConstGenericRingBuffer<T, CAP> {
-    /// Clones of the last `CAP` items of a slice, or of all where they are fewer. Every item is cloned.
+    /// Makes a ring of clones of the last `CAP` items of a slice, or of all where they are fewer. Every item is cloned.
     ///
     /// # Errors
     ///
@@ -116,7 +116,7 @@ impl<T: Clone + Drop, const CAP: usize> ConstGenericRingBuffer<T, CAP> {
         Ok(ring)
     }
 
-    /// As `from_slice`. The slice is as it was.
+    /// Does what `from_slice` does. The slice is as it was.
     ///
     /// # Errors
     ///
@@ -132,7 +132,7 @@ impl<T: Clone + Drop, const CAP: usize> ConstGenericRingBuffer<T, CAP> {
         Self::from_slice(items)
     }
 
-    /// Clones of the items of an array.
+    /// Makes a ring of clones of the items of an array.
     ///
     /// # Errors
     ///
@@ -146,7 +146,7 @@ impl<T: Clone + Drop, const CAP: usize> ConstGenericRingBuffer<T, CAP> {
         Self::from_slice(items)
     }
 
-    /// As `from_array_ref`. The array is as it was.
+    /// Does what `from_array_ref` does. The array is as it was.
     ///
     /// # Errors
     ///

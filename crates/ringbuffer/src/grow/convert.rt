@@ -13,7 +13,7 @@ use std::alloc::{AllocError, Global};
 use std::collections::{LinkedList, VecDeque};
 
 impl<T: Drop> GrowableAllocRingBuffer<T> {
-    /// A ring of a source's items, in order.
+    /// Makes a ring of a source's items, in order.
     ///
     /// # Errors
     ///
@@ -37,7 +37,7 @@ impl<T: Drop> GrowableAllocRingBuffer<T> {
         Ok(ring)
     }
 
-    /// The items of an array, moved out of their places, which must all hold one.
+    /// Makes a ring of the items of an array, moved out of their places, which must all hold one.
     ///
     /// # Errors
     ///
@@ -55,7 +55,7 @@ impl<T: Drop> GrowableAllocRingBuffer<T> {
         Ok(ring)
     }
 
-    /// The items of a vector, in its memory. It is never refused.
+    /// Makes a ring of the items of a vector, in its memory. It is never refused.
     pub fn from_vec(_alloc: Global, items: Vec<T>) -> Result<Self, AllocError>
         ensures ok { IsOk result }
         ensures items { IfOk result (λ ring. ring ≡ items.items) }
@@ -65,7 +65,7 @@ impl<T: Drop> GrowableAllocRingBuffer<T> {
         })
     }
 
-    /// The items of a linked list.
+    /// Makes a ring of the items of a linked list.
     ///
     /// # Errors
     ///
@@ -76,7 +76,7 @@ impl<T: Drop> GrowableAllocRingBuffer<T> {
         Self::from_iter(alloc, items)
     }
 
-    /// The items of a heap ring.
+    /// Makes a ring of the items of a heap ring.
     ///
     /// # Errors
     ///
@@ -87,7 +87,7 @@ impl<T: Drop> GrowableAllocRingBuffer<T> {
         Self::from_iter(alloc, ring)
     }
 
-    /// The items of an array ring.
+    /// Makes a ring of the items of an array ring.
     ///
     /// # Errors
     ///
@@ -103,7 +103,7 @@ impl<T: Drop> GrowableAllocRingBuffer<T> {
 }
 
 impl GrowableAllocRingBuffer<char> {
-    /// The characters of a text.
+    /// Makes a ring of the characters of a text.
     ///
     /// # Errors
     ///
@@ -114,7 +114,7 @@ impl GrowableAllocRingBuffer<char> {
         Self::from_iter(alloc, text.chars())
     }
 
-    /// The characters of a string.
+    /// Makes a ring of the characters of a string.
     ///
     /// # Errors
     ///
@@ -127,7 +127,7 @@ impl GrowableAllocRingBuffer<char> {
 }
 
 impl<T: Clone + Drop> GrowableAllocRingBuffer<T> {
-    /// Clones of the items of a slice.
+    /// Makes a ring of clones of the items of a slice.
     ///
     /// # Errors
     ///
@@ -142,7 +142,7 @@ impl<T: Clone + Drop> GrowableAllocRingBuffer<T> {
         Self::from_vec(alloc, items.to_vec(alloc)?)
     }
 
-    /// As `from_slice`. The slice is as it was.
+    /// Does what `from_slice` does. The slice is as it was.
     ///
     /// # Errors
     ///
@@ -155,7 +155,7 @@ impl<T: Clone + Drop> GrowableAllocRingBuffer<T> {
         Self::from_slice(alloc, items)
     }
 
-    /// Clones of the items of an array.
+    /// Makes a ring of clones of the items of an array.
     ///
     /// # Errors
     ///
@@ -167,7 +167,7 @@ impl<T: Clone + Drop> GrowableAllocRingBuffer<T> {
         Self::from_slice(alloc, items)
     }
 
-    /// As `from_array_ref`. The array is as it was.
+    /// Does what `from_array_ref` does. The array is as it was.
     ///
     /// # Errors
     ///
@@ -187,7 +187,7 @@ impl<T: Clone + Drop> GrowableAllocRingBuffer<T> {
 impl<T: Drop> From<VecDeque<T>> for GrowableAllocRingBuffer<T> {
     ghost from_gives = { λ deque ring. ring ≡ deque.items };
 
-    /// The ring over a deque, which asks for no memory.
+    /// Makes the ring over a deque, which asks for no memory.
     fn from(deque: VecDeque<T>) -> Self {
         GrowableAllocRingBuffer { deque }
     }

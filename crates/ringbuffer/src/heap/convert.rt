@@ -14,7 +14,7 @@ use std::alloc::{AllocError, Global};
 use std::collections::{LinkedList, VecDeque};
 
 impl<T: Drop> AllocRingBuffer<T> {
-    // A ring of this capacity that holds the last items of a source.
+    // Makes a ring of this capacity that holds the last items of a source.
     fn holding<I: IntoIterator<Item = T> + Drop>(
         alloc: Global,
         capacity: usize,
@@ -35,7 +35,8 @@ impl<T: Drop> AllocRingBuffer<T> {
         Ok(ring)
     }
 
-    /// The items of an array, moved out of their places, which must all hold one. Their number is the ring's capacity.
+    /// Makes a ring of the items of an array, moved out of their places, which must all hold one. Their number is the
+    /// ring's capacity.
     ///
     /// # Errors
     ///
@@ -53,7 +54,7 @@ impl<T: Drop> AllocRingBuffer<T> {
         Ok(ring)
     }
 
-    /// The items of a vector, of which there must be one. Their number is the ring's capacity.
+    /// Makes a ring of the items of a vector, of which there must be one. Their number is the ring's capacity.
     ///
     /// # Errors
     ///
@@ -65,7 +66,7 @@ impl<T: Drop> AllocRingBuffer<T> {
         Self::holding(alloc, items.len(), items)
     }
 
-    /// The items of a deque, of which there must be one. Their number is the ring's capacity.
+    /// Makes a ring of the items of a deque, of which there must be one. Their number is the ring's capacity.
     ///
     /// # Errors
     ///
@@ -77,7 +78,7 @@ impl<T: Drop> AllocRingBuffer<T> {
         Self::from_vec(alloc, items.into_vec())
     }
 
-    /// The items of a linked list, of which there must be one. Their number is the ring's capacity.
+    /// Makes a ring of the items of a linked list, of which there must be one. Their number is the ring's capacity.
     ///
     /// # Errors
     ///
@@ -89,7 +90,7 @@ impl<T: Drop> AllocRingBuffer<T> {
         Self::holding(alloc, items.len(), items)
     }
 
-    /// The items of a growable ring, of which there must be one. Their number is the ring's capacity.
+    /// Makes a ring of the items of a growable ring, of which there must be one. Their number is the ring's capacity.
     ///
     /// # Errors
     ///
@@ -101,10 +102,10 @@ impl<T: Drop> AllocRingBuffer<T> {
         requires { 0 < length ring }
         ensures { IfOk result (HoldsAll ring) }
     {
-        Self::holding(alloc, ring.len(), ring)
+        Self::from_deque(alloc, ring.into_deque())
     }
 
-    /// The items of an array ring, of which there must be one. Their number is the ring's capacity.
+    /// Makes a ring of the items of an array ring, of which there must be one. Their number is the ring's capacity.
     ///
     /// # Errors
     ///
@@ -121,7 +122,8 @@ impl<T: Drop> AllocRingBuffer<T> {
 }
 
 impl AllocRingBuffer<char> {
-    /// The characters of a text that isn't empty. The ring's capacity is the number of the text's bytes.
+    /// Makes a ring of the characters of a text that isn't empty. The ring's capacity is the number of the text's
+    /// bytes.
     ///
     /// # Errors
     ///
@@ -134,7 +136,8 @@ impl AllocRingBuffer<char> {
         Self::holding(alloc, text.len(), text.chars())
     }
 
-    /// The characters of a string that isn't empty. The ring's capacity is the number of the string's bytes.
+    /// Makes a ring of the characters of a string that isn't empty. The ring's capacity is the number of the string's
+    /// bytes.
     ///
     /// # Errors
     ///
@@ -149,7 +152,7 @@ impl AllocRingBuffer<char> {
 }
 
 impl<T: Clone + Drop> AllocRingBuffer<T> {
-    /// Clones of the items of a slice, of which there must be one. Their number is the ring's capacity.
+    /// Makes a ring of clones of the items of a slice, of which there must be one. Their number is the ring's capacity.
     ///
     /// # Errors
     ///
@@ -161,7 +164,7 @@ impl<T: Clone + Drop> AllocRingBuffer<T> {
         Self::of_clones(alloc, items.len(), (items, &[]))
     }
 
-    /// As `from_slice`. The slice is as it was.
+    /// Does what `from_slice` does. The slice is as it was.
     ///
     /// # Errors
     ///
@@ -175,7 +178,8 @@ impl<T: Clone + Drop> AllocRingBuffer<T> {
         Self::from_slice(alloc, items)
     }
 
-    /// Clones of the items of an array, of which there must be one. Their number is the ring's capacity.
+    /// Makes a ring of clones of the items of an array, of which there must be one. Their number is the ring's
+    /// capacity.
     ///
     /// # Errors
     ///
@@ -187,7 +191,7 @@ impl<T: Clone + Drop> AllocRingBuffer<T> {
         Self::from_slice(alloc, items)
     }
 
-    /// As `from_array_ref`. The array is as it was.
+    /// Does what `from_array_ref` does. The array is as it was.
     ///
     /// # Errors
     ///
