@@ -183,25 +183,13 @@ impl<T: Drop, S: RingSlots<T>> Fixed<T, S> {
             let (next, old) = Self::put_over(slots, start, len, item);
             (next, len, Some(old))
         } else {
-            Self::put_after(slots, start, len, item);
+            let place = slots.place(start, len);
+            Self::put_at(slots, start, len, place, item);
             (start, len + 1, None)
         }
     }
 
-    // Puts an item after the last.
-    #[inline]
-    pub(crate) fn put_after(slots: &mut S, start: usize, len: usize, item: T)
-        requires laid_out { IsLaidOut S.is_size (S.seen slots.old) start }
-        requires len { len ≡ length (view_from (S.seen slots.old) start).items }
-        requires room { len < length (S.seen slots.old).slots }
-        ensures { LaysOut S.is_size (S.seen slots.old) (S.seen slots.new) start
-            (after_put (view_from (S.seen slots.old) start) item) }
-    {
-        let place = slots.place(start, len);
-        Self::put_at(slots, start, len, place, item);
-    }
-
-    // Puts an item after the last, for a caller that knows the place.
+    // Puts an item after the last, at the place that follows it.
     #[inline]
     pub(crate) fn put_at(slots: &mut S, start: usize, len: usize, place: usize, item: T)
         requires laid_out { IsLaidOut S.is_size (S.seen slots.old) start }

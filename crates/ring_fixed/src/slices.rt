@@ -74,7 +74,8 @@ impl<T: Drop> Fixed<T, HeapSlots<T>> {
         }
         for _ in 0..first {
             let (next, item) = Self::take_from(&mut self.slots, start);
-            Self::put_after(&mut self.slots, next, len - 1, item);
+            let end = self.slots.place(next, len - 1);
+            Self::put_at(&mut self.slots, next, len - 1, end, item);
             start = next;
         }
         self.start = start;

@@ -27,7 +27,7 @@ loop-preserved g c =
     let s = c.args.self.now in let v = view_from s.slots s.start in
     let low : c.loop.counter < length v.items = omega (arith, c.loop-test.true, c.if-len-first.false, c.requires.1) in
     let first : slice_get (turned c.loop.counter v.items) 0 ≡ Some x = sym (ap (λ (w : View _). slice_get w.items 0) so_far.lays_out.shows) ∙ took.value in
-    let moved = LaysOut-then (λ w. after_put w x) (LaysOut-then after_take so_far.lays_out took.after) c.put_after.ensures in
+    let moved = LaysOut-then (λ w. after_put w x) (LaysOut-then after_take so_far.lays_out took.after) c.put_at.ensures in
     record {
       lays_out = rw (after_turns-more c.loop.counter v x low first) at moved;
       start = took.next ∙ rw (so_far.lays_out.same_size, so_far.start) (count_on s.start c.loop.counter 1 (c.loop.counter + 1) (length s.slots.slots) refl);
