@@ -3,6 +3,7 @@ use Rattle.std.specs.Prelude.{◌≡◌, ℕ, ◌+◌, ◌-◌, ◌%◌, ◌<◌
 use Rattle.std.specs.List.{filter_map, range_with_len}
 use Rattle.ring_slots.specs.Slots.{Slots, IsFullAt, slot_at}
 use Rattle.ring_fixed.specs.View.{View}
+use Rattle.ring_fixed.specs.declared.fixed.Span.{Span}
 
 module _ {X : Type 0} where
   -- what the slot holds that lies k places after the start, counted round the slots
@@ -33,9 +34,9 @@ module _ {X : Type 0} where
     pub emptied : (place : ℕ) → from ≤ place → place < to → slot_at new place ≡ None
     pub behind : (place : ℕ) → to ≤ place → slot_at new place ≡ slot_at old place
 
--- the start and the length after so many pushes, by each of which the first item gave way, or by none
-abbrev pub after_pushes : Bool → (start len count size : ℕ) → ℕ × ℕ
-after_pushes full start len count size = if full then ((start + count) % size, len) else (start, len + count)
+-- where the items lie after `count` pushes: onto a full ring the start moves on, otherwise the length grows
+abbrev pub after_pushes : Bool → Span → (count size : ℕ) → Span
+after_pushes full span count size = if full then record span { start = (span.start + count) % size } else record span { len = span.len + count }
 
 module _ {X : Type 0} (is_size : ℕ → Type 0) where
   -- a ring is laid out in these slots from this start on, every other slot is empty, and places can be found
@@ -44,6 +45,14 @@ module _ {X : Type 0} (is_size : ℕ → Type 0) where
     pub start_within : start < length s.slots
     pub fit : length (items_from s.slots start) ≤ length s.slots
     pub layout : SlotsHold s.slots start (items_from s.slots start)
+
+  -- the items lie in these slots where the span says, and one can be pushed onto them up to a capacity
+  pub record CanPush (s : Slots X) (span : Span) (capacity : ℕ) : Type 0 where
+    pub laid_out : IsLaidOut s span.start
+    pub len : span.len ≡ length (view_from s span.start).items
+    pub some : 0 < capacity
+    pub within : span.len ≤ capacity
+    pub room : capacity ≤ length s.slots
 
   -- the same of the slots after a call, from a start of their own, where they are as many as before and show this
   pub record LaysOut (old new : Slots X) (start : ℕ) (v : View X) : Type 0 where

@@ -4,9 +4,9 @@ ghost use Rattle.std.specs.Iterator.{Drains, IsFinite, IsFiniteIterable};
 ghost use Rattle.std.specs.List.{AllZip, FoldsTo};
 ghost use Rattle.ring_fixed.specs.View.{after_put, after_puts, after_take, after_takes, after_push, after_extend, after_extend_from_slice, after_truncate, after_keep_newest, after_clear, after_fill};
 ghost use Rattle.ring_fixed.specs.Sources.{Gives};
-ghost use Rattle.ring_fixed.specs.Layout.{after_pushes, AreFull, Empties, IsLaidOut, LaysOut, view_from};
+ghost use Rattle.ring_fixed.specs.Layout.{after_pushes, AreFull, CanPush, Empties, IsLaidOut, LaysOut, view_from};
 
-use crate::fixed::Fixed;
+use crate::fixed::{Fixed, Span};
 use ring_slots::RingSlots;
 use std::alloc::AllocError;
 
@@ -73,15 +73,14 @@ impl<T: Drop, S: RingSlots<T>> Fixed<T, S> {
             × ChangesTo S.seen S.is_size self.old self.new
             (after_extend capacity (view_of S.seen self.old) xs) }
     {
-        let mut start = self.start;
-        let mut len = self.len;
+        let mut span = self.span();
         for item in items {
             let old;
-            (start, len, old) = Self::push_from(&mut self.slots, start, len, item, capacity);
+            (span, old) = Self::push_from(&mut self.slots, span, item, capacity);
             drop(old);
         }
-        self.start = start;
-        self.len = len;
+        self.start = span.start;
+        self.len = span.len;
     }
 
     /// Drops all items, and pushes as many results of `make` as the capacity says. An item counts once it is stored.
@@ -152,22 +151,24 @@ impl<T: Drop, S: RingSlots<T>> Fixed<T, S> {
 
     // Puts copies of items behind the last, side by side from a place on.
     #[inline]
-    fn put_copies(slots: &mut S, start: usize, len: usize, place: usize, items: &[T])
+    fn put_copies(slots: &mut S, span: Span, place: usize, items: &[T])
     where
         T: Copy,
-        requires laid_out { IsLaidOut S.is_size (S.seen slots.old) start }
-        requires len { len ≡ length (view_from (S.seen slots.old) start).items }
-        requires room { len + length items.now ≤ length (S.seen slots.old).slots }
+        requires laid_out { IsLaidOut S.is_size (S.seen slots.old) span.start }
+        requires len { span.len ≡ length (view_from (S.seen slots.old) span.start).items }
+        requires room { span.len + length items.now ≤ length (S.seen slots.old).slots }
         requires place { 0 < length items.now
-            → place ≡ (start + len) % length (S.seen slots.old).slots }
+            → place ≡ (span.start + span.len) % length (S.seen slots.old).slots }
         requires straight { place + length items.now ≤ length (S.seen slots.old).slots }
-        ensures { LaysOut S.is_size (S.seen slots.old) (S.seen slots.new) start
-            (after_puts items.now (view_from (S.seen slots.old) start)) }
+        ensures { LaysOut S.is_size (S.seen slots.old) (S.seen slots.new) span.start
+            (after_puts items.now (view_from (S.seen slots.old) span.start)) }
     {
         // A number of slots is a word, and so is each place.
         let _size = slots.size();
+        let Span { start, len } = span;
         for i in 0..items.len() {
-            Self::put_at(slots, start, len + i, place + i, items[i]);
+            let len = len + i;
+            Self::put_at(slots, Span { start, len }, place + i, items[i]);
         }
     }
 
@@ -211,82 +212,72 @@ impl<T: Drop, S: RingSlots<T>> Fixed<T, S> {
         ensures { LaysOut S.is_size (S.seen slots.old) (S.seen slots.new) 0
             (after_put (view_from (S.seen slots.old) 0) item) }
     {
-        Self::put_at(slots, 0, len, len, item);
+        Self::put_at(slots, Span { start: 0, len }, len, item);
     }
 
-    // Pushes the items of a source that ends, in order. Returns the start and the length then. The slots are written run
-    // by run, which the compiler makes a loop with neither a mask nor a comparison of the length.
+    // Pushes the items of a source that ends, in order. Returns where the items lie then. The slots are written run by
+    // run, which the compiler makes a loop with neither a mask nor a comparison of the length.
     #[inline]
     fn push_all<I: Iterator<Item = T> + Drop>(
         slots: &mut S,
-        start: usize,
-        len: usize,
+        span: Span,
         mut items: I,
         capacity: usize,
-    ) -> (usize, usize)
+    ) -> Span
         requires can_next { I.can_next items }
         requires ends { IsFinite (I.remaining items) }
-        requires laid_out { IsLaidOut S.is_size (S.seen slots.old) start }
-        requires len { len ≡ length (view_from (S.seen slots.old) start).items }
-        requires some { 0 < capacity }
-        requires within { len ≤ capacity }
-        requires room { capacity ≤ length (S.seen slots.old).slots }
+        requires can_push { CanPush S.is_size (S.seen slots.old) span capacity }
         ensures { (xs : List T) × Drains I.next_gives items xs
-            × LaysOut S.is_size (S.seen slots.old) (S.seen slots.new) result.0
-            (after_extend capacity (view_from (S.seen slots.old) start) xs)
-            × (result.1
-            ≡ length (after_extend capacity (view_from (S.seen slots.old) start) xs).items) }
+            × LaysOut S.is_size (S.seen slots.old) (S.seen slots.new) result.start
+            (after_extend capacity (view_from (S.seen slots.old) span.start) xs)
+            × (result.len
+            ≡ length (after_extend capacity (view_from (S.seen slots.old) span.start) xs).items) }
     {
-        let (mut start, mut len) = (start, len);
+        let mut span = span;
         while let Some(item) = items.next() {
-            let (next, len_then, old) = Self::push_from(slots, start, len, item, capacity);
+            let (next, old) = Self::push_from(slots, span, item, capacity);
             drop(old);
             let more;
-            (start, len, more) = Self::push_run(slots, next, len_then, &mut items, capacity);
+            (span, more) = Self::push_run(slots, next, &mut items, capacity);
             if !more {
-                return (start, len);
+                return span;
             }
         }
-        (start, len)
+        span
     }
 
-    // Pushes the next items of a source up to the last slot, or to the capacity where the ring isn't full. Returns the
-    // start and the length then, and whether more may come.
+    // Pushes the next items of a source up to the last slot, or to the capacity where the ring isn't full. Returns where
+    // the items lie then, and whether more may come.
     #[inline]
     fn push_run<I: Iterator<Item = T>>(
         slots: &mut S,
-        start: usize,
-        len: usize,
+        span: Span,
         items: &mut I,
         capacity: usize,
-    ) -> (usize, usize, bool)
+    ) -> (Span, bool)
         requires can_next { I.can_next items.old }
         requires ends { IsFinite (I.remaining items.old) }
-        requires laid_out { IsLaidOut S.is_size (S.seen slots.old) start }
-        requires len { len ≡ length (view_from (S.seen slots.old) start).items }
-        requires some { 0 < capacity }
-        requires within { len ≤ capacity }
-        requires room { capacity ≤ length (S.seen slots.old).slots }
+        requires can_push { CanPush S.is_size (S.seen slots.old) span capacity }
         ensures { (xs : List T)
-            × Gives I.can_next I.next_gives I.remaining result.2 items.old xs items.new
-            × LaysOut S.is_size (S.seen slots.old) (S.seen slots.new) result.0
-            (after_extend capacity (view_from (S.seen slots.old) start) xs)
-            × (result.1
-            ≡ length (after_extend capacity (view_from (S.seen slots.old) start) xs).items) }
+            × Gives I.can_next I.next_gives I.remaining result.1 items.old xs items.new
+            × LaysOut S.is_size (S.seen slots.old) (S.seen slots.new) result.0.start
+            (after_extend capacity (view_from (S.seen slots.old) span.start) xs)
+            × (result.0.len
+            ≡ length (after_extend capacity (view_from (S.seen slots.old) span.start) xs).items) }
     {
-        let full = len == capacity;
-        let end = slots.place_after(start, len);
-        let count = Self::pushes_to_end(slots.size(), end, capacity - len, full);
+        let full = span.len == capacity;
+        let end = slots.place_after(span.start, span.len);
+        let count = Self::pushes_to_end(slots.size(), end, capacity - span.len, full);
         for i in 0..count {
             let Some(item) = items.next() else {
-                let (first, len) = Self::after_pushes(slots, start, len, i, full);
-                return (first, len, false);
+                let now = Self::after_pushes(slots, span, i, full);
+                return (now, false);
             };
-            let (first, len) = Self::after_pushes(slots, start, len, i, full);
-            Self::push_at(slots, first, len, end + i, item, full);
+            let now = Self::after_pushes(slots, span, i, full);
+            Self::push_at(slots, now, end + i, item, full);
         }
-        let (first, len) = Self::after_pushes(slots, start, len, count, full);
-        (first, len, true)
+        let now = Self::after_pushes(slots, span, count, full);
+        (now, true)
     }
 
     // Returns the number of pushes up to the last slot, or to the capacity if the ring isn't full.
@@ -303,48 +294,50 @@ impl<T: Drop, S: RingSlots<T>> Fixed<T, S> {
         }
     }
 
-    // Returns the start and the length after `count` pushes: onto a full ring the start moves on, otherwise the length
-    // grows.
+    // Returns where the items lie after `count` pushes: onto a full ring the start moves on, otherwise the length grows.
     #[inline]
-    fn after_pushes(slots: &S, start: usize, len: usize, count: usize, full: bool) -> (usize, usize)
+    fn after_pushes(slots: &S, span: Span, count: usize, full: bool) -> Span
         requires size { S.is_size (length (S.seen slots.now).slots) }
-        requires start { start < length (S.seen slots.now).slots }
+        requires start { span.start < length (S.seen slots.now).slots }
         requires count { count ≤ length (S.seen slots.now).slots }
-        requires fits { full ≡ false → len + count < 2 ^ 64 }
-        ensures { result ≡ after_pushes full start len count (length (S.seen slots.now).slots) }
+        requires fits { full ≡ false → span.len + count < 2 ^ 64 }
+        ensures { result ≡ after_pushes full span count (length (S.seen slots.now).slots) }
     {
+        let Span { start, len } = span;
         if full {
-            (slots.place(start, count), len)
+            let start = slots.place(start, count);
+            Span { start, len }
         } else {
-            (start, len + count)
+            let len = len + count;
+            Span { start, len }
         }
     }
 
     // Pushes an item, where the place after the last is known, and whether the first gives way.
     #[inline]
-    fn push_at(slots: &mut S, start: usize, len: usize, place: usize, item: T, full: bool)
-        requires laid_out { IsLaidOut S.is_size (S.seen slots.old) start }
-        requires len { len ≡ length (view_from (S.seen slots.old) start).items }
-        requires some { full ≡ true → 0 < len }
-        requires room { full ≡ false → len < length (S.seen slots.old).slots }
-        requires place { place ≡ (start + len) % length (S.seen slots.old).slots }
+    fn push_at(slots: &mut S, span: Span, place: usize, item: T, full: bool)
+        requires laid_out { IsLaidOut S.is_size (S.seen slots.old) span.start }
+        requires len { span.len ≡ length (view_from (S.seen slots.old) span.start).items }
+        requires some { full ≡ true → 0 < span.len }
+        requires room { full ≡ false → span.len < length (S.seen slots.old).slots }
+        requires place { place ≡ (span.start + span.len) % length (S.seen slots.old).slots }
         ensures { LaysOut S.is_size (S.seen slots.old) (S.seen slots.new)
-            (if full then (start + 1) % length (S.seen slots.old).slots else start)
-            (if full then after_put (after_take (view_from (S.seen slots.old) start)) item
-            else after_put (view_from (S.seen slots.old) start) item) }
+            (if full then (span.start + 1) % length (S.seen slots.old).slots else span.start)
+            (if full then after_put (after_take (view_from (S.seen slots.old) span.start)) item
+            else after_put (view_from (S.seen slots.old) span.start) item) }
     {
         if full {
-            let (next, old) = Self::take_from(slots, start);
-            Self::put_at(slots, next, len - 1, place, item);
+            let (start, old) = Self::take_from(slots, span.start);
+            let len = span.len - 1;
+            Self::put_at(slots, Span { start, len }, place, item);
             drop(old);
         } else {
-            Self::put_at(slots, start, len, place, item);
+            Self::put_at(slots, span, place, item);
         }
     }
 }
 
-// The same on a ring that is held by value. Their loops keep its fields in registers: behind a `&mut` the compiler can't
-// tell the fields from an item's slot, and reads each of them again after each item that is stored.
+// These calls own the ring, in the form that `replace_with` takes, so that their loops keep its fields in registers.
 impl<T: Drop, S: RingSlots<T>> Fixed<T, S> {
     ghost use Rattle.ring_fixed.specs.fixed.Sound.{view_of, IsSound, ChangesTo};
 
@@ -364,15 +357,10 @@ impl<T: Drop, S: RingSlots<T>> Fixed<T, S> {
             (after_extend given.1 (view_of S.seen self) xs) }
     {
         let (items, capacity) = given;
-        let (start, len) = Self::push_all(
-            &mut self.slots,
-            self.start,
-            self.len,
-            items.into_iter(),
-            capacity,
-        );
-        self.start = start;
-        self.len = len;
+        let span = self.span();
+        let span = Self::push_all(&mut self.slots, span, items.into_iter(), capacity);
+        self.start = span.start;
+        self.len = span.len;
         (self, ())
     }
 
@@ -392,8 +380,9 @@ impl<T: Drop, S: RingSlots<T>> Fixed<T, S> {
         let (start, len) = (self.start, self.len);
         let end = self.slots.place_after(start, len);
         let (first, second) = newest.split_at(newest.len().min(self.slots.size() - end));
-        Self::put_copies(&mut self.slots, start, len, end, first);
-        Self::put_copies(&mut self.slots, start, len + first.len(), 0, second);
+        Self::put_copies(&mut self.slots, Span { start, len }, end, first);
+        let held = len + first.len();
+        Self::put_copies(&mut self.slots, Span { start, len: held }, 0, second);
         self.len = len + newest.len();
         (self, ())
     }

@@ -3,10 +3,20 @@ ghost use Rattle.std.specs.Prelude.{◌≡◌, ◌+◌, ◌-◌, ◌%◌, ◌<�
 ghost use Rattle.std.specs.Borrow.{Lends, sem};
 ghost use Rattle.ring_core.specs.Contents.{overwritten};
 ghost use Rattle.ring_fixed.specs.View.{after_put, after_take, after_pop, after_push};
-ghost use Rattle.ring_fixed.specs.Layout.{IsLaidOut, LaysOut, view_from};
+ghost use Rattle.ring_fixed.specs.Layout.{CanPush, IsLaidOut, LaysOut, view_from};
 
 use ring_slots::RingSlots;
 use std::marker::PhantomData;
+
+/// Where the items of a ring lie: `len` of them, in the slots from `start` on, counted round.
+///
+/// The calls that run in a loop take and return it as a value: behind a `&mut` the compiler can't tell a ring's fields
+/// from an item's slot, and would read each field again after each item that is stored.
+#[derive(Clone, Copy)]
+pub(crate) struct Span {
+    pub(crate) start: usize,
+    pub(crate) len: usize,
+}
 
 /// `len` items in the slots from `start` on. All other slots are empty.
 #[derive(Drop)]
@@ -81,18 +91,12 @@ impl<T: Drop, S: RingSlots<T>> Fixed<T, S> {
         ensures after { ChangesTo S.seen S.is_size self.old self.new
             (after_push capacity (view_of S.seen self.old) item) }
     {
-        let before = self.len;
-        let (start, len, old) = Self::push_from(
-            &mut self.slots,
-            self.start,
-            before,
-            item,
-            capacity,
-        );
-        self.start = start;
+        let before = self.span();
+        let (after, old) = Self::push_from(&mut self.slots, before, item, capacity);
+        self.start = after.start;
         // A full ring keeps its length, and has one store less to make.
-        if len != before {
-            self.len = len;
+        if after.len != before.len {
+            self.len = after.len;
         }
         old
     }
@@ -158,62 +162,72 @@ impl<T: Drop, S: RingSlots<T>> Fixed<T, S> {
         self.slots.get_mut(place)
     }
 
-    // Pushes an item onto `len` items. Returns the start and the length after it, and the item that gave way.
+    // Returns where the items lie.
+    #[inline]
+    pub(crate) fn span(&self) -> Span
+        ensures start { result.start ≡ self.now.start }
+        ensures len { result.len ≡ self.now.len }
+    {
+        Span {
+            start: self.start,
+            len: self.len,
+        }
+    }
+
+    // Pushes an item. Returns where the items lie then, and the item that gave way.
     #[inline]
     pub(crate) fn push_from(
         slots: &mut S,
-        start: usize,
-        len: usize,
+        span: Span,
         item: T,
         capacity: usize,
-    ) -> (usize, usize, Option<T>)
-        requires laid_out { IsLaidOut S.is_size (S.seen slots.old) start }
-        requires len { len ≡ length (view_from (S.seen slots.old) start).items }
-        requires some { 0 < capacity }
-        requires within { len ≤ capacity }
-        requires room { capacity ≤ length (S.seen slots.old).slots }
-        ensures after { LaysOut S.is_size (S.seen slots.old) (S.seen slots.new) result.0
-            (after_push capacity (view_from (S.seen slots.old) start) item) }
-        ensures len { result.1
-            ≡ length (after_push capacity (view_from (S.seen slots.old) start) item).items }
-        ensures value { result.2
-            ≡ overwritten (Some capacity) (view_from (S.seen slots.old) start).items }
+    ) -> (Span, Option<T>)
+        requires { CanPush S.is_size (S.seen slots.old) span capacity }
+        ensures after { LaysOut S.is_size (S.seen slots.old) (S.seen slots.new) result.0.start
+            (after_push capacity (view_from (S.seen slots.old) span.start) item) }
+        ensures len { result.0.len
+            ≡ length (after_push capacity (view_from (S.seen slots.old) span.start) item).items }
+        ensures value { result.1
+            ≡ overwritten (Some capacity) (view_from (S.seen slots.old) span.start).items }
     {
+        let Span { start, len } = span;
         if len == capacity {
-            let (next, old) = Self::put_over(slots, start, len, item);
-            (next, len, Some(old))
+            let (start, old) = Self::put_over(slots, span, item);
+            (Span { start, len }, Some(old))
         } else {
             let place = slots.place(start, len);
-            Self::put_at(slots, start, len, place, item);
-            (start, len + 1, None)
+            Self::put_at(slots, span, place, item);
+            let len = len + 1;
+            (Span { start, len }, None)
         }
     }
 
     // Puts an item after the last, at the place that follows it.
     #[inline]
-    pub(crate) fn put_at(slots: &mut S, start: usize, len: usize, place: usize, item: T)
-        requires laid_out { IsLaidOut S.is_size (S.seen slots.old) start }
-        requires len { len ≡ length (view_from (S.seen slots.old) start).items }
-        requires room { len < length (S.seen slots.old).slots }
-        requires place { place ≡ (start + len) % length (S.seen slots.old).slots }
-        ensures { LaysOut S.is_size (S.seen slots.old) (S.seen slots.new) start
-            (after_put (view_from (S.seen slots.old) start) item) }
+    pub(crate) fn put_at(slots: &mut S, span: Span, place: usize, item: T)
+        requires laid_out { IsLaidOut S.is_size (S.seen slots.old) span.start }
+        requires len { span.len ≡ length (view_from (S.seen slots.old) span.start).items }
+        requires room { span.len < length (S.seen slots.old).slots }
+        requires place { place ≡ (span.start + span.len) % length (S.seen slots.old).slots }
+        ensures { LaysOut S.is_size (S.seen slots.old) (S.seen slots.new) span.start
+            (after_put (view_from (S.seen slots.old) span.start) item) }
     {
         slots.put(place, item);
     }
 
     // Puts an item after the last once the first has given way. Returns the next start and the item that was first.
     #[inline]
-    pub(crate) fn put_over(slots: &mut S, start: usize, len: usize, item: T) -> (usize, T)
-        requires laid_out { IsLaidOut S.is_size (S.seen slots.old) start }
-        requires len { len ≡ length (view_from (S.seen slots.old) start).items }
-        requires some { 0 < len }
-        ensures value { slice_get (view_from (S.seen slots.old) start).items 0 ≡ Some result.1 }
+    pub(crate) fn put_over(slots: &mut S, span: Span, item: T) -> (usize, T)
+        requires laid_out { IsLaidOut S.is_size (S.seen slots.old) span.start }
+        requires len { span.len ≡ length (view_from (S.seen slots.old) span.start).items }
+        requires some { 0 < span.len }
+        ensures value { slice_get (view_from (S.seen slots.old) span.start).items 0
+            ≡ Some result.1 }
         ensures after { LaysOut S.is_size (S.seen slots.old) (S.seen slots.new) result.0
-            (after_put (after_take (view_from (S.seen slots.old) start)) item) }
+            (after_put (after_take (view_from (S.seen slots.old) span.start)) item) }
     {
-        let place = slots.place_after(start, len);
-        let (next, old) = Self::take_from(slots, start);
+        let place = slots.place_after(span.start, span.len);
+        let (next, old) = Self::take_from(slots, span.start);
         slots.put(place, item);
         (next, old)
     }

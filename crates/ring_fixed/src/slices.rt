@@ -5,7 +5,7 @@ ghost use Rattle.std.specs.Cmp.Lexicographic.{pointwise};
 ghost use Rattle.std.specs.Int.{IsPowerOfTwo};
 ghost use Rattle.std.specs.List.{AllZip};
 
-use crate::fixed::Fixed;
+use crate::fixed::{Fixed, Span};
 use ring_slots::{HeapSlots, RingSlots};
 use std::alloc::{AllocError, Global};
 use std::vec::{Vec, VecCloneMethods};
@@ -36,7 +36,13 @@ impl<T: Drop> Fixed<T, HeapSlots<T>> {
         ensures value { result.now ≡ (view_of (λ s. s) self.old).items }
     {
         let len = self.len;
-        let changes = self.slots.changes().after(len).after(len).after(len).after(len);
+        let changes = self
+            .slots
+            .changes()
+            .after(len)
+            .after(len)
+            .after(len)
+            .after(len);
         self.straighten();
         let start = self.start;
         self.slots.run_mut(start, len, changes)
@@ -75,7 +81,11 @@ impl<T: Drop> Fixed<T, HeapSlots<T>> {
         for _ in 0..first {
             let (next, item) = Self::take_from(&mut self.slots, start);
             let end = self.slots.place(next, len - 1);
-            Self::put_at(&mut self.slots, next, len - 1, end, item);
+            let others = Span {
+                start: next,
+                len: len - 1,
+            };
+            Self::put_at(&mut self.slots, others, end, item);
             start = next;
         }
         self.start = start;

@@ -10,5 +10,5 @@ loop-item-preserved g c =
     let is = after_extend-more c.args.capacity v c.loop-item.yielded c.in-Some.item in
     let after = rw is at (LaysOut-then (λ w. after_push c.args.capacity w c.in-Some.item) c.loop-item.invariant.lays_out pushed.after) in
     let all = v.items ++ (c.loop-item.yielded ++ c.in-Some.item ∷ []) in let over = length all - c.args.capacity in
-    let len : c.push_from.result.1 ≡ length (drop over all) = pushed.len ∙ ap (λ (w : View _). length w.items) (sym pushed.after.shows ∙ after.shows) in
+    let len : c.push_from.result.0.len ≡ length (drop over all) = pushed.len ∙ ap (λ (w : View _). length w.items) (sym pushed.after.shows ∙ after.shows) in
     record { can_next = search rules; ends = search rules; lays_out = after; len = len; within = omega (arith, len, length-drop over all) }

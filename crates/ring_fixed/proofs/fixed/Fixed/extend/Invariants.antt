@@ -8,7 +8,7 @@ invariant-loop-item g l =
     record {
       can_next : (goal.iterator-loop-item g).can_next l.item-iterator;
       ends : (goal.iterator-loop-item g).is_finite l.item-iterator;
-      lays_out : LaysOut g.S.RingSlots.is_size (g.S.RingSlots.seen l.initial.self.slots) (g.S.RingSlots.seen l.self.slots) l.start now;
-      len : l.len ≡ length now.items;
-      within : l.len ≤ l.fn.capacity;
+      lays_out : LaysOut g.S.RingSlots.is_size (g.S.RingSlots.seen l.initial.self.slots) (g.S.RingSlots.seen l.self.slots) l.span.start now;
+      len : l.span.len ≡ length now.items;
+      within : l.span.len ≤ l.fn.capacity;
     }

@@ -19,11 +19,11 @@ pub returns-then-not-more : goal.returns-then-not-more
 returns-then-not-more g c =
     let (xs, given, lays_out, counted) = c.loop-item.invariant in let (ys, more, run, long) = rw c.if-not-more.true at c.push_run.ensures in
     let one = Gives-one g.I.Iterator _ _ c.in-Some.item c.in-Some.ensures.steps c.in-Some.ensures.goes c.loop-item.iterator.1 in
-    let (zs, ended, all, many) = run_pushed g.I.Iterator c.args.capacity (view_from (g.S.RingSlots.seen c.args.slots.now) c.args.start) false _ _ _ _ xs c.in-Some.item ys given one more lays_out c.push_from-next.ensures.after run long in
+    let (zs, ended, all, many) = run_pushed g.I.Iterator c.args.capacity (view_from (g.S.RingSlots.seen c.args.slots.now) c.args.span.start) false _ _ _ _ xs c.in-Some.item ys given one more lays_out c.push_from-old.ensures.after run long in
     (zs, (_, ended), all, many)
 
 pub loop-item-preserved : goal.loop-item-preserved
 loop-item-preserved g c =
     let (xs, given, lays_out, counted) = c.loop-item.invariant in let (ys, more, run, long) = rw c.if-not-more.false at c.push_run.ensures in
     let one = Gives-one g.I.Iterator _ _ c.in-Some.item c.in-Some.ensures.steps c.in-Some.ensures.goes c.loop-item.iterator.1 in
-    run_pushed g.I.Iterator c.args.capacity (view_from (g.S.RingSlots.seen c.args.slots.now) c.args.start) true _ _ _ _ xs c.in-Some.item ys given one more lays_out c.push_from-next.ensures.after run long
+    run_pushed g.I.Iterator c.args.capacity (view_from (g.S.RingSlots.seen c.args.slots.now) c.args.span.start) true _ _ _ _ xs c.in-Some.item ys given one more lays_out c.push_from-old.ensures.after run long

@@ -4,7 +4,7 @@ use Rattle.ring_fixed.proofs.fixed.Fixed.push_all.Given as goal
 
 abbrev pub invariant-loop-item : goal.invariant-loop-item
 invariant-loop-item g l =
-    let v = view_from (g.S.RingSlots.seen l.fn.slots) l.fn.start in
+    let v = view_from (g.S.RingSlots.seen l.fn.slots) l.fn.span.start in
     (xs : List _) × Gives g.I.Iterator.can_next g.I.Iterator.next_gives g.I.Iterator.remaining true l.fn.items xs l.items
-    × LaysOut g.S.RingSlots.is_size (g.S.RingSlots.seen l.fn.slots) (g.S.RingSlots.seen l.slots) l.start (after_extend l.capacity v xs)
-    × (l.len ≡ length (after_extend l.capacity v xs).items)
+    × LaysOut g.S.RingSlots.is_size (g.S.RingSlots.seen l.fn.slots) (g.S.RingSlots.seen l.slots) l.span.start (after_extend l.capacity v xs)
+    × (l.span.len ≡ length (after_extend l.capacity v xs).items)

@@ -6,4 +6,4 @@ abbrev pub invariant-loop-i : goal.invariant-loop-i
 invariant-loop-i g l =
     let old = g.S.RingSlots.seen l.initial.slots in
     (xs : List _) × Gives g.I.Iterator.can_next g.I.Iterator.next_gives g.I.Iterator.remaining true l.initial.items xs l.items × (length xs ≡ l.i)
-    × LaysOut g.S.RingSlots.is_size old (g.S.RingSlots.seen l.slots) (after_pushes l.full l.start l.len l.i (length old.slots)).0 (after_extend l.capacity (view_from old l.start) xs)
+    × LaysOut g.S.RingSlots.is_size old (g.S.RingSlots.seen l.slots) (after_pushes l.full l.span l.i (length old.slots)).start (after_extend l.capacity (view_from old l.span.start) xs)
