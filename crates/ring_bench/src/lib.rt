@@ -2,6 +2,7 @@
 #![tactic(auto)]
 
 pub mod conditions;
+pub mod counts;
 pub mod sums;
 #[cfg(test)]
 mod tests;

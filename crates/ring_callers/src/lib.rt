@@ -2,6 +2,5 @@
 #![tactic(auto)]
 
 pub mod callers;
-pub mod counts;
 pub mod everyday;
 pub mod headline;

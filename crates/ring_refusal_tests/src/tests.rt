@@ -4,6 +4,7 @@
 
 mod counted;
 mod dropping;
+mod own;
 mod refused;
 mod scarce;
 

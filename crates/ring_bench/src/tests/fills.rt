@@ -204,8 +204,9 @@ impl<Rt: Abort + AllocGlobal> Case<Rt> for FillsItsRoomByClones {
 }
 
 #[test]
-fn other_fills_of_a_growable_ring_fill_it_too(rt: HostRuntime) -> Result<(), AllocError> {
-    Rings::<100>::growable(&rt, &FillsItsRoomByClones)
+fn other_fills_fill_a_ring_too(rt: HostRuntime) -> Result<(), AllocError> {
+    Rings::<1>::each(&rt, &FillsItsRoomByClones)?;
+    Rings::<100>::each(&rt, &FillsItsRoomByClones)
 }
 
 #[test]

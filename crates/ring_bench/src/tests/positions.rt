@@ -3,8 +3,8 @@
 use super::{Steps, assert_equal, assert_steps, each, fixed, growable, push_all};
 use ring_test_support::rings::{Case, Rings};
 use ring_test_support::steps::Step::{
-    Back, BackMut, Dequeue, DequeueAll, Front, FrontMut, Get, GetMut, GetMutSigned, GetSigned,
-    Holds, Len, Peek, PushAll, Write, WriteBack, WriteFront, WriteSigned,
+    Back, BackMut, Clear, Dequeue, DequeueAll, Extend, Front, FrontMut, Get, GetMut, GetMutSigned,
+    GetSigned, Holds, Len, Peek, PushAll, Write, WriteBack, WriteFront, WriteSigned,
 };
 use ring_test_support::steps::{Step, first_fault};
 use ringbuffer::{AllocRingBuffer, ConstGenericRingBuffer, GrowableAllocRingBuffer, RingBuffer};
@@ -345,25 +345,52 @@ fn assert_indexed<R: Indexed>(rt: &impl Abort, mut ring: R) {
     ring.write_at(rt, 3, 9);
     assert_equal(rt, ring.at(rt, 5), 7);
     assert_steps(rt, &mut ring, &[Holds(&[9, 6, 7])]);
+    assert_steps(rt, &mut ring, WRITTEN_BELOW_ZERO);
+    ring.write_at(rt, 4, 8);
+    assert_steps(rt, &mut ring, &[Holds(&[1, 8, 9])]);
+}
+
+/// Leaves three items, of which the newest was written at a position below zero.
+const WRITTEN_BELOW_ZERO: &[Step] = &[
+    Clear,
+    PushAll(&[1, 2, 3]),
+    WriteSigned(-4, 9),
+    Holds(&[1, 2, 9]),
+];
+
+/// Reads by indexes what an extension of a full ring of zeros leaves.
+fn assert_extended<R: Indexed>(
+    rt: &impl Abort,
+    mut ring: R,
+    source: &'static [i64],
+    left: &[i64],
+) {
+    assert!(rt; ring.fill(0).is_ok());
+    assert_steps(rt, &mut ring, &[Extend(source)]);
+    for (index, item) in left.iter().enumerate() {
+        assert_equal(rt, (index, ring.at(rt, index)), (index, *item));
+    }
 }
 
 #[test]
-fn an_array_ring_is_indexed_by_positions(rt: HostRuntime) {
+fn an_extension_is_read_by_indexes(rt: HostRuntime) -> Result<(), AllocError> {
+    let alloc = rt.alloc();
+    let (source, left) = (&[0, 1, 2], &[0, 0, 1, 2]);
+    assert_extended(&rt, ConstGenericRingBuffer::<i64, 4>::new(), source, left);
+    assert_extended(&rt, AllocRingBuffer::new(alloc, 4)?, source, left);
+    let (source, left) = (&[0, 1, 2, 3, 4, 5, 6, 7, 8, 9], &[2, 3, 4, 5, 6, 7, 8, 9]);
+    assert_extended(&rt, ConstGenericRingBuffer::<i64, 8>::new(), source, left);
+    assert_extended(&rt, AllocRingBuffer::new(alloc, 8)?, source, left);
+    Ok(())
+}
+
+#[test]
+fn rings_are_indexed_by_positions(rt: HostRuntime) -> Result<(), AllocError> {
+    let alloc = rt.alloc();
     assert_indexed(&rt, ConstGenericRingBuffer::<i64, 8>::new());
-}
-
-#[test]
-fn a_heap_ring_is_indexed_by_positions(rt: HostRuntime) {
-    assert_indexed(
-        &rt,
-        AllocRingBuffer::new(rt.alloc(), 8).expect(&rt, "memory"),
-    );
-}
-
-#[test]
-fn a_growable_ring_is_indexed_by_positions(rt: HostRuntime) {
-    let ring = GrowableAllocRingBuffer::with_capacity(rt.alloc(), 8).expect(&rt, "memory");
-    assert_indexed(&rt, ring);
+    assert_indexed(&rt, AllocRingBuffer::new(alloc, 8)?);
+    assert_indexed(&rt, GrowableAllocRingBuffer::with_capacity(alloc, 8)?);
+    Ok(())
 }
 
 const WRITES_NAME_PLACES: &[Step] = &[

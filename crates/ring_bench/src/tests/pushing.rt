@@ -120,11 +120,11 @@ fn a_new_ring_is_empty(rt: HostRuntime) {
 
 #[test]
 fn a_capacity_may_be_given_as_a_power_of_two(rt: HostRuntime) -> Result<(), AllocError> {
-    let ring = AllocRingBuffer::with_capacity_power_of_2(rt.alloc(), 2)?;
-    let new = Steps {
-        steps: &[Capacity(4), Len(0)],
-    };
-    new.on(&rt, ring)
+    for (exponent, capacity) in [(0, 1), (2, 4), (10, 1024)] {
+        let mut ring = AllocRingBuffer::with_capacity_power_of_2(rt.alloc(), exponent)?;
+        assert_steps(&rt, &mut ring, &[Capacity(capacity), Len(0)]);
+    }
+    Ok(())
 }
 
 #[test]
@@ -338,30 +338,6 @@ fn items_come_and_go_for_long(rt: HostRuntime) {
 }
 
 #[test]
-fn extend_pushes_in_order(rt: HostRuntime) {
-    fixed::<4>(
-        &rt,
-        &[
-            PushAll(&[0, 0, 0, 0]),
-            Extend(&[0, 1, 2]),
-            Holds(&[0, 0, 1, 2]),
-        ],
-    );
-}
-
-#[test]
-fn extend_keeps_the_last_of_a_long_source(rt: HostRuntime) {
-    fixed::<8>(
-        &rt,
-        &[
-            PushAll(&[0, 0, 0, 0, 0, 0, 0, 0]),
-            Extend(&[0, 1, 2, 3, 4, 5, 6, 7, 8, 9]),
-            Holds(&[2, 3, 4, 5, 6, 7, 8, 9]),
-        ],
-    );
-}
-
-#[test]
 fn an_empty_source_changes_nothing(rt: HostRuntime) {
     fixed::<3>(
         &rt,
@@ -481,16 +457,13 @@ fn items_go_round_the_slots(rt: HostRuntime) {
 
 #[test]
 fn a_ring_may_have_one_slot(rt: HostRuntime) {
-    let case = InSlots {
-        slots: 1,
-        steps: &[
-            PushAll(&[1, 2]),
-            Holds(&[2]),
-            PushAll(&[3, 4, 5, 6, 7, 8, 9]),
-            Holds(&[9]),
-        ],
-    };
-    Rings::<1>::fixed(&rt, &case).expect(&rt, "memory");
+    let cases: [&'static [Step]; 2] = [
+        &[PushAll(&[1, 2]), Holds(&[2])],
+        &[PushAll(&[0, 1, 2, 3, 4, 5, 6, 7, 8, 9]), Holds(&[9])],
+    ];
+    for steps in cases {
+        Rings::<1>::fixed(&rt, &InSlots { slots: 1, steps }).expect(&rt, "memory");
+    }
 }
 
 /// The case on an array ring of this capacity.

@@ -166,10 +166,16 @@ fn items_are_copied_to_slices(rt: HostRuntime) -> Result<(), AllocError> {
     Ok(())
 }
 
-/// Items of a heap ring in one slice, which are turned round there before one more is pushed.
+/// Items of a heap ring in two slices only where they go round its slots, and then in one, which is turned round before
+/// one more is pushed.
 fn assert_turned(rt: &impl Abort, ring: &mut AllocRingBuffer<i64>, start: usize, items: &[i64]) {
     lay(rt, ring, start, items);
+    // The number of slots is a power of two.
+    let slots = ring.buffer_size();
+    let to_the_last = slots.saturating_sub(start & slots.wrapping_sub(1));
+    assert_equal(rt, ring.as_slices(), items.split_at(to_the_last.min(items.len())));
     assert_equal(rt, &*ring.make_contiguous(), items);
+    assert_equal(rt, ring.as_slices(), (items, [].as_slice()));
     assert_holds(rt, ring, items);
     ring.make_contiguous().reverse();
     push_all(rt, ring, &[9]);
@@ -206,6 +212,8 @@ fn items_of_a_growable_ring_are_made_one_slice(rt: HostRuntime) -> Result<(), Al
         let all = ring.make_contiguous();
         assert_eq!(rt; &*all, [1, 2, 3, 4, 5].as_slice());
         all[4] = 6;
+        let second = ring.as_slices().1;
+        assert_equal(&rt, second.len(), 0);
         assert_gives(&rt, &mut ring, &[1, 2, 3, 4, 6]);
     }
     Ok(())

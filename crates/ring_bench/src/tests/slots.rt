@@ -2,6 +2,7 @@
 
 use super::assert_equal;
 use ring_slots::{ArraySlots, HeapSlots, RingSlots};
+use ring_test_support::drought::Drought;
 use std::alloc::AllocError;
 use std::cell::Cell;
 
@@ -18,7 +19,8 @@ impl<'a> Drop for Counted<'a> {
 }
 
 #[test]
-fn array_slots_hold_items(rt: HostRuntime) {
+fn array_slots_hold_items_without_memory(rt: HostRuntime) -> Result<(), AllocError> {
+    let _drought = Drought::total(rt.alloc())?;
     let mut slots = ArraySlots::<&str, 2>::new();
     slots.put(1, "b");
     slots.put(0, "a");
@@ -28,11 +30,13 @@ fn array_slots_hold_items(rt: HostRuntime) {
     assert_equal(&rt, slots.take(0), "a");
     slots.put(1, "d");
     assert_equal(&rt, slots.take(1), "d");
+    Ok(())
 }
 
 #[test]
-fn heap_slots_hold_items(rt: HostRuntime) -> Result<(), AllocError> {
+fn heap_slots_hold_items_without_more_memory(rt: HostRuntime) -> Result<(), AllocError> {
     let mut slots = HeapSlots::new(rt.alloc(), 2)?;
+    let _drought = Drought::total(rt.alloc())?;
     slots.put(1, "b");
     slots.put(0, "a");
     assert_equal(&rt, *slots.get(1), "b");

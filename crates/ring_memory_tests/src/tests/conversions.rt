@@ -152,6 +152,41 @@ fn an_array_ring_holds_numbers_of_each_source(rt: HostRuntime) {
     assert_made_full(&rt, &rings, 3, &[1, 2, 3]);
 }
 
+/// Each ring was made, and holds these characters.
+fn assert_made_of<R: RingBuffer<char>>(
+    rt: &impl Abort,
+    rings: &[Result<R, AllocError>],
+    characters: &[char],
+) {
+    for made in rings {
+        let Ok(ring) = made else {
+            panic!(rt; "a ring was refused memory");
+        };
+        assert_holds(rt, ring, characters);
+    }
+}
+
+#[test]
+fn a_source_may_have_one_item_or_none(rt: HostRuntime) -> Result<(), AllocError> {
+    let alloc = rt.alloc();
+    let of_one = [
+        AllocRingBuffer::from_slice(alloc, &['1']),
+        AllocRingBuffer::from_array_ref(alloc, &['1']),
+        AllocRingBuffer::from_array(alloc, [Some('1')]),
+        AllocRingBuffer::from_text(alloc, "1"),
+    ];
+    assert_made_of(&rt, &of_one, &['1']);
+    let of_none = [
+        GrowableAllocRingBuffer::from_slice(alloc, &[]),
+        GrowableAllocRingBuffer::from_array_ref(alloc, &[]),
+        GrowableAllocRingBuffer::from_array(alloc, []),
+        GrowableAllocRingBuffer::from_iter(alloc, []),
+        GrowableAllocRingBuffer::from_text(alloc, ""),
+    ];
+    assert_made_of(&rt, &of_none, &[]);
+    Ok(())
+}
+
 #[test]
 fn an_array_ring_holds_the_characters_of_a_text(rt: HostRuntime) -> Result<(), AllocError> {
     fn on(rt: &impl Abort, mut ring: ConstGenericRingBuffer<char, 3>) {

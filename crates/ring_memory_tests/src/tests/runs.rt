@@ -182,6 +182,12 @@ impl<Rt: Abort + AllocGlobal> Case<Rt> for TakesMore {
         ];
         assert_run_into(rt, &mut ring, commands, &replies);
         assert_holds(rt, &ring, &[]);
+        let mut many = Vec::new(rt.alloc());
+        for _ in 0..5000 {
+            many.push(Command::Dequeue)?;
+        }
+        let answered = run(rt.alloc(), &mut ring, many).expect(rt, "memory for the replies");
+        assert_equal(rt, answered.len(), 5000);
         Ok(())
     }
 }

@@ -230,9 +230,21 @@ pub fn on_fixed<'a, const CAP: usize>(
     requires some { 0 < CAP }
     requires few { CAP < 2 ^ 16 }
 {
+    on_array::<CAP>(rt, supply, case);
+    on_heap::<CAP>(rt, supply, case);
+}
+
+/// The case on an array ring of this capacity.
+pub fn on_array<'a, const CAP: usize>(
+    rt: &(impl Abort + AllocGlobal),
+    supply: &'a Supply,
+    case: &impl CountedCase<Counted<'a>, &'a Supply>,
+)
+    requires some { 0 < CAP }
+    requires few { CAP < 2 ^ 16 }
+{
     let ring = ConstGenericRingBuffer::<Counted, CAP>::new();
     on_made(rt, Ok(ring), supply, case);
-    on_heap::<CAP>(rt, supply, case);
 }
 
 /// The case on a heap ring of this capacity.

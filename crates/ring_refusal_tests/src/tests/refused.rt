@@ -2,9 +2,10 @@
 //! count their drops, and each is dropped exactly once.
 
 use super::counted::{
-    Counted, CountedCase, Supply, answer_to, assert_numbered, assert_three, on_each, on_growable,
-    on_heap, push_items,
+    Counted, CountedCase, Supply, answer_to, assert_numbered, assert_three, on_array, on_each,
+    on_growable, on_heap, push_items,
 };
+use super::own::OwnRing;
 use super::scarce::{MOST_STEPS, drought, drought_if, is_cloned, spared};
 use super::{assert_equal, assert_holds, push_all};
 use ring_test_support::drought::Drought;
@@ -189,6 +190,7 @@ impl<'a> CountedCase<Counted<'a>, &'a Supply> for FillsByClones {
 fn a_refused_clone_of_the_value_ends_a_fill(rt: HostRuntime) {
     let supply = Supply::new(&rt, 40);
     on_each::<3>(&rt, &supply, &FillsByClones);
+    FillsByClones.on(&rt, OwnRing::new(rt.alloc()), &supply);
 }
 
 /// A fill in a drought leaves a beginning of the new items, which are numbered from `first` on, or all of them.
@@ -239,6 +241,8 @@ fn a_fill_of_clones_meets_a_drought(rt: HostRuntime) {
         first: 3,
     };
     on_each::<3>(&rt, &supply, &case);
+    supply.begin_again();
+    case.on(&rt, OwnRing::new(rt.alloc()), &supply);
 }
 
 struct FillsTakeNone;
@@ -521,7 +525,7 @@ fn a_refused_command_to_extend_leaves_a_beginning(rt: HostRuntime) {
     assert_extended_at_last(&rt, true);
 }
 
-/// A run on a growable ring that is new: it pushes item 0, extends by so many more, takes one or else extends by none,
+/// A run on a ring that is new and overwrites nothing: it pushes item 0, extends by so many more, takes one or else extends by none,
 /// and pushes a last item.
 #[derive(Drop)]
 struct Script {
@@ -712,6 +716,27 @@ fn a_run_of_a_growable_ring_stops_where_it_is_refused(rt: HostRuntime) {
         takes: true,
     };
     assert_run_at_last(&rt, &script, &[None, Some(0), Some(1)]);
+}
+
+// The ring has room for all items, so that the script overwrites none.
+#[test]
+fn a_run_of_a_fixed_ring_is_refused_its_replies_alone(rt: HostRuntime) {
+    let script = Script {
+        extension: 3,
+        takes: true,
+    };
+    let supply = Supply::new(&rt, script.items());
+    for (step, done) in [(0, None), (1, Some(4))] {
+        let case = RunsInADrought {
+            script: &script,
+            spare: spared_for_run(step),
+            done: Cell::new(Some(0)),
+        };
+        on_array::<5>(&rt, &supply, &case);
+        assert_equal(&rt, case.done.get(), done);
+        on_heap::<5>(&rt, &supply, &case);
+        assert_equal(&rt, case.done.get(), done);
+    }
 }
 
 /// How many items an extension has that fills a growable ring of one item to its capacity, where they are many.

@@ -61,6 +61,19 @@ pub fn on_growable<const CAP: usize>(
     case.on(rt, one, other)
 }
 
+/// The case on two growable rings that have no room yet.
+fn on_new_growable(
+    rt: &(impl Abort + AllocGlobal),
+    case: &impl TwinCase,
+) -> Result<(), AllocError> {
+    let alloc = rt.alloc();
+    case.on(
+        rt,
+        GrowableAllocRingBuffer::new(alloc),
+        GrowableAllocRingBuffer::new(alloc),
+    )
+}
+
 /// The case on two rings of each type.
 fn on_each<const CAP: usize>(
     rt: &(impl Abort + AllocGlobal),
@@ -172,9 +185,11 @@ fn rings_may_be_equal_in_other_slots(rt: HostRuntime) -> Result<(), AllocError> 
     on_each::<4>(&rt, &EqualInOtherSlots)
 }
 
-/// A ring and its clone get the same pushes. Both then hold these items.
+/// A ring and its clone get the same pushes. Both then hold the items `held`. On a fixed ring those in `before` are
+/// overwritten.
 #[derive(Drop)]
 struct SamePushes {
+    before: &'static [i64],
     held: &'static [i64],
 }
 
@@ -185,6 +200,7 @@ impl TwinCase for SamePushes {
         mut ring: R,
         _other: R,
     ) -> Result<(), AllocError> {
+        push_all(rt, &mut ring, self.before);
         push_all(rt, &mut ring, &[42, 32, 22]);
         let mut twin = ring.twin()?;
         assert_compares(rt, &twin, &ring, true);
@@ -199,14 +215,12 @@ impl TwinCase for SamePushes {
 
 #[test]
 fn a_clone_stays_equal_under_the_same_pushes(rt: HostRuntime) -> Result<(), AllocError> {
-    let fixed = SamePushes {
-        held: &[32, 22, 11, 12],
-    };
-    on_fixed::<4>(&rt, &fixed)?;
-    let growable = SamePushes {
-        held: &[42, 32, 22, 11, 12],
-    };
-    on_growable::<4>(&rt, &growable)
+    let held = &[32, 22, 11, 12];
+    on_fixed::<4>(&rt, &SamePushes { before: &[], held })?;
+    // The items that are cloned lie in two pieces.
+    on_fixed::<4>(&rt, &SamePushes { before: &[1, 2], held })?;
+    let held = &[42, 32, 22, 11, 12];
+    on_growable::<4>(&rt, &SamePushes { before: &[], held })
 }
 
 struct PushesOnAClone;
@@ -231,14 +245,10 @@ impl TwinCase for PushesOnAClone {
 #[test]
 fn pushes_on_a_clone_leave_the_source(rt: HostRuntime) -> Result<(), AllocError> {
     on_fixed::<4>(&rt, &PushesOnAClone)?;
-    on_growable::<0>(&rt, &PushesOnAClone)
+    on_new_growable(&rt, &PushesOnAClone)
 }
 
-/// A clone of an empty ring of this capacity.
-#[derive(Drop)]
-struct EmptyTwin {
-    capacity: usize,
-}
+struct EmptyTwin;
 
 impl TwinCase for EmptyTwin {
     fn on<R: RingBuffer<i64> + PartialEq + Debug + Twin + Drop>(
@@ -249,15 +259,16 @@ impl TwinCase for EmptyTwin {
     ) -> Result<(), AllocError> {
         let twin = ring.twin()?;
         assert_compares(rt, &twin, &ring, true);
-        assert_equal(rt, twin.capacity(), self.capacity);
+        assert_holds(rt, &twin, &[]);
         Ok(())
     }
 }
 
 #[test]
-fn an_empty_heap_ring_is_cloned_with_its_capacity(rt: HostRuntime) -> Result<(), AllocError> {
-    on_heap(&rt, 2, 2, &EmptyTwin { capacity: 2 })?;
-    on_heap(&rt, 5, 5, &EmptyTwin { capacity: 5 })
+fn an_empty_ring_is_cloned(rt: HostRuntime) -> Result<(), AllocError> {
+    on_fixed::<2>(&rt, &EmptyTwin)?;
+    on_heap(&rt, 5, 5, &EmptyTwin)?;
+    on_new_growable(&rt, &EmptyTwin)
 }
 
 /// Leaves a full ring of capacity 5.

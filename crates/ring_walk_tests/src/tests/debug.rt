@@ -53,5 +53,7 @@ fn an_empty_ring_writes_brackets(rt: HostRuntime) -> Result<(), AllocError> {
 
 #[test]
 fn a_ring_writes_its_items_oldest_first(rt: HostRuntime) -> Result<(), AllocError> {
-    assert_each_writes(&rt, &[1, 20, -3, 4], "[20, -3, 4]", "[1, 20, -3, 4]")
+    assert_each_writes(&rt, &[1, 20, -3, 4], "[20, -3, 4]", "[1, 20, -3, 4]")?;
+    // These lie in two pieces on the heap.
+    assert_each_writes(&rt, &[0, 1, 20, -3, 4], "[20, -3, 4]", "[0, 1, 20, -3, 4]")
 }

@@ -261,9 +261,12 @@ fn a_walk_passes_over_items(rt: HostRuntime) -> Result<(), AllocError> {
 }
 
 /// An owning walk takes these items, and then none. The number still to come is exact before each.
-fn assert_takes<R: RingBuffer<i64> + Drop>(rt: &impl Abort, ring: R, items: &[i64]) {
+fn assert_takes<R: RingBuffer<i64> + Drop>(
+    rt: &impl Abort,
+    mut walk: RingBufferIntoIterator<i64, R>,
+    items: &[i64],
+) {
     let mut left = items.len();
-    let mut walk = RingBufferIntoIterator::new(ring);
     for item in items {
         assert_to_come(rt, walk.size_hint(), left, Some(*item));
         assert_equal(rt, walk.next(), Some(*item));
@@ -278,7 +281,7 @@ struct TakesInOrder;
 impl<Rt: Abort + AllocGlobal> Case<Rt> for TakesInOrder {
     fn on<R: RingBuffer<i64> + Drop>(&self, rt: &Rt, mut ring: R) -> Result<(), AllocError> {
         push_all(rt, &mut ring, &[1, 2, 3, 4, 5, 6, 7]);
-        assert_takes(rt, ring, &[1, 2, 3, 4, 5, 6, 7]);
+        assert_takes(rt, RingBufferIntoIterator::new(ring), &[1, 2, 3, 4, 5, 6, 7]);
         Ok(())
     }
 }
@@ -539,6 +542,7 @@ struct Listed;
 
 impl<Rt: Abort + AllocGlobal> Case<Rt> for Listed {
     fn on<R: RingBuffer<i64> + Drop>(&self, rt: &Rt, mut ring: R) -> Result<(), AllocError> {
+        assert_lists(rt, &ring, &[]);
         push_all(rt, &mut ring, &[1, 2, 3]);
         assert_lists(rt, &ring, &[1, 2, 3]);
         assert_holds(rt, &ring, &[1, 2, 3]);
@@ -708,7 +712,7 @@ impl WalkedCase for MakesItsWalks {
         assert_read(rt, &ring);
         assert_drained(rt, &mut ring);
         push_all(rt, &mut ring, &[1, 2, 3]);
-        assert!(rt; ring.taker().eq([1, 2, 3]));
+        assert_takes(rt, ring.taker(), &[1, 2, 3]);
     }
 }
 

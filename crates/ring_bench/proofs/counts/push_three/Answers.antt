@@ -1,7 +1,7 @@
 use Rattle.std.proofs.Common.{◌≡◌, ◌++◌, [], ◌∷◌, refl, rules, ◌∙◌, append_assoc}
 use Rattle.ringbuffer.specs.Contents.{keep_last}
 use Rattle.ringbuffer.proofs.Limits.{keep_last-keep_last}
-use Rattle.ring_callers.proofs.counts.push_three.Goals as goal
+use Rattle.ring_bench.proofs.counts.push_three.Goals as goal
 
 pub returns-clause-contents : goal.returns-clause-contents
 returns-clause-contents g c =

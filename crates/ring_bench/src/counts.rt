@@ -22,8 +22,8 @@ fn push_three<R: RingBuffer<u32>>(ring: &mut R, x: u32, y: u32, z: u32)
     let _ = ring.push(z);
 }
 
-/// Five pushes onto an empty ring of three places, with a dequeue after the second: the oldest item that is left is
-/// overwritten once.
+/// Pushes five items onto an empty ring of three places, and takes one out after the second. The last push overwrites the
+/// oldest item that is left.
 pub fn push_round_a_dequeue<R: RingBuffer<u32>>(ring: &mut R) -> Option<u32>
     requires limit { R.limit ring.old ≡ Some 3 }
     requires empty { R.contents ring.old ≡ [] }
@@ -38,7 +38,7 @@ pub fn push_round_a_dequeue<R: RingBuffer<u32>>(ring: &mut R) -> Option<u32>
     taken
 }
 
-/// Five pushes onto an empty ring of two places, with a clear after the second.
+/// Pushes five items onto an empty ring of two places, and clears it after the second.
 pub fn push_round_a_clear<R: RingBuffer<u32>>(ring: &mut R)
     requires limit { R.limit ring.old ≡ Some 2 }
     requires empty { R.contents ring.old ≡ [] }
@@ -51,7 +51,7 @@ pub fn push_round_a_clear<R: RingBuffer<u32>>(ring: &mut R)
     push_three(ring, 2, 3, 4);
 }
 
-/// An extension by three items of an empty ring of one place.
+/// Extends an empty ring of one place by three items.
 pub fn extend_one_place<R: RingBuffer<u32>>(ring: &mut R)
     requires limit { R.limit ring.old ≡ Some 1 }
     requires empty { R.contents ring.old ≡ [] }
@@ -61,7 +61,7 @@ pub fn extend_one_place<R: RingBuffer<u32>>(ring: &mut R)
     let _ = ring.extend([1, 2, 3]);
 }
 
-/// A run of no commands on a full ring of three places.
+/// Runs no commands on a full ring of three places.
 pub fn run_nothing<R: RingBuffer<u32>>(alloc: Global, ring: &mut R)
     requires limit { R.limit ring.old ≡ Some 3 }
     requires full { length (R.contents ring.old) ≡ 3 }
@@ -71,7 +71,7 @@ pub fn run_nothing<R: RingBuffer<u32>>(alloc: Global, ring: &mut R)
     let _ = run_into(ring, Vec::new(alloc), &mut []);
 }
 
-/// A run of four dequeues on a full ring of three places.
+/// Runs four dequeues on a full ring of three places.
 pub fn run_four_dequeues<R: RingBuffer<u32>>(ring: &mut R, commands: Vec<Command<u32>>)
     requires limit { R.limit ring.old ≡ Some 3 }
     requires full { length (R.contents ring.old) ≡ 3 }
@@ -83,7 +83,7 @@ pub fn run_four_dequeues<R: RingBuffer<u32>>(ring: &mut R, commands: Vec<Command
     let _ = run_into(ring, commands, &mut replies);
 }
 
-/// Nine pushes onto an empty ring of five places, then a dequeue and two pushes more: the items go round the slots.
+/// Pushes nine items onto an empty ring of five places, takes one out, and pushes two more: the items go round the slots.
 pub fn push_round_the_slots<R: RingBuffer<u32>>(ring: &mut R) -> Option<u32>
     requires limit { R.limit ring.old ≡ Some 5 }
     requires empty { R.contents ring.old ≡ [] }

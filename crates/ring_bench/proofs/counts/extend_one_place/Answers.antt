@@ -4,7 +4,7 @@ use Rattle.std.specs.Array.Iter.{array_into_iter_items, array_steps}
 use Rattle.std.specs.Iterator.{Drains}
 use Rattle.std.proofs.lemmas.Iterator.Consumers.{YieldsList-from_shown}
 use Rattle.ringbuffer.proofs.Conversions.{items_drained}
-use Rattle.ring_callers.proofs.counts.extend_one_place.Goals as goal
+use Rattle.ring_bench.proofs.counts.extend_one_place.Goals as goal
 
 -- what a match says of Ok holds where the result is Ok
 on_ok : {X E P : Type 0} (Q : E → Type 0) (r : Result X E) → IsOk r → MatchResult r (λ _. P) Q → P
