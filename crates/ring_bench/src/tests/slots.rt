@@ -36,7 +36,7 @@ fn array_slots_hold_items_without_memory(rt: HostRuntime) -> Result<(), AllocErr
 #[test]
 fn heap_slots_hold_items_without_more_memory(rt: HostRuntime) -> Result<(), AllocError> {
     let mut slots = HeapSlots::new(rt.alloc(), 2)?;
-    let _drought = Drought::total(rt.alloc())?;
+    let _drought = Drought::total(rt.alloc()).expect(&rt, "memory");
     slots.put(1, "b");
     slots.put(0, "a");
     assert_equal(&rt, *slots.get(1), "b");

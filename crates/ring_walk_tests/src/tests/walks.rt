@@ -158,7 +158,7 @@ impl<Rt: Abort + AllocGlobal> Case<Rt> for NothingToCome {
         assert_reads(rt, &ring, NOTHING);
         assert_lends(rt, &mut ring, NOTHING);
         assert_drains(rt, &mut ring, &[]);
-        assert_takes(rt, ring, &[]);
+        assert_takes(rt, RingBufferIntoIterator::new(ring), &[]);
         Ok(())
     }
 }
