@@ -191,11 +191,10 @@ struct FillsItsRoomByClones;
 
 impl<Rt: Abort + AllocGlobal> Case<Rt> for FillsItsRoomByClones {
     fn on<R: RingBuffer<i64> + Drop>(&self, rt: &Rt, mut ring: R) -> Result<(), AllocError> {
-        push_all(rt, &mut ring, &[1, 2, 3]);
         let capacity = ring.capacity();
         assert!(rt; ring.fill(5).is_ok());
         assert_full_of(rt, &ring, capacity, 5);
-        ring.clear();
+        push_all(rt, &mut ring, &[1, 2, 3]);
         let capacity = ring.capacity();
         assert!(rt; ring.fill_default().is_ok());
         assert_full_of(rt, &ring, capacity, 0);
