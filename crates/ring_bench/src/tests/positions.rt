@@ -359,12 +359,7 @@ const WRITTEN_BELOW_ZERO: &[Step] = &[
 ];
 
 /// Reads by indexes what an extension of a full ring of zeros leaves.
-fn assert_extended<R: Indexed>(
-    rt: &impl Abort,
-    mut ring: R,
-    source: &'static [i64],
-    left: &[i64],
-) {
+fn assert_extended<R: Indexed>(rt: &impl Abort, mut ring: R, source: &'static [i64], left: &[i64]) {
     assert!(rt; ring.fill(0).is_ok());
     assert_steps(rt, &mut ring, &[Extend(source)]);
     for (index, item) in left.iter().enumerate() {

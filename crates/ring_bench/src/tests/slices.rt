@@ -173,7 +173,11 @@ fn assert_turned(rt: &impl Abort, ring: &mut AllocRingBuffer<i64>, start: usize,
     // The number of slots is a power of two.
     let slots = ring.buffer_size();
     let to_the_last = slots.saturating_sub(start & slots.wrapping_sub(1));
-    assert_equal(rt, ring.as_slices(), items.split_at(to_the_last.min(items.len())));
+    assert_equal(
+        rt,
+        ring.as_slices(),
+        items.split_at(to_the_last.min(items.len())),
+    );
     assert_equal(rt, &*ring.make_contiguous(), items);
     assert_equal(rt, ring.as_slices(), (items, [].as_slice()));
     assert_holds(rt, ring, items);

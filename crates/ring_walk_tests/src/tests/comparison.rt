@@ -218,7 +218,13 @@ fn a_clone_stays_equal_under_the_same_pushes(rt: HostRuntime) -> Result<(), Allo
     let held = &[32, 22, 11, 12];
     on_fixed::<4>(&rt, &SamePushes { before: &[], held })?;
     // The items that are cloned lie in two pieces.
-    on_fixed::<4>(&rt, &SamePushes { before: &[1, 2], held })?;
+    on_fixed::<4>(
+        &rt,
+        &SamePushes {
+            before: &[1, 2],
+            held,
+        },
+    )?;
     let held = &[42, 32, 22, 11, 12];
     on_growable::<4>(&rt, &SamePushes { before: &[], held })
 }

@@ -281,7 +281,11 @@ struct TakesInOrder;
 impl<Rt: Abort + AllocGlobal> Case<Rt> for TakesInOrder {
     fn on<R: RingBuffer<i64> + Drop>(&self, rt: &Rt, mut ring: R) -> Result<(), AllocError> {
         push_all(rt, &mut ring, &[1, 2, 3, 4, 5, 6, 7]);
-        assert_takes(rt, RingBufferIntoIterator::new(ring), &[1, 2, 3, 4, 5, 6, 7]);
+        assert_takes(
+            rt,
+            RingBufferIntoIterator::new(ring),
+            &[1, 2, 3, 4, 5, 6, 7],
+        );
         Ok(())
     }
 }
