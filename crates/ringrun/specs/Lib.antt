@@ -1,3 +1,6 @@
 pub mod Arguments
 pub mod Fault
+pub mod Program
+pub mod Reading
+pub mod Report
 pub mod Script

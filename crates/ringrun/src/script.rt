@@ -1,11 +1,11 @@
-//! A script: a command a line, its words apart by ASCII white space.
-//!
-//! It is read byte by byte. A line that isn't UTF-8 has a word that is no command's name and no number.
+//! A script: a command a line, its words apart by ASCII white space. It is read byte by byte.
 
-ghost use Rattle.std.specs.Prelude.{◌≡◌, ◌-◌, ◌<◌, ◌≤◌, IfErr, IfOk, IfSome, IsOk, IsSome, OnOk, false, length};
-ghost use Rattle.std.specs.Io.{StartsWith};
+ghost use Rattle.std.specs.Prelude.{◌≡◌, ◌==◌, ◌-◌, ◌^◌, ◌%◌, ◌<◌, ◌≤◌, IfErr, IfOk, IfSome, IsOk, IsSome, MatchOption, None, OnOk, Some, SomeIff, false, length, take};
+ghost use Rattle.std.specs.List.{list_all};
+ghost use Rattle.std.specs.Str.Parse.{AllDigits, digits_value};
 ghost use Rattle.ringrun.specs.Fault.{IsInScript, NamesALine};
-ghost use Rattle.ringrun.specs.Script.{name_of};
+ghost use Rattle.ringrun.specs.Reading.{CommandAt, IsUnnamed, ReadsNumbers, after_blanks, after_end, digits_at, number_at, signed_of, size_at};
+ghost use Rattle.ringrun.specs.Script.{is_blank};
 
 use crate::fault::Fault;
 use ringbuffer::Command;
@@ -101,15 +101,15 @@ impl<'a> Script<'a> {
     }
 }
 
-/// The command that begins a text, if one does, and what follows the words that belong to it.
+/// Returns the command that begins `text`, if one does, and what follows the words that belong to it.
 #[inline(always)]
 fn read_command(
     alloc: Global,
     keeps_items: bool,
     text: &[u8],
 ) -> Result<Option<(Command<i64>, &[u8])>, AllocError>
-    ensures name { IfOk result (λ found. IfSome found
-        (λ read. StartsWith text.now (name_of read.0))) }
+    ensures command { IfOk result (λ found. MatchOption found (IsUnnamed text.now)
+        (λ read. CommandAt keeps_items text.now read.0 read.1.now)) }
     ensures no_memory { keeps_items ≡ false → IsOk result }
     ensures rest { IfOk result (λ found. IfSome found
         (λ read. length read.1.now ≤ length text.now)) }
@@ -130,8 +130,10 @@ fn read_command(
     })
 }
 
-/// The numbers at the front of a text, or none of them where they aren't kept, and what follows them.
+/// Returns the numbers at the front of `text`, or none of them unless it `keeps` them, and what follows them.
 fn read_numbers(alloc: Global, keeps: bool, text: &[u8]) -> Result<(Vec<i64>, &[u8]), AllocError>
+    ensures numbers { IfOk result
+        (λ read. ReadsNumbers keeps text.now read.0.items read.1.now) }
     ensures no_memory { keeps ≡ false → IsOk result }
     ensures rest { IfOk result (λ read. length read.1.now ≤ length text.now) }
 {
@@ -146,9 +148,12 @@ fn read_numbers(alloc: Global, keeps: bool, text: &[u8]) -> Result<(Vec<i64>, &[
     Ok((numbers, rest))
 }
 
-/// The number that follows the white space at the front of a text, and what follows it.
+/// Returns the number that follows the blanks at the front of `text`, and what follows it.
+#[inline(always)]
 fn split_number(text: &[u8]) -> Option<(i64, &[u8])>
-    ensures { IfSome result (λ found. length found.1.now < length text.now) }
+    ensures number { MatchOption result (number_at text.now ≡ None)
+        (λ found. number_at text.now ≡ Some (found.0, found.1.now)) }
+    ensures shorter { IfSome result (λ found. length found.1.now < length text.now) }
 {
     let word = skip_blanks(text);
     if word.len() == text.len() {
@@ -160,24 +165,29 @@ fn split_number(text: &[u8]) -> Option<(i64, &[u8])>
     // Signs are hard to foretell, so no branch hangs on them.
     let is_negative = *first == b'-';
     let is_signed = is_negative | (*first == b'+');
-    let digits = &word[usize::from(is_signed)..];
-    let (mut size, start) = match first_eight(digits) {
-        Some(size) => (size, 8),
-        None => (0, 0),
-    };
-    let mut end = digits.len();
-    for at in start..digits.len() {
-        let digit = u64::from(digits[at]).wrapping_sub(u64::from(b'0'));
-        if digit > 9 {
-            end = at;
-            break;
-        }
-        // It wraps only in a number that is refused below.
-        size = size.wrapping_mul(10).wrapping_add(digit);
-    }
-    if end == 0 || end > SAFE_DIGITS && !is_zeros(&digits[..end - SAFE_DIGITS]) {
+    let (size, rest) = read_size(&word[usize::from(is_signed)..])?;
+    Some((signed(is_negative, size)?, rest))
+}
+
+/// Returns the number below 10^19 that the digits at the front of `text` write, and what follows them.
+#[inline(always)]
+fn read_size(text: &[u8]) -> Option<(u64, &[u8])>
+    ensures size { MatchOption result (size_at text.now ≡ None)
+        (λ found. size_at text.now ≡ Some (found.0, found.1.now)) }
+    ensures rest { IfSome result (λ found. length found.1.now ≤ length text.now) }
+{
+    let (size, end) = read_digits(text);
+    if end == 0 || end > SAFE_DIGITS && !is_zeros(&text[..end - SAFE_DIGITS]) {
         return None;
     }
+    Some((size, &text[end..]))
+}
+
+/// Returns `size` with its sign, if it is in range.
+#[inline(always)]
+fn signed(is_negative: bool, size: u64) -> Option<i64>
+    ensures { result ≡ signed_of is_negative size }
+{
     if size > i64::MAX.unsigned_abs() + u64::from(is_negative) {
         return None;
     }
@@ -186,12 +196,36 @@ fn split_number(text: &[u8]) -> Option<(i64, &[u8])>
     } else {
         size
     };
-    Some((number.cast_signed(), &digits[end..]))
+    Some(number.cast_signed())
 }
 
-/// The number that the first eight bytes write, if all are digits. They are read together: as bytes, then in pairs, in fours.
+/// Returns what the digits at the front of `text` write, modulo 2^64, and how many they are.
+#[inline(always)]
+fn read_digits(text: &[u8]) -> (u64, usize)
+    ensures size { result.0 ≡ digits_value 10 (digits_at text.now) % 2 ^ 64 }
+    ensures count { result.1 ≡ length (digits_at text.now) }
+    ensures within { result.1 ≤ length text.now }
+{
+    let (mut size, start) = match first_eight(text) {
+        Some(size) => (size, 8),
+        None => (0, 0),
+    };
+    for at in start..text.len() {
+        let digit = u64::from(text[at]).wrapping_sub(u64::from(b'0'));
+        if digit > 9 {
+            return (size, at);
+        }
+        size = size.wrapping_mul(10).wrapping_add(digit);
+    }
+    (size, text.len())
+}
+
+/// Returns the number that the first eight bytes of `digits` write, if all are digits. They are read together: as bytes, then
+/// in pairs, in fours.
+#[inline(always)]
 fn first_eight(digits: &[u8]) -> Option<u64>
-    ensures { IsSome result → 8 ≤ length digits.now }
+    ensures { SomeIff result ((8 ≤ length digits.now) × AllDigits 10 (take 8 digits.now))
+        (digits_value 10 (take 8 digits.now)) }
 {
     let (eight, _) = digits.split_first_chunk::<8>()?;
     let bytes = u64::from_le_bytes(*eight) ^ 0x3030_3030_3030_3030;
@@ -205,13 +239,18 @@ fn first_eight(digits: &[u8]) -> Option<u64>
     Some(low.wrapping_add(high) >> 32)
 }
 
-fn is_zeros(digits: &[u8]) -> bool {
+/// Returns whether all `digits` are zeros.
+fn is_zeros(digits: &[u8]) -> bool
+    ensures { result ≡ list_all (λ digit. digit == 48) digits.now }
+{
     digits.iter().all(|digit| *digit == b'0')
 }
 
-/// What follows a line's end, if nothing but white space comes before it.
+/// Returns what follows the line's end in `text`, if nothing but blanks comes before it.
 fn after_line(text: &[u8]) -> Option<&[u8]>
-    ensures { IfSome result (λ rest. length rest.now ≤ length text.now - 1) }
+    ensures end { MatchOption result (after_end (after_blanks text.now) ≡ None)
+        (λ rest. after_end (after_blanks text.now) ≡ Some rest.now) }
+    ensures shorter { IfSome result (λ rest. length rest.now ≤ length text.now - 1) }
 {
     // Most lines end where their last word does.
     if let [b'\n', rest @ ..] = text {
@@ -224,9 +263,10 @@ fn after_line(text: &[u8]) -> Option<&[u8]>
     }
 }
 
-/// What follows the white space at the front of a line.
+/// Returns what follows the blanks at the front of `text`.
 fn skip_blanks(text: &[u8]) -> &[u8]
-    ensures { length result.now ≤ length text.now }
+    ensures rest { result.now ≡ after_blanks text.now }
+    ensures within { length result.now ≤ length text.now }
 {
     let end = text
         .iter()
@@ -235,7 +275,10 @@ fn skip_blanks(text: &[u8]) -> &[u8]
     &text[end..]
 }
 
-fn is_blank(byte: u8) -> bool {
+/// Returns whether `byte` may stand between the words of a line.
+fn is_blank(byte: u8) -> bool
+    ensures { result ≡ is_blank byte }
+{
     // Most bytes are above them all, and are told by one comparison.
     byte <= b' ' && matches!(byte, b' ' | b'\t' | b'\x0c' | b'\r')
 }
