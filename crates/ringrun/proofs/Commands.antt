@@ -1,5 +1,5 @@
 -- The command that begins a line, and what the words of the line say.
-use Rattle.std.proofs.Common.{◌≡◌, ℕ, zero, suc, ◌+◌, ◌||◌, ◌&&◌, Bool, true, false, cond, List, [], ◌∷◌, ◌++◌, length, take, drop, Option, Some, None, IfSome, codes, ℤ, refl, sym, ap, ◌∙◌, arith, append-nil}
+use Rattle.std.proofs.Common.{◌≡◌, ℕ, zero, suc, ◌+◌, ◌||◌, ◌&&◌, Bool, true, false, cond, List, [], ◌∷◌, ◌++◌, length, take, drop, Option, Some, None, codes, inl, inr, ℤ, refl, sym, ap, ◌∙◌, arith, append-nil}
 use Rattle.std.proofs.Math.Seq.{drop-append_seam, take-append_seam}
 use Rattle.std.proofs.lemmas.List.{take-append-drop}
 use Rattle.std.proofs.lemmas.Slice.Eq.{bytes_eq-Decides}
@@ -7,9 +7,9 @@ use Rattle.std.specs.Str.{bytes_eq}
 use Rattle.std.specs.Option.{option_and_then, option_map, option_to_list}
 use Rattle.ringbuffer.specs.declared.Command.{Command}
 use Rattle.ringbuffer.specs.declared.Command.TheVariants.{Push, Extend, Dequeue, Skip, Clear}
-use Rattle.ringrun.proofs.Lines.{both_false, by_cases, ends_word, past_word, word_at, words_at, words_behind_blanks, words_from_word}
+use Rattle.ringrun.proofs.Lines.{both_false, by_cases, ends_word, past_word, some_is, word_at, words_at, words_behind_blanks, words_from_word}
 use Rattle.ringrun.proofs.Numbers.{behind_number, ends_here, number_of_word, number_part, no_number_at_end, no_number_at_feed, past_end, past_number, signed_rest, word_ends}
-use Rattle.ringrun.specs.Reading.{after_blanks, after_end, after_name, number_at, signed_at, starts_blank, CommandAt, IsUnnamed, NumbersAt}
+use Rattle.ringrun.specs.Reading.{after_blanks, after_end, after_name, number_at, signed_at, starts_blank, CommandAt, HasNoCommand, NumbersAt}
 use Rattle.ringrun.specs.Script.{alone, command_named, commands_of, is_blank, is_line_feed, number_of, numbers_of, plain, push_of, words_of, vector_of}
 
 -- What the words of the first line say.
@@ -158,9 +158,6 @@ some_other (n ∷ numbers) text rest (mid, read, more) e h = by_cases (ends_here
     (λ k. let next = broken_word text n mid read k in rw (next.words, next.number) refl)
 
 -- ---- names
-
-some_is : {A : Type 0} (a b : A) → Some a ≡ Some b → a ≡ b
-some_is a b e = cc
 
 pub named : (name text rest : List ℕ) → after_name name text ≡ Some rest → text ≡ name ++ rest
 unfolding after_name
@@ -337,10 +334,8 @@ unsaid_push text args name none = ap says (named (codes "push") text args name) 
     (λ h. longer_name (codes "push") args is_push h)
 
 -- where no command comes first
-pub unsaid_unnamed : (text : List ℕ) → IsUnnamed text → starts_blank text ≡ false → after_end text ≡ None → says text ≡ None
-unsaid_unnamed text un s e = elim (after_name (codes "push") text)
-    as (λ o. after_name (codes "push") text ≡ o → IfSome o (λ after. number_at after ≡ None) → says text ≡ None)
-    [ Some args ↦ λ at none. unsaid_push text args at none
-    | None ↦ λ at _. ap commands_of (word_first text s e) ∙ ap (option_map (λ command. command ∷ [])) (none_from (command_named (word_at text)) (numbers_of (words_at (past_word text)))
-      (λ numbers. no_such_name (word_at text) numbers (not_word (codes "push") text at) (not_word (codes "extend") text un.no_extend) (not_word (codes "dequeue") text un.no_dequeue) (not_word (codes "skip") text un.no_skip) (not_word (codes "clear") text un.no_clear))) ]
-    refl un.no_push
+pub unsaid_unnamed : (text : List ℕ) → HasNoCommand text → starts_blank text ≡ false → after_end text ≡ None → says text ≡ None
+unsaid_unnamed text (inr (args, name, none)) s e = unsaid_push text args name none
+unsaid_unnamed text (inl un) s e =
+    ap commands_of (word_first text s e) ∙ ap (option_map (λ command. command ∷ [])) (none_from (command_named (word_at text)) (numbers_of (words_at (past_word text)))
+      (λ numbers. no_such_name (word_at text) numbers (not_word (codes "push") text un.no_push) (not_word (codes "extend") text un.no_extend) (not_word (codes "dequeue") text un.no_dequeue) (not_word (codes "skip") text un.no_skip) (not_word (codes "clear") text un.no_clear)))

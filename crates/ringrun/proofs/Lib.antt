@@ -1,3 +1,7 @@
+pub mod Blanks
 pub mod Commands
+pub mod Digits
 pub mod Lines
 pub mod Numbers
+pub mod Rest
+pub mod Signs

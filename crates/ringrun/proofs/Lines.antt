@@ -1,5 +1,5 @@
 -- The lines and words of a text, from its front.
-use Rattle.std.proofs.Common.{◌≡◌, ℕ, ◌||◌, Bool, true, false, cond, List, [], ◌∷◌, refl, sym, ap, ◌∙◌, arith}
+use Rattle.std.proofs.Common.{◌≡◌, ℕ, ◌||◌, Bool, true, false, cond, List, [], ◌∷◌, Some, refl, sym, ap, ◌∙◌, arith}
 use Rattle.std.proofs.lemmas.Bool.Decides.{nat_tests}
 use Rattle.std.specs.List.{filter, onto_first, slice_split}
 use Rattle.ringrun.specs.Reading.{after_blanks}
@@ -11,6 +11,9 @@ by_cases {P} v = elim v as (λ u. (u ≡ true → P) → (u ≡ false → P) →
 pub both_false : (u v : Bool) → u || v ≡ false → (u ≡ false) × (v ≡ false)
 both_false true v h = absurd (cc)
 both_false false v h = (refl, h)
+
+pub some_is : {A : Type 0} (a b : A) → Some a ≡ Some b → a ≡ b
+some_is a b e = cc
 
 module _ (ends : ℕ → Bool) where
   -- the part before the first byte at which a list is cut

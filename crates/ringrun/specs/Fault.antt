@@ -24,6 +24,13 @@ NamesALine BadArguments = ⊥
 NamesALine NoMemory = ⊥
 NamesALine InputOrOutput = ⊥
 
+-- P of the number of the line that is named, if one is
+abbrev pub IfNotACommand : Fault → (ℕ → Type 0) → Type 0
+IfNotACommand (NotACommand line) P = P line
+IfNotACommand BadArguments P = Unit {0}
+IfNotACommand NoMemory P = Unit {0}
+IfNotACommand InputOrOutput P = Unit {0}
+
 -- P where the program did its work or names a line: so where it got past its reading
 abbrev pub IfLinesRead : {T : Type 0} → Result T Fault → Type 0 → Type 0
 IfLinesRead result P = MatchResult result (λ _. P) (λ fault. status_of fault ≡ 1 → P)

@@ -2,5 +2,6 @@ pub mod Arguments
 pub mod Fault
 pub mod Program
 pub mod Reading
+pub mod Rest
 pub mod Report
 pub mod Script

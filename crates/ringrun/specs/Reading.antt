@@ -1,6 +1,6 @@
 -- How a text is read from its front. The functions of the parser say what they read in these words, and a proof joins them to
 -- the grammar, which works line by line.
-use Rattle.std.specs.Prelude.{◌≡◌, ℕ, ◌^◌, ◌&&◌, nat_lt, Bool, cond, true, false, List, [], ◌∷◌, length, take, drop, ℤ, pos, neg_ℤ, Option, None, Some, IfSome, codes, if◌then◌else◌}
+use Rattle.std.specs.Prelude.{◌≡◌, ℕ, ◌^◌, ◌&&◌, ◌⊎◌, nat_lt, Bool, cond, true, false, List, [], ◌∷◌, length, take, drop, ℤ, pos, neg_ℤ, Option, None, Some, codes, if◌then◌else◌}
 use Rattle.std.specs.Char.{is_digit}
 use Rattle.std.specs.Option.{option_and_then, option_map}
 use Rattle.std.specs.Str.{bytes_eq}
@@ -67,10 +67,18 @@ CommandAt keeps text Dequeue rest = after_name (codes "dequeue") text ≡ Some r
 CommandAt keeps text Skip rest = after_name (codes "skip") text ≡ Some rest
 CommandAt keeps text Clear rest = after_name (codes "clear") text ≡ Some rest
 
--- no name comes first, or a push without a number
-pub record IsUnnamed (text : List ℕ) : Type 0 where
-  pub no_push : IfSome (after_name (codes "push") text) (λ after. number_at after ≡ None)
+-- no name comes first
+pub record HasNoName (text : List ℕ) : Type 0 where
+  pub no_push : after_name (codes "push") text ≡ None
   pub no_extend : after_name (codes "extend") text ≡ None
   pub no_dequeue : after_name (codes "dequeue") text ≡ None
   pub no_skip : after_name (codes "skip") text ≡ None
   pub no_clear : after_name (codes "clear") text ≡ None
+
+-- a push without a number comes first
+abbrev pub HasNoNumber : List ℕ → Type 0
+HasNoNumber text = (after : List ℕ) × (after_name (codes "push") text ≡ Some after) × (number_at after ≡ None)
+
+-- no command comes first
+abbrev pub HasNoCommand : List ℕ → Type 0
+HasNoCommand text = HasNoName text ⊎ HasNoNumber text

@@ -1,10 +1,10 @@
 //! A script: a command a line, its words apart by ASCII white space. It is read byte by byte.
 
-ghost use Rattle.std.specs.Prelude.{◌≡◌, ◌==◌, ◌-◌, ◌^◌, ◌%◌, ◌<◌, ◌≤◌, IfErr, IfOk, IfSome, IsOk, IsSome, MatchOption, None, OnOk, Some, SomeIff, false, length, take};
+ghost use Rattle.std.specs.Prelude.{◌≡◌, ◌==◌, ◌-◌, ◌^◌, ◌%◌, ◌<◌, ◌≤◌, ◌&&◌, not, nat_lt, IfErr, IfOk, IfSome, IsOk, IsSome, MatchOption, None, OnOk, Some, SomeIff, false, length, take};
 ghost use Rattle.std.specs.List.{list_all};
 ghost use Rattle.std.specs.Str.Parse.{AllDigits, digits_value};
 ghost use Rattle.ringrun.specs.Fault.{IsInScript, NamesALine};
-ghost use Rattle.ringrun.specs.Reading.{CommandAt, IsUnnamed, ReadsNumbers, after_blanks, after_end, digits_at, number_at, signed_of, size_at};
+ghost use Rattle.ringrun.specs.Reading.{CommandAt, HasNoCommand, ReadsNumbers, after_blanks, after_end, after_name, digits_at, number_at, signed_of, size_at};
 ghost use Rattle.ringrun.specs.Script.{is_blank};
 
 use crate::fault::Fault;
@@ -108,26 +108,42 @@ fn read_command(
     keeps_items: bool,
     text: &[u8],
 ) -> Result<Option<(Command<i64>, &[u8])>, AllocError>
-    ensures command { IfOk result (λ found. MatchOption found (IsUnnamed text.now)
+    ensures command { IfOk result (λ found. MatchOption found (HasNoCommand text.now)
         (λ read. CommandAt keeps_items text.now read.0 read.1.now)) }
     ensures no_memory { keeps_items ≡ false → IsOk result }
     ensures rest { IfOk result (λ found. IfSome found
         (λ read. length read.1.now ≤ length text.now)) }
 {
-    Ok(if let Some(rest) = text.strip_prefix(b"push") {
-        split_number(rest).map(|(number, rest)| (Command::Push(number), rest))
-    } else if let Some(rest) = text.strip_prefix(b"extend") {
+    if let Some(rest) = strip_name(text, b"push") {
+        let Some((number, rest)) = split_number(rest) else {
+            return Ok(None);
+        };
+        return Ok(Some((Command::Push(number), rest)));
+    }
+    if let Some(rest) = strip_name(text, b"extend") {
         let (items, rest) = read_numbers(alloc, keeps_items, rest)?;
-        Some((Command::Extend(items), rest))
-    } else if let Some(rest) = text.strip_prefix(b"dequeue") {
-        Some((Command::Dequeue, rest))
-    } else if let Some(rest) = text.strip_prefix(b"skip") {
-        Some((Command::Skip, rest))
-    } else if let Some(rest) = text.strip_prefix(b"clear") {
-        Some((Command::Clear, rest))
-    } else {
-        None
-    })
+        return Ok(Some((Command::Extend(items), rest)));
+    }
+    if let Some(rest) = strip_name(text, b"dequeue") {
+        return Ok(Some((Command::Dequeue, rest)));
+    }
+    if let Some(rest) = strip_name(text, b"skip") {
+        return Ok(Some((Command::Skip, rest)));
+    }
+    if let Some(rest) = strip_name(text, b"clear") {
+        return Ok(Some((Command::Clear, rest)));
+    }
+    Ok(None)
+}
+
+/// Returns what follows `name` at the front of `text`, if it stands there.
+#[inline(always)]
+fn strip_name<'a>(text: &'a [u8], name: &[u8]) -> Option<&'a [u8]>
+    ensures name { MatchOption result (after_name name.now text.now ≡ None)
+        (λ rest. after_name name.now text.now ≡ Some rest.now) }
+    ensures rest { IfSome result (λ rest. length rest.now ≤ length text.now) }
+{
+    text.strip_prefix(name)
 }
 
 /// Returns the numbers at the front of `text`, or none of them unless it `keeps` them, and what follows them.
@@ -177,10 +193,23 @@ fn read_size(text: &[u8]) -> Option<(u64, &[u8])>
     ensures rest { IfSome result (λ found. length found.1.now ≤ length text.now) }
 {
     let (size, end) = read_digits(text);
-    if end == 0 || end > SAFE_DIGITS && !is_zeros(&text[..end - SAFE_DIGITS]) {
+    if end == 0 {
+        return None;
+    }
+    let digits = &text[..end];
+    if is_long(digits) {
         return None;
     }
     Some((size, &text[end..]))
+}
+
+/// Returns whether `digits` write no number below 10^19: more of them than are safe follow zeros.
+#[inline(always)]
+fn is_long(digits: &[u8]) -> bool
+    ensures { result ≡ (nat_lt 19 (length digits.now)
+        && not (list_all (λ digit. digit == 48) (take (length digits.now - 19) digits.now))) }
+{
+    digits.len() > SAFE_DIGITS && !is_zeros(&digits[..digits.len() - SAFE_DIGITS])
 }
 
 /// Returns `size` with its sign, if it is in range.

@@ -1,0 +1,31 @@
+-- The blanks at the front, as a search for the first other byte passes over them.
+use Rattle.std.proofs.Common.{◌≡◌, ℕ, suc, ◌+◌, ◌-◌, ◌≤◌, Bool, true, false, cond, not, List, [], ◌∷◌, length, take, drop, Option, Some, None, ltb, refl, sym, ap, ◌∙◌, arith, unwrap_or}
+use Rattle.std.proofs.lemmas.Bool.Decides.{nat_tests}
+use Rattle.std.proofs.lemmas.List.{take_rest}
+use Rattle.std.specs.List.{position_or_len}
+use Rattle.ringrun.proofs.Lines.{by_cases}
+use Rattle.ringrun.specs.Reading.{after_blanks}
+use Rattle.ringrun.specs.Script.{is_blank}
+
+abbrev pub first_other : List ℕ → ℕ
+first_other text = position_or_len (λ b. not (is_blank b)) text
+
+drop-one_more : (n b : ℕ) (bs : List ℕ) → drop (1 + n) (b ∷ bs) ≡ drop n bs
+drop-one_more n b bs = let e : 1 + n ≡ suc n = omega arith in rw e refl
+
+blanks_passed : (text : List ℕ) → drop (first_other text) text ≡ after_blanks text
+unfolding after_blanks
+blanks_passed [] = refl
+blanks_passed (b ∷ bs) = by_cases (is_blank b) (λ h. rw h (rw (drop-one_more (first_other bs) b bs) (blanks_passed bs))) (λ h. rw h refl)
+
+bounded : (text : List ℕ) → first_other text ≤ length text
+bounded [] = omega arith
+bounded (b ∷ bs) = by_cases (is_blank b) (λ h. rw h (omega (arith, bounded bs))) (λ h. rw h (omega arith))
+
+pub after_position : (text : List ℕ) (at : Option ℕ) (end : ℕ) → at ≡ cond (ltb (first_other text) (length text)) (Some (first_other text)) None → end ≡ unwrap_or at (length text)
+    → take (length text - end) (drop end text) ≡ after_blanks text
+after_position text at end found is =
+    let there : end ≡ first_other text = is ∙ ap (λ o. unwrap_or o (length text)) found ∙ by_cases (ltb (first_other text) (length text))
+        (λ h. rw h refl)
+        (λ h. rw h (let most = bounded text in grind (arith, nat_tests))) in
+    take_rest text end ∙ ap (λ n. drop n text) there ∙ blanks_passed text
