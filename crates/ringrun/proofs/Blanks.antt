@@ -1,10 +1,10 @@
 -- The blanks at the front, as a search for the first other byte passes over them.
-use Rattle.std.proofs.Common.{◌≡◌, ℕ, suc, ◌+◌, ◌-◌, ◌≤◌, Bool, true, false, cond, not, List, [], ◌∷◌, length, take, drop, Option, Some, None, ltb, refl, sym, ap, ◌∙◌, arith, unwrap_or}
+use Rattle.std.proofs.Common.{◌≡◌, ℕ, suc, ◌+◌, ◌-◌, ◌≤◌, Bool, true, false, cond, not, List, [], ◌∷◌, length, take, drop, get_or, subst, Option, Some, None, ltb, refl, sym, ap, ◌∙◌, arith, unwrap_or}
 use Rattle.std.proofs.lemmas.Bool.Decides.{nat_tests}
 use Rattle.std.proofs.lemmas.List.{take_rest}
 use Rattle.std.specs.List.{position_or_len}
 use Rattle.ringrun.proofs.Lines.{by_cases}
-use Rattle.ringrun.specs.Reading.{after_blanks}
+use Rattle.ringrun.specs.Reading.{after_blanks, after_end}
 use Rattle.ringrun.specs.Script.{is_blank}
 
 abbrev pub first_other : List ℕ → ℕ
@@ -29,3 +29,8 @@ after_position text at end found is =
         (λ h. rw h refl)
         (λ h. rw h (let most = bounded text in grind (arith, nat_tests))) in
     take_rest text end ∙ ap (λ n. drop n text) there ∙ blanks_passed text
+
+pub feed_at_once : (text : List ℕ) → 1 ≤ length text → get_or text 0 0 ≡ 10 → after_end (after_blanks text) ≡ Some (take (length text - 1) (drop 1 text))
+unfolding after_blanks
+feed_at_once [] h e = absurd (omega arith)
+feed_at_once (b ∷ bs) h e = subst (λ c. after_end (after_blanks (c ∷ bs)) ≡ Some (take (length (b ∷ bs) - 1) bs)) (sym e) (ap Some (sym (take_rest (b ∷ bs) 1)))

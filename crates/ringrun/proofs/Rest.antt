@@ -3,14 +3,15 @@ use Rattle.std.proofs.Common.{◌≡◌, ℕ, ℤ, zero, suc, ◌+◌, ◌-◌, 
 use Rattle.std.proofs.Math.Seq.{take-append_seam}
 use Rattle.std.proofs.lemmas.Bool.Decides.{nat_tests}
 use Rattle.std.proofs.lemmas.List.{take-append-drop}
+use Rattle.std.proofs.lemmas.List.Sums.{length-filter}
 use Rattle.std.specs.Char.{is_digit}
-use Rattle.std.specs.List.{filter, slice_split}
+use Rattle.std.specs.List.{count_by, filter, slice_split}
 use Rattle.std.specs.Str.Parse.{without_leading_sign}
 use Rattle.ringbuffer.specs.declared.Command.{Command}
 use Rattle.ringbuffer.specs.declared.Command.TheVariants.{Push, Extend, Dequeue, Skip, Clear}
-use Rattle.ringrun.proofs.Commands.{after_blanks_twice, named, no_blank_left, said, says, unsaid, unsaid_unnamed}
+use Rattle.ringrun.proofs.Commands.{after_blanks_twice, named, no_blank_left, no_words_left, said, says, unsaid, unsaid_unnamed}
 use Rattle.ringrun.proofs.Digits.{digits_front}
-use Rattle.ringrun.proofs.Lines.{by_cases, first_line, lines_behind_blanks, lines_first, next_lines, no_feed, words_at, words_behind_blanks}
+use Rattle.ringrun.proofs.Lines.{by_cases, first_line, lines_behind_blanks, lines_first, next_lines, no_feed, some_is, words_behind_blanks}
 use Rattle.ringrun.proofs.Numbers.{behind_digits, behind_number, signed_rest}
 use Rattle.ringrun.specs.Reading.{after_blanks, after_end, after_name, digits_at, number_at, signed_at, starts_blank, CommandAt, HasNoCommand, NumbersAt, ReadsNumbers}
 use Rattle.ringrun.specs.Script.{commands_of, is_blank, is_line_feed, lines_of, plain, script_from, with_front, with_line, words_of}
@@ -103,7 +104,7 @@ command_ends keeps text Skip rest name = name_ends (codes "skip") text rest refl
 command_ends keeps text Clear rest name = name_ends (codes "clear") text rest refl name
 
 lines_end : (front rest : List ℕ) → feeds front ≡ [] → next_lines (front ++ rest) ≡ next_lines rest
-lines_end [] rest none = refl
+lines_end [] rest = λ none. refl
 lines_end (b ∷ front) rest = by_cases (is_line_feed b)
     (λ h. rw h (λ e. absurd (cc)))
     (λ h. rw h (λ e. lines_end front rest e))
@@ -112,7 +113,7 @@ lines_end (b ∷ front) rest = by_cases (is_line_feed b)
 
 -- the number of the first line of a text that ends a whole one
 abbrev pub number_in : List ℕ → List ℕ → ℕ
-number_in text rest = length (feeds (take (length text - length rest) text)) + 1
+number_in text rest = count_by is_line_feed (take (length text - length rest) text) + 1
 
 abbrev pub left : List ℕ → List ℕ → Result (List (Command ℤ)) ℕ
 left text rest = script_from (number_in text rest) (lines_of rest)
@@ -126,19 +127,100 @@ no_line : (number : ℕ) → script_from number (lines_of []) ≡ Ok []
 unfolding lines_of words_of
 no_line number = refl
 
-with_front_nil : (commands : List (Command ℤ)) → with_front commands (Ok []) ≡ with_front commands (Ok [])
-with_front_nil commands = refl
-
 pub bad_line : (text rest : List ℕ) → says rest ≡ None → left text rest ≡ Err (number_in text rest)
 bad_line text rest none = rw (lines_first rest) (ap (λ o. with_line (number_in text rest) o (script_from (number_in text rest + 1) (next_lines rest))) none)
 
 -- the rest that begins behind the line
 pub record LineRead (text rest after : List ℕ) (commands : List (Command ℤ)) : Type 0 where
-  front : List ℕ
-  is : text ≡ front ++ after
-  script : left text rest ≡ with_front commands (left text after)
+  pub front : List ℕ
+  pub is : text ≡ front ++ after
+  pub script : left text rest ≡ with_front commands (left text after)
+
+counted : (text : List ℕ) → count_by is_line_feed text ≡ length (feeds text)
+counted text = sym (length-filter is_line_feed text)
+
+number_is : (text front rest : List ℕ) → text ≡ front ++ rest → number_in text rest ≡ length (feeds front) + 1
+number_is text front rest is = ap (λ n. n + 1) (ap (count_by is_line_feed) (front_taken text front rest is) ∙ counted front)
+
+first_read : (number : ℕ) (rest : List ℕ) (commands : List (Command ℤ)) (behind : List (List ℕ)) → says rest ≡ Some commands → next_lines rest ≡ behind → script_from number (lines_of rest) ≡ with_front commands (script_from (number + 1) behind)
+first_read number rest commands behind good e =
+    rw (lines_first rest) (ap (λ o. with_line number o (script_from (number + 1) (next_lines rest))) good ∙ ap (λ ls. with_front commands (script_from (number + 1) ls)) e)
+
+one_feed : (b : ℕ) → is_line_feed b ≡ true → [] ++ feeds (b ∷ []) ≡ b ∷ []
+one_feed b h = rw h refl
+
+feed_first : (b : ℕ) (bs after : List ℕ) → after_end (b ∷ bs) ≡ Some after → (is_line_feed b ≡ true) × (after ≡ bs)
+feed_first b bs after = by_cases (is_line_feed b)
+    (λ h. rw h (λ e. (refl, sym (some_is bs after e))))
+    (λ h. rw h (λ e. absurd (cc)))
+
+lines_behind_feed : (b : ℕ) (bs : List ℕ) → is_line_feed b ≡ true → next_lines (b ∷ bs) ≡ lines_of bs
+unfolding lines_of
+lines_behind_feed b bs h = rw h refl
 
 line_read : (text front rest end after : List ℕ) (commands : List (Command ℤ)) → text ≡ front ++ rest → EndsLine rest end → after_end end ≡ Some after → says rest ≡ Some commands → LineRead text rest after commands
 line_read text front rest [] after commands is ends e good =
-    let last : after ≡ [] = ? in ?
-line_read text front rest (b ∷ bs) after commands is ends e good = ?
+    let none : after ≡ [] = sym (some_is [] after e) in
+    let last : next_lines rest ≡ [] = ap next_lines ends.is ∙ lines_end ends.front [] ends.no_feeds in
+    record {
+      front = front ++ ends.front;
+      is = is ∙ ap (λ t. front ++ t) (ends.is ∙ ap (λ t. ends.front ++ t) (sym none)) ∙ sym (append_assoc front ends.front after);
+      script = first_read (number_in text rest) rest commands [] good last ∙ ap (with_front commands) (sym (ap (left text) none ∙ no_line (number_in text [])));
+    }
+line_read text front rest (b ∷ bs) after commands is ends e good =
+    let feed = feed_first b bs after e in
+    let behind : next_lines rest ≡ lines_of after = ap next_lines ends.is ∙ lines_end ends.front (b ∷ bs) ends.no_feeds ∙ lines_behind_feed b bs feed.0 ∙ ap lines_of (sym feed.1) in
+    let passed = front ++ (ends.front ++ b ∷ []) in
+    let parts : text ≡ passed ++ after = is ∙ ap (λ t. front ++ t) (ends.is ∙ ap (λ t. ends.front ++ b ∷ t) (sym feed.1) ∙ sym (append_assoc ends.front (b ∷ []) after)) ∙ sym (append_assoc front (ends.front ++ b ∷ []) after) in
+    let found : feeds passed ≡ feeds front ++ (b ∷ []) = feeds-append front (ends.front ++ b ∷ []) ∙ ap (λ t. feeds front ++ t) (feeds-append ends.front (b ∷ []) ∙ ap (λ t. t ++ feeds (b ∷ [])) ends.no_feeds ∙ one_feed b feed.0) in
+    let more : number_in text after ≡ number_in text rest + 1 = number_is text passed after parts ∙ ap (λ t. length t + 1) found ∙ ap (λ n. n + 1) (length-append (feeds front) (b ∷ [])) ∙ ap (λ n. n + 1) (sym (number_is text front rest is)) in
+    record {
+      front = passed;
+      is = parts;
+      script = first_read (number_in text rest) rest commands (lines_of after) good behind ∙ ap (λ n. with_front commands (script_from n (lines_of after))) (sym more);
+    }
+
+-- ---- a line, as the functions read it
+
+-- a command, and the line's end
+pub command_read : (keeps : Bool) (text front rest : List ℕ) (command : Command ℤ) (behind after : List ℕ) → text ≡ front ++ rest → CommandAt keeps (after_blanks rest) command behind → after_end (after_blanks behind) ≡ Some after
+    → (commands : List (Command ℤ)) × (keeps ≡ true → commands ≡ plain command ∷ []) × LineRead text rest after commands
+command_read keeps text front rest command behind after is at e =
+    let what = said keeps (after_blanks rest) command behind after at e in
+    let ends = then_ends rest behind (after_blanks behind) (then_ends rest (after_blanks rest) behind (blanks_end rest) (command_ends keeps (after_blanks rest) command behind at)) (blanks_end behind) in
+    (what.0, what.2, line_read text front rest (after_blanks behind) after what.0 is ends e (ap commands_of (sym (words_behind_blanks rest)) ∙ what.1))
+
+-- no command, and the line's end
+pub blank_read : (text front rest after : List ℕ) → text ≡ front ++ rest → after_end (after_blanks (after_blanks rest)) ≡ Some after → LineRead text rest after []
+blank_read text front rest after is e =
+    let end : after_end (after_blanks rest) ≡ Some after = ap after_end (sym (after_blanks_twice rest)) ∙ e in
+    line_read text front rest (after_blanks rest) after [] is (blanks_end rest) end (ap commands_of (no_words_left rest after end))
+
+-- a command, and more than the line's end
+pub command_bad : (keeps : Bool) (text rest : List ℕ) (command : Command ℤ) (behind : List ℕ) → CommandAt keeps (after_blanks rest) command behind → after_end (after_blanks behind) ≡ None → left text rest ≡ Err (number_in text rest)
+command_bad keeps text rest command behind at e = bad_line text rest (ap commands_of (sym (words_behind_blanks rest)) ∙ unsaid keeps (after_blanks rest) command behind at e)
+
+-- no command, and more than the line's end
+pub other_bad : (text rest : List ℕ) → HasNoCommand (after_blanks rest) → after_end (after_blanks (after_blanks rest)) ≡ None → left text rest ≡ Err (number_in text rest)
+other_bad text rest none e =
+    let end : after_end (after_blanks rest) ≡ None = ap after_end (sym (after_blanks_twice rest)) ∙ e in
+    bad_line text rest (ap commands_of (sym (words_behind_blanks rest)) ∙ unsaid_unnamed (after_blanks rest) none (no_blank_left rest) end)
+
+-- ---- scripts
+
+pub with_front_nil : (script : Result (List (Command ℤ)) ℕ) → script ≡ with_front [] script
+with_front_nil (Ok commands) = refl
+with_front_nil (Err number) = refl
+
+pub with_front-append : (xs ys : List (Command ℤ)) (script : Result (List (Command ℤ)) ℕ) → with_front xs (with_front ys script) ≡ with_front (xs ++ ys) script
+with_front-append xs ys (Ok commands) = ap Ok (sym (append_assoc xs ys commands))
+with_front-append xs ys (Err number) = refl
+
+-- nothing is left
+pub left_empty : (text rest : List ℕ) → length rest ≡ 0 → left text rest ≡ Ok []
+left_empty text [] e = no_line (number_in text [])
+left_empty text (b ∷ bs) e = absurd (omega (arith, e))
+
+-- a text from its front
+pub left_whole : (text : List ℕ) → left text text ≡ script_from 1 (lines_of text)
+left_whole text = ap (λ n. script_from n (lines_of text)) (number_is text [] text refl)

@@ -1,11 +1,14 @@
 //! A script: a command a line, its words apart by ASCII white space. It is read byte by byte.
 
-ghost use Rattle.std.specs.Prelude.{◌≡◌, ◌==◌, ◌-◌, ◌^◌, ◌%◌, ◌<◌, ◌≤◌, ◌&&◌, not, nat_lt, IfErr, IfOk, IfSome, IsOk, IsSome, MatchOption, None, OnOk, Some, SomeIff, false, length, take};
+ghost use Rattle.std.specs.Prelude.{◌≡◌, ℤ, List, map, true, Err, Ok, ◌==◌, ◌-◌, ◌^◌, ◌%◌, ◌<◌, ◌≤◌, ◌&&◌, not, nat_lt, IfErr, IfOk, IfSome, IsOk, IsSome, MatchOption, None, OnOk, Some, SomeIff, false, length, take};
 ghost use Rattle.std.specs.List.{list_all};
+ghost use Rattle.std.specs.Option.{option_to_list};
 ghost use Rattle.std.specs.Str.Parse.{AllDigits, digits_value};
-ghost use Rattle.ringrun.specs.Fault.{IsInScript, NamesALine};
+ghost use Rattle.ringrun.specs.Fault.{IfNotACommand, IsInScript, NamesALine};
 ghost use Rattle.ringrun.specs.Reading.{CommandAt, HasNoCommand, ReadsNumbers, after_blanks, after_end, after_name, digits_at, number_at, signed_of, size_at};
-ghost use Rattle.ringrun.specs.Script.{is_blank};
+ghost use Rattle.ringrun.specs.Rest.{IsRest, next_number, script_left};
+ghost use Rattle.ringrun.specs.Script.{is_blank, plain, script_of, with_front};
+ghost use Rattle.ringbuffer.specs.declared.Command.{Command};
 
 use crate::fault::Fault;
 use ringbuffer::Command;
@@ -27,7 +30,10 @@ pub struct Script<'a> {
 
 impl<'a> Script<'a> {
     /// Makes a script of the lines of a text.
-    pub fn new(text: &'a [u8]) -> Script<'a> {
+    pub fn new(text: &'a [u8]) -> Script<'a>
+        ensures rest { IsRest result }
+        ensures whole { script_left result ≡ script_of text.now }
+    {
         Script { text, rest: text }
     }
 
@@ -38,6 +44,14 @@ impl<'a> Script<'a> {
     /// `NotACommand` for the first line whose words are no command or whose bytes are no text, and `NoMemory` where memory
     /// was refused before such a line. The line is then left to read.
     pub fn read_batch(&mut self, alloc: Global) -> Result<Vec<Command<i64>>, Fault>
+        requires { IsRest self.old }
+        ensures rest { IsRest self.new }
+        ensures commands { IfOk result (λ commands. script_left self.old
+            ≡ with_front (map plain commands.items) (script_left self.new)) }
+        ensures passed { (commands : List (Command ℤ))
+            × (script_left self.old ≡ with_front commands (script_left self.new)) }
+        ensures bad { IfErr result
+            (λ fault. IfNotACommand fault (λ line. script_left self.old ≡ Err line)) }
         ensures faults { IfErr result IsInScript }
         ensures shorter { OnOk result (0 < length self.old.rest.now
             → length self.new.rest.now < length self.old.rest.now) }
@@ -58,6 +72,11 @@ impl<'a> Script<'a> {
     ///
     /// `NotACommand` for the first line that is none.
     pub fn check(&mut self, alloc: Global) -> Result<(), Fault>
+        requires { IsRest self.old }
+        ensures good { OnOk result ((commands : List (Command ℤ))
+            × (script_left self.old ≡ Ok commands)) }
+        ensures bad { IfErr result
+            (λ fault. IfNotACommand fault (λ line. script_left self.old ≡ Err line)) }
         ensures fault { IfErr result NamesALine }
         ensures read { OnOk result (length self.new.rest.now ≡ 0) }
     {
@@ -67,30 +86,60 @@ impl<'a> Script<'a> {
         Ok(())
     }
 
-    /// Reads the next line, and returns the command that it writes if it has words. Where items aren't kept, an extension
-    /// has none and takes no memory.
+    /// Reads the next line, and returns the command that it writes if it has words. Unless it `keeps_items`, an extension has
+    /// none and takes no memory.
+    ///
+    /// # Errors
+    ///
+    /// As `read_batch`. The line is then left to read.
     #[inline(always)]
     fn read_line(&mut self, alloc: Global, keeps_items: bool) -> Result<Option<Command<i64>>, Fault>
+        requires { IsRest self.old }
+        ensures rest { IsRest self.new }
+        ensures command { keeps_items ≡ true → IfOk result
+            (λ found. script_left self.old
+            ≡ with_front (map plain (option_to_list found)) (script_left self.new)) }
+        ensures passed { (commands : List (Command ℤ))
+            × (script_left self.old ≡ with_front commands (script_left self.new)) }
+        ensures bad { IfErr result
+            (λ fault. IfNotACommand fault (λ line. script_left self.old ≡ Err line)) }
         ensures faults { IfErr result IsInScript }
         ensures no_memory { keeps_items ≡ false → IfErr result NamesALine }
         ensures shorter { OnOk result (0 < length self.old.rest.now
             → length self.new.rest.now < length self.old.rest.now) }
     {
         let words = skip_blanks(self.rest);
-        let (command, rest) = match read_command(alloc, keeps_items, words)? {
-            Some((command, rest)) => (Some(command), rest),
-            None => (None, words),
+        let Some((command, rest)) = read_command(alloc, keeps_items, words)? else {
+            self.end_line(words)?;
+            return Ok(None);
         };
+        self.end_line(rest)?;
+        Ok(Some(command))
+    }
+
+    /// Goes on behind the first line that is left, which `rest` ends.
+    ///
+    /// # Errors
+    ///
+    /// `NotACommand` where other words come before the line's end.
+    #[inline(always)]
+    fn end_line(&mut self, rest: &'a [u8]) -> Result<(), Fault>
+        ensures text { self.new.text ≡ self.old.text }
+        ensures ok { OnOk result (after_end (after_blanks rest.now) ≡ Some self.new.rest.now) }
+        ensures shorter { OnOk result (length self.new.rest.now ≤ length rest.now - 1) }
+        ensures err { IfErr result (λ fault. (after_end (after_blanks rest.now) ≡ None)
+            × (self.new ≡ self.old) × (fault ≡ Fault.NotACommand (next_number self.old))) }
+    {
         let Some(rest) = after_line(rest) else {
             return Err(self.not_a_command());
         };
         self.rest = rest;
-        Ok(command)
+        Ok(())
     }
 
-    /// The fault of the first line that is left.
+    /// Returns the fault of the first line that is left.
     fn not_a_command(&self) -> Fault
-        ensures { NamesALine result }
+        ensures { result ≡ Fault.NotACommand (next_number self.now) }
     {
         let read = self.text.len().saturating_sub(self.rest.len());
         let before = self.text[..read]
