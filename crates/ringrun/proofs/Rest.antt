@@ -224,3 +224,7 @@ left_empty text (b ∷ bs) e = absurd (omega (arith, e))
 -- a text from its front
 pub left_whole : (text : List ℕ) → left text text ≡ script_from 1 (lines_of text)
 left_whole text = ap (λ n. script_from n (lines_of text)) (number_is text [] text refl)
+
+pub step_passed : (before : Result (List (Command ℤ)) ℕ) (xs : List (Command ℤ)) (between : Result (List (Command ℤ)) ℕ) (ys : List (Command ℤ)) (after : Result (List (Command ℤ)) ℕ)
+    → before ≡ with_front xs between → between ≡ with_front ys after → before ≡ with_front (xs ++ ys) after
+step_passed before xs between ys after e f = e ∙ ap (with_front xs) f ∙ with_front-append xs ys after

@@ -14,6 +14,10 @@ reply_line (Dequeued (Some item)) = codes "dequeued " ++ signed_decimal item ++ 
 reply_line Skipped = codes "skipped\n"
 reply_line Cleared = codes "cleared\n"
 
+-- an item behind a space
+abbrev pub item_text : ℤ → List ℕ
+item_text item = codes " " ++ signed_decimal item
+
 -- the last line, with the items
 abbrev pub items_line : List ℤ → List ℕ
-items_line items = codes "items" ++ flat_map (λ item. codes " " ++ signed_decimal item) items ++ codes "\n"
+items_line items = codes "items" ++ flat_map item_text items ++ codes "\n"
