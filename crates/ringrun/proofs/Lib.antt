@@ -5,3 +5,4 @@ pub mod Lines
 pub mod Numbers
 pub mod Rest
 pub mod Signs
+pub mod Texts

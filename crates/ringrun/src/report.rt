@@ -27,12 +27,12 @@ fn push_reply(text: &mut String, reply: &Reply<i64>) -> Result<(), AllocError>
 {
     match reply {
         Reply::Pushed(overwritten) => match overwritten {
-            Some(old) => push_number_line(text, "pushed over ", *old),
+            Some(old) => push_number_line(text, "pushed over ", old),
             None => text.push_str("pushed\n"),
         },
         Reply::Extended => text.push_str("extended\n"),
         Reply::Dequeued(taken) => match taken {
-            Some(item) => push_number_line(text, "dequeued ", *item),
+            Some(item) => push_number_line(text, "dequeued ", item),
             None => text.push_str("dequeued none\n"),
         },
         Reply::Skipped => text.push_str("skipped\n"),
@@ -41,9 +41,9 @@ fn push_reply(text: &mut String, reply: &Reply<i64>) -> Result<(), AllocError>
 }
 
 // Each part by a call of its own takes fewer steps than one format of them all.
-fn push_number_line(text: &mut String, words: &str, number: i64) -> Result<(), AllocError>
+fn push_number_line(text: &mut String, words: &str, number: &i64) -> Result<(), AllocError>
     ensures { OnOk result (string_bytes text.new
-        ≡ string_bytes text.old ++ words.now ++ signed_decimal number ++ codes "\n") }
+        ≡ string_bytes text.old ++ words.now ++ signed_decimal number.now ++ codes "\n") }
 {
     text.push_str(words)?;
     write!(text, "{number}")?;
