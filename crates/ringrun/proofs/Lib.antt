@@ -1,8 +1,10 @@
 pub mod Blanks
 pub mod Commands
 pub mod Digits
+pub mod Endings
 pub mod Lines
 pub mod Numbers
 pub mod Rest
+pub mod Runs
 pub mod Signs
 pub mod Texts

@@ -1,5 +1,6 @@
 -- How the program ends.
-use Rattle.std.specs.Prelude.{◌≡◌, ℕ, ◌<◌, ◌⊎◌, Result, MatchResult}
+use Rattle.std.specs.Prelude.{◌≡◌, ℕ, ◌<◌, ◌⊎◌, List, ◌++◌, Result, MatchResult, codes}
+use Rattle.std.specs.Fmt.{decimal}
 use Rattle.ringrun.specs.declared.fault.Fault.{Fault}
 use Rattle.ringrun.specs.declared.fault.Fault.TheVariants.{NotACommand, BadArguments, NoMemory, InputOrOutput}
 
@@ -9,6 +10,13 @@ status_of (NotACommand line) = 1
 status_of BadArguments = 2
 status_of NoMemory = 3
 status_of InputOrOutput = 4
+
+-- the line for standard error
+abbrev pub line_of : Fault → List ℕ
+line_of (NotACommand line) = codes "ringrun: line " ++ decimal line ++ codes ": not a command\n"
+line_of BadArguments = codes "usage: ringrun array|heap|grow CAPACITY\n"
+line_of NoMemory = codes "ringrun: no memory\n"
+line_of InputOrOutput = codes "ringrun: input or output failed\n"
 
 -- what reading a script may end in: a line, counted from 1, or want of memory
 abbrev pub IsInScript : Fault → Type 0

@@ -19,11 +19,22 @@ limit_of Grow capacity = None
 unfoldable pub printed_on : Option ℕ → List ℤ → List (Command ℤ) → List ℕ
 printed_on limit start commands = flat_map reply_line (replies_of limit start commands) ++ items_line (contents_after limit start commands)
 
--- what is printed for a script: nothing where a line is bad
+-- what the program prints for an input whose lines are all commands, and nothing for another
 abbrev pub printed_for : Option ℕ → Result (List (Command ℤ)) ℕ → List ℕ
 printed_for limit (Ok commands) = printed_on limit [] commands
 printed_for limit (Err line) = []
 
--- what the program prints for an input, where it is asked for a ring of this kind and capacity
 abbrev pub output_of : Kind → ℕ → List ℕ → List ℕ
 output_of kind capacity input = printed_for (limit_of kind capacity) (script_of input)
+
+-- the input's first bad line has this number
+abbrev pub IsBad : ℕ → List ℕ → Type 0
+IsBad line input = script_of input ≡ Err line
+
+-- every line of the input is a command or has no words, and this text is what a ring of this limit prints for them
+abbrev pub Prints : Option ℕ → List ℕ → List ℕ → Type 0
+Prints limit input text = (commands : List (Command ℤ)) × (script_of input ≡ Ok commands) × (text ≡ printed_on limit [] commands)
+
+-- every line of the input is a command or has no words, and the writer gains what the program prints for it, and nothing else
+abbrev pub Writes : Kind → ℕ → Option (List ℕ) → Option (List ℕ) → List ℕ → Type 0
+Writes kind capacity old new input = IsOk (script_of input) × Appends old new (output_of kind capacity input)

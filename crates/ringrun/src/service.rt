@@ -1,16 +1,21 @@
 //! The program's work, over any reader and writers.
 
-ghost use Rattle.std.specs.Prelude.{◌≡◌, ◌≢◌, ◌^◌, ◌<◌, ◌≤◌, ◌↔◌, IfErr, IsErrOf, OnOk, length, map, string_bytes};
+ghost use Rattle.std.specs.Prelude.{◌≡◌, ◌≢◌, ℕ, ℤ, ◌^◌, ◌<◌, ◌≤◌, ◌↔◌, Err, IfErr, IfOk, IfSome, IsErr, IsErrOf, List, None, Ok, OnOk, Some, [], length, map, string_bytes};
 ghost use Rattle.std.specs.Io.KnownBytes.{Appends, IsAtEnd};
-ghost use Rattle.ringrun.specs.Arguments.{AsksTooMuch, IsOffered, NamesRing};
-ghost use Rattle.ringrun.specs.Fault.{IfLinesRead, IsInScript, UnlessALine, status_of};
+ghost use Rattle.ringbuffer.specs.declared.Command.{Command};
+ghost use Rattle.ringrun.specs.Arguments.{AsksFor, AsksTooMuch, IsOffered, NamesRing};
+ghost use Rattle.ringrun.specs.Fault.{IfLinesRead, IfNotACommand, IsInScript, UnlessALine, line_of, status_of};
+ghost use Rattle.ringrun.specs.Program.{IsBad, Prints, Writes, limit_of, printed_on};
+ghost use Rattle.ringrun.specs.Rest.{IsRest, script_left};
+ghost use Rattle.ringrun.specs.Script.{script_of, with_front};
+ghost use Rattle.ringrun.specs.declared.arguments.Arguments.{Arguments};
 
 use crate::arguments::{Arguments, Kind};
 use crate::fault::Fault;
 use crate::report;
 use crate::script::Script;
 use ringbuffer::{
-    AllocRingBuffer, ConstGenericRingBuffer, GrowableAllocRingBuffer, RingBuffer, run,
+    AllocRingBuffer, ConstGenericRingBuffer, GrowableAllocRingBuffer, RingBuffer, run, runs_join,
 };
 use std::alloc::Global;
 use std::io::{Read, Write};
@@ -27,6 +32,11 @@ pub fn serve<I: Read, O: Write, E: Write>(
     output: &mut O,
     errors: &mut E,
 ) -> u8
+    ensures done { result ≡ 0 → (a : Arguments) × AsksFor (map string_bytes words.now) a
+        × IfSome (I.remaining input.old)
+        (Writes a.kind a.capacity (O.contents output.old) (O.contents output.new)) }
+    ensures bad { result ≡ 1 → IfSome (I.remaining input.old)
+        (λ bytes. (line : ℕ) × IsBad line bytes) }
     ensures statuses { result ≤ 4 }
     ensures arguments { (result ≡ 2) ↔ (¬ NamesRing (map string_bytes words.now)) }
     ensures unread { result ≡ 2 → input.new ≡ input.old }
@@ -58,6 +68,11 @@ fn attempt<I: Read, O: Write>(
     input: &mut I,
     output: &mut O,
 ) -> Result<(), Fault>
+    ensures done { OnOk result ((a : Arguments) × AsksFor (map string_bytes words.now) a
+        × IfSome (I.remaining input.old)
+        (Writes a.kind a.capacity (O.contents output.old) (O.contents output.new))) }
+    ensures bad { IfErr result (λ fault. IfNotACommand fault
+        (λ line. IfSome (I.remaining input.old) (IsBad line))) }
     ensures arguments { IsErrOf result Fault.BadArguments
         ↔ (¬ NamesRing (map string_bytes words.now)) }
     ensures unread { IsErrOf result Fault.BadArguments → input.new ≡ input.old }
@@ -71,8 +86,13 @@ fn attempt<I: Read, O: Write>(
     print(text.as_str(), output)
 }
 
-/// The text that the program prints. No byte of the input is read before the arguments are checked.
+/// Returns the text that the program prints. No byte of the input is read before the arguments are checked.
 fn answer<I: Read>(alloc: Global, words: &[String], input: &mut I) -> Result<String, Fault>
+    ensures text { IfOk result (λ text. (a : Arguments) × AsksFor (map string_bytes words.now) a
+        × IfSome (I.remaining input.old)
+        (λ bytes. Prints (limit_of a.kind a.capacity) bytes (string_bytes text))) }
+    ensures bad { IfErr result (λ fault. IfNotACommand fault
+        (λ line. IfSome (I.remaining input.old) (IsBad line))) }
     ensures arguments { IsErrOf result Fault.BadArguments
         ↔ (¬ NamesRing (map string_bytes words.now)) }
     ensures unread { IsErrOf result Fault.BadArguments → input.new ≡ input.old }
@@ -89,6 +109,10 @@ fn answer<I: Read>(alloc: Global, words: &[String], input: &mut I) -> Result<Str
 }
 
 fn answer_by_array<I: Read>(alloc: Global, capacity: usize, input: &mut I) -> Result<String, Fault>
+    ensures text { IfOk result (λ text. IfSome (I.remaining input.old)
+        (λ bytes. Prints (Some capacity) bytes (string_bytes text))) }
+    ensures bad { IfErr result (λ fault. IfNotACommand fault
+        (λ line. IfSome (I.remaining input.old) (IsBad line))) }
     ensures arguments { IsErrOf result Fault.BadArguments ↔ (¬ IsOffered Kind.Array capacity) }
     ensures unread { IsErrOf result Fault.BadArguments → input.new ≡ input.old }
     ensures whole_input { IfLinesRead result (IsAtEnd (I.remaining input.new)) }
@@ -104,13 +128,17 @@ fn answer_by_array<I: Read>(alloc: Global, capacity: usize, input: &mut I) -> Re
     }
 }
 
-/// By an array ring of this capacity, which is so small that the ring is no larger than a value may be.
+/// Answers by an array ring of this capacity, which is so small that the ring is no larger than a value may be.
 fn answer_by_array_of<const CAP: usize, I: Read>(
     alloc: Global,
     input: &mut I,
 ) -> Result<String, Fault>
     requires some { 0 < CAP }
     requires few { CAP < 2 ^ 16 }
+    ensures text { IfOk result (λ text. IfSome (I.remaining input.old)
+        (λ bytes. Prints (Some CAP) bytes (string_bytes text))) }
+    ensures bad { IfErr result (λ fault. IfNotACommand fault
+        (λ line. IfSome (I.remaining input.old) (IsBad line))) }
     ensures faults { IfErr result (λ fault. fault ≢ Fault.BadArguments) }
     ensures whole_input { IfLinesRead result (IsAtEnd (I.remaining input.new)) }
 {
@@ -118,6 +146,10 @@ fn answer_by_array_of<const CAP: usize, I: Read>(
 }
 
 fn answer_by_heap<I: Read>(alloc: Global, capacity: usize, input: &mut I) -> Result<String, Fault>
+    ensures text { IfOk result (λ text. IfSome (I.remaining input.old)
+        (λ bytes. Prints (Some capacity) bytes (string_bytes text))) }
+    ensures bad { IfErr result (λ fault. IfNotACommand fault
+        (λ line. IfSome (I.remaining input.old) (IsBad line))) }
     ensures arguments { IsErrOf result Fault.BadArguments ↔ (¬ IsOffered Kind.Heap capacity) }
     ensures unread { IsErrOf result Fault.BadArguments → input.new ≡ input.old }
     ensures ring_first { 2 ^ 63 < capacity
@@ -132,6 +164,10 @@ fn answer_by_heap<I: Read>(alloc: Global, capacity: usize, input: &mut I) -> Res
 }
 
 fn answer_by_grow<I: Read>(alloc: Global, capacity: usize, input: &mut I) -> Result<String, Fault>
+    ensures text { IfOk result (λ text. IfSome (I.remaining input.old)
+        (λ bytes. Prints None bytes (string_bytes text))) }
+    ensures bad { IfErr result (λ fault. IfNotACommand fault
+        (λ line. IfSome (I.remaining input.old) (IsBad line))) }
     ensures faults { IfErr result (λ fault. fault ≢ Fault.BadArguments) }
     ensures whole_input { IfLinesRead result (IsAtEnd (I.remaining input.new)) }
 {
@@ -139,12 +175,17 @@ fn answer_by_grow<I: Read>(alloc: Global, capacity: usize, input: &mut I) -> Res
     answer_by(&mut ring, alloc, input)
 }
 
-/// The text that this ring's replies to the input's commands make.
+/// Returns the text that the replies of `ring`, which is empty, to the input's commands make.
 fn answer_by<R: RingBuffer<i64>, I: Read>(
     ring: &mut R,
     alloc: Global,
     input: &mut I,
 ) -> Result<String, Fault>
+    requires { R.contents ring.old ≡ [] }
+    ensures text { IfOk result (λ text. IfSome (I.remaining input.old)
+        (λ bytes. Prints (R.limit ring.old) bytes (string_bytes text))) }
+    ensures bad { IfErr result (λ fault. IfNotACommand fault
+        (λ line. IfSome (I.remaining input.old) (IsBad line))) }
     ensures faults { IfErr result (λ fault. fault ≢ Fault.BadArguments) }
     ensures whole_input { IfLinesRead result (IsAtEnd (I.remaining input.new)) }
 {
@@ -158,6 +199,12 @@ fn answer_script<R: RingBuffer<i64>>(
     alloc: Global,
     script: &mut Script<'_>,
 ) -> Result<String, Fault>
+    requires { IsRest script.old }
+    ensures text { IfOk result (λ text. (commands : List (Command ℤ))
+        × (script_left script.old ≡ Ok commands)
+        × (string_bytes text ≡ printed_on (R.limit ring.old) (R.contents ring.old) commands)) }
+    ensures bad { (line : ℕ) → IsErrOf result (Fault.NotACommand line)
+        ↔ (script_left script.old ≡ Err line) }
     ensures faults { IfErr result IsInScript }
     ensures all_read { UnlessALine result (length script.new.rest.now ≡ 0) }
 {
@@ -173,8 +220,20 @@ fn run_script<R: RingBuffer<i64>>(
     alloc: Global,
     script: &mut Script<'_>,
 ) -> Result<String, Fault>
-    ensures { IfErr result IsInScript }
+    requires { IsRest script.old }
+    ensures rest { IsRest script.new }
+    ensures text { IfOk result (λ text. (commands : List (Command ℤ))
+        × (script_left script.old ≡ Ok commands)
+        × (string_bytes text ≡ printed_on (R.limit ring.old) (R.contents ring.old) commands)) }
+    ensures passed { (commands : List (Command ℤ))
+        × (script_left script.old ≡ with_front commands (script_left script.new)) }
+    ensures bad { IfErr result
+        (λ fault. IfNotACommand fault (λ line. script_left script.old ≡ Err line)) }
+    ensures faults { IfErr result IsInScript }
 {
+    // Brings in that the contents are within the limit, and that runs join.
+    let _ = ring.len();
+    runs_join::<i64>();
     let mut text = String::new(alloc);
     while !script.rest.is_empty() {
         let commands = script.read_batch(alloc)?;
@@ -185,8 +244,11 @@ fn run_script<R: RingBuffer<i64>>(
     Ok(text)
 }
 
-/// The whole input.
+/// Returns the whole input.
 fn read_all<I: Read>(alloc: Global, input: &mut I) -> Result<Vec<u8>, Fault>
+    ensures bytes { IfOk result
+        (λ all. IfSome (I.remaining input.old) (λ bytes. all.items ≡ bytes)) }
+    ensures no_line { IfErr result (λ fault. status_of fault ≢ 1) }
     ensures faults { IfErr result (λ fault. fault ≢ Fault.BadArguments) }
     ensures whole_input { IfLinesRead result (IsAtEnd (I.remaining input.new)) }
 {
