@@ -1,6 +1,7 @@
 pub mod Blanks
 pub mod Commands
 pub mod Digits
+pub mod Eight
 pub mod Endings
 pub mod Lines
 pub mod Numbers

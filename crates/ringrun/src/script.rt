@@ -1,9 +1,9 @@
 //! A script: a command a line, its words apart by ASCII white space. It is read byte by byte.
 
-ghost use Rattle.std.specs.Prelude.{◌≡◌, ℤ, List, map, true, Err, Ok, ◌==◌, ◌-◌, ◌^◌, ◌%◌, ◌<◌, ◌≤◌, ◌&&◌, not, nat_lt, IfErr, IfOk, IfSome, IsOk, IsSome, MatchOption, None, OnOk, Some, false, length, take};
+ghost use Rattle.std.specs.Prelude.{◌≡◌, ℤ, List, map, true, Err, Ok, ◌==◌, ◌-◌, ◌^◌, ◌%◌, ◌<◌, ◌≤◌, ◌&&◌, not, nat_lt, IfErr, IfOk, IfSome, IsOk, IsSome, MatchOption, None, OnOk, Some, SomeIff, false, length, take};
 ghost use Rattle.std.specs.List.{list_all};
 ghost use Rattle.std.specs.Option.{option_to_list};
-ghost use Rattle.std.specs.Str.Parse.{digits_value};
+ghost use Rattle.std.specs.Str.Parse.{AllDigits, digits_value};
 ghost use Rattle.ringrun.specs.Fault.{IfNotACommand, IsInScript, NamesALine};
 ghost use Rattle.ringrun.specs.Reading.{CommandAt, HasNoCommand, ReadsNumbers, after_blanks, after_end, after_name, digits_at, number_at, signed_of, size_at};
 ghost use Rattle.ringrun.specs.Rest.{IsRest, next_number, script_left};
@@ -284,8 +284,11 @@ fn read_digits(text: &[u8]) -> (u64, usize)
     ensures count { result.1 ≡ length (digits_at text.now) }
     ensures within { result.1 ≤ length text.now }
 {
-    let mut size: u64 = 0;
-    for at in 0..text.len() {
+    let (mut size, start) = match first_eight(text) {
+        Some(size) => (size, 8),
+        None => (0, 0),
+    };
+    for at in start..text.len() {
         let digit = u64::from(text[at]).wrapping_sub(u64::from(b'0'));
         if digit > 9 {
             return (size, at);
@@ -293,6 +296,25 @@ fn read_digits(text: &[u8]) -> (u64, usize)
         size = size.wrapping_mul(10).wrapping_add(digit);
     }
     (size, text.len())
+}
+
+/// Returns the number that the first eight bytes of `digits` write, if all are digits. They are read together: as bytes, then
+/// in pairs, in fours.
+#[inline(always)]
+fn first_eight(digits: &[u8]) -> Option<u64>
+    ensures { SomeIff result ((8 ≤ length digits.now) × AllDigits 10 (take 8 digits.now))
+        (digits_value 10 (take 8 digits.now)) }
+{
+    let (eight, _) = digits.split_first_chunk::<8>()?;
+    let bytes = u64::from_le_bytes(*eight) ^ 0x3030_3030_3030_3030;
+    // A byte above 9 has its highest bit set, or gets it here.
+    if (bytes | bytes.wrapping_add(0x7676_7676_7676_7676)) & 0x8080_8080_8080_8080 != 0 {
+        return None;
+    }
+    let pairs = bytes.wrapping_mul(10).wrapping_add(bytes >> 8);
+    let low = (pairs & 0x0000_00ff_0000_00ff).wrapping_mul(100 + (1_000_000 << 32));
+    let high = (pairs >> 16 & 0x0000_00ff_0000_00ff).wrapping_mul(1 + (10_000 << 32));
+    Some(low.wrapping_add(high) >> 32)
 }
 
 /// Returns whether all `digits` are zeros.

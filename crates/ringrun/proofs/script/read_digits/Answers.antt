@@ -6,6 +6,16 @@ use Rattle.std.specs.Char.{digit_value}
 use Rattle.std.specs.Str.Parse.{digits_value}
 use Rattle.ringrun.specs.Reading.{digits_at}
 use Rattle.ringrun.proofs.script.read_digits.Goals as goal
+use Rattle.ringrun.proofs.script.read_digits.Goals.{in-Some, in-None}
+
+pub loop-at-init : goal.loop-at-init
+loop-at-init c = elim c.match-first_eight.branch [
+    in-Some w ↦
+      let facts = w.in-Some.ensures in
+      let all = all_from (take 8 c.args.text.now) facts.0.1 in
+      let few = below_length (take 8 c.args.text.now) 8 all (omega (arith, length-take 8 c.args.text.now)) in
+      rw w.size-is (record { within = facts.0.0; digits = all; size = omega (arith, facts.1, few) })
+    | in-None w ↦ rw w.size-is (record { within = omega arith; digits = refl; size = refl }) ]
 
 -- the byte that is none
 stops : (c : goal.Then-digit-gt9) → digits_at c.args.text.now ≡ take c.loop-at.at c.args.text.now
