@@ -11,12 +11,16 @@ status_of BadArguments = 2
 status_of NoMemory = 3
 status_of InputOrOutput = 4
 
+-- what is said of a fault
+abbrev pub text_of : Fault → List ℕ
+text_of (NotACommand line) = codes "ringrun: line " ++ decimal line ++ codes ": not a command"
+text_of BadArguments = codes "usage: ringrun array|heap|grow CAPACITY"
+text_of NoMemory = codes "ringrun: no memory"
+text_of InputOrOutput = codes "ringrun: input or output failed"
+
 -- the line for standard error
 abbrev pub line_of : Fault → List ℕ
-line_of (NotACommand line) = codes "ringrun: line " ++ decimal line ++ codes ": not a command\n"
-line_of BadArguments = codes "usage: ringrun array|heap|grow CAPACITY\n"
-line_of NoMemory = codes "ringrun: no memory\n"
-line_of InputOrOutput = codes "ringrun: input or output failed\n"
+line_of fault = text_of fault ++ codes "\n"
 
 -- what reading a script may end in: a line, counted from 1, or want of memory
 abbrev pub IsInScript : Fault → Type 0

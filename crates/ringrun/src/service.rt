@@ -18,6 +18,7 @@ use ringbuffer::{
     AllocRingBuffer, ConstGenericRingBuffer, GrowableAllocRingBuffer, RingBuffer, run, runs_join,
 };
 use std::alloc::Global;
+use std::io;
 use std::io::{Read, Write};
 
 /// Does what `words`, the program's arguments after its name, ask for, and returns the status to end with.
@@ -57,9 +58,17 @@ pub fn serve<I: Read, O: Write, E: Write>(
 pub fn end<E: Write>(fault: Fault, errors: &mut E) -> u8
     ensures { result ≡ status_of fault }
 {
-    let _ = writeln!(errors, "{fault}");
+    let _ = tell(fault, errors);
     let _ = errors.flush();
     fault.status()
+}
+
+/// Writes the fault's line to `errors`.
+fn tell<E: Write>(fault: Fault, errors: &mut E) -> io::Result<()>
+    ensures { OnOk result
+        (Appends (E.contents errors.old) (E.contents errors.new) (line_of fault)) }
+{
+    writeln!(errors, "{fault}")
 }
 
 fn attempt<I: Read, O: Write>(
