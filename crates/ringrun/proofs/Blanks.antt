@@ -26,8 +26,8 @@ pub after_position : (text : List ℕ) (at : Option ℕ) (end : ℕ) → at ≡ 
     → take (length text - end) (drop end text) ≡ after_blanks text
 after_position text at end found is =
     let there : end ≡ first_other text = is ∙ ap (λ o. unwrap_or o (length text)) found ∙ by_cases (ltb (first_other text) (length text))
-        (λ h. rw h refl)
-        (λ h. rw h (let most = bounded text in grind (arith, nat_tests))) in
+    (λ h. rw h refl)
+    (λ h. rw h (let most = bounded text in grind (arith, nat_tests))) in
     take_rest text end ∙ ap (λ n. drop n text) there ∙ blanks_passed text
 
 pub feed_at_once : (text : List ℕ) → 1 ≤ length text → get_or text 0 0 ≡ 10 → after_end (after_blanks text) ≡ Some (take (length text - 1) (drop 1 text))

@@ -72,10 +72,10 @@ record NextWord (text : List ℕ) (writes : Option ℤ) (behind : List (List ℕ
 
 next_word : (text : List ℕ) → after_end (after_blanks text) ≡ None → NextWord text (number_of (word_at (after_blanks text))) (words_at (past_word (after_blanks text)))
 next_word text e = record {
-    word = word_at (after_blanks text);
-    words = sym (words_behind_blanks text) ∙ word_first (after_blanks text) (no_blank_left text) e;
-    number = refl;
-  }
+  word = word_at (after_blanks text);
+  words = sym (words_behind_blanks text) ∙ word_first (after_blanks text) (no_blank_left text) e;
+  number = refl;
+}
 
 -- where a number is read, a word comes
 not_at_end : (text : List ℕ) (r : ℤ × List ℕ) → signed_at text ≡ Some r → after_end text ≡ None
@@ -104,8 +104,8 @@ whole_word text n rest e h =
       word = next.word;
       words = next.words ∙ ap (λ t. next.word ∷ words_at t) (past_number front ∙ ap past_word (sym is_rest) ∙ past_end rest h);
       number = next.number ∙ number_of_word front
-        ∙ ap (λ v. cond v (number_part (signed_at front)) None) (ap ends_here (sym is_rest) ∙ h)
-        ∙ ap number_part read.1;
+          ∙ ap (λ v. cond v (number_part (signed_at front)) None) (ap ends_here (sym is_rest) ∙ h)
+          ∙ ap number_part read.1;
     }
 
 -- a number that more of a word follows
@@ -118,7 +118,7 @@ broken_word text n rest e h =
       word = next.word;
       words = next.words;
       number = next.number ∙ number_of_word front
-        ∙ ap (λ v. cond v (number_part (signed_at front)) None) (ap ends_here (sym (signed_rest front n rest read.1)) ∙ h);
+          ∙ ap (λ v. cond v (number_part (signed_at front)) None) (ap ends_here (sym (signed_rest front n rest read.1)) ∙ h);
     }
 
 same_none : (v : Bool) → cond v None None ≡ (let none : Option ℤ = None in none)
@@ -134,7 +134,7 @@ other_word text e h k =
       word = next.word;
       words = next.words;
       number = next.number ∙ number_of_word front ∙ ap (λ o. cond (ends_here (behind_number front)) (option_map (λ r. r.0) o) None) (unread_here text e h)
-        ∙ same_none (ends_here (behind_number front));
+          ∙ same_none (ends_here (behind_number front));
     }
 
 -- all words that are left are these numbers
@@ -210,7 +210,7 @@ line_of name rest = option_map (λ command. command ∷ []) (option_and_then (co
 whole_name : (name rest : List ℕ) → IsName name → ends_here rest ≡ true → says (name ++ rest) ≡ line_of name rest
 whole_name name rest is h =
     let words : words_at (name ++ rest) ≡ name ∷ words_at rest = is.words rest ∙ ap (λ w. (name ++ w) ∷ words_at (past_word rest)) (word_ends rest h)
-      ∙ ap (λ w. w ∷ words_at (past_word rest)) (append-nil name) ∙ ap (λ t. name ∷ words_at t) (past_end rest h) in
+    ∙ ap (λ w. w ∷ words_at (past_word rest)) (append-nil name) ∙ ap (λ t. name ∷ words_at t) (past_end rest h) in
     ap commands_of words
 
 longer_name : (name rest : List ℕ) → IsName name → ends_here rest ≡ false → says (name ++ rest) ≡ None
@@ -258,7 +258,7 @@ unsaid_alone : (name : List ℕ) (command : Command ℤ) (text rest : List ℕ) 
     → ((numbers : List ℤ) → command_named name numbers ≡ alone command numbers) → says text ≡ None
 unsaid_alone name command text rest is at e by_name = ap says (named name text rest at) ∙ by_cases (ends_here rest)
     (λ h. whole_name name rest is h
-      ∙ let more = next_word rest e in rw more.words (ap (option_map (λ command. command ∷ [])) (same_then by_name _ ∙ no_number_wanted command (number_of more.word) (numbers_of (words_at (past_word (after_blanks rest)))))))
+    ∙ let more = next_word rest e in rw more.words (ap (option_map (λ command. command ∷ [])) (same_then by_name _ ∙ no_number_wanted command (number_of more.word) (numbers_of (words_at (past_word (after_blanks rest)))))))
     (λ h. longer_name name rest is h)
 
 -- ---- what a line says
@@ -268,17 +268,19 @@ pub said : (keeps : Bool) (text : List ℕ) (command : Command ℤ) (rest after 
     → (commands : List (Command ℤ)) × (says text ≡ Some commands) × (keeps ≡ true → commands ≡ plain command ∷ [])
 said keeps text (Push n) rest after (args, name, number) e =
     let next = whole_word args n rest number (ends_at_end rest after e) in
-    let numbers : numbers_of (words_at args) ≡ Some (n ∷ []) = rw (next.words, no_words_left rest after e, next.number) refl in
-    (Push n ∷ [],
-     ap says (named (codes "push") text args name) ∙ whole_name (codes "push") args is_push (blank_ends args (read_here args (n, rest) number).0)
-       ∙ ap (λ o. option_map (λ command. command ∷ []) (option_and_then (command_named (codes "push")) o)) numbers ∙ push_line n,
-     λ _. refl)
+    let numbers : numbers_of (words_at args) ≡ Some (n ∷ []) = rw (next.words, no_words_left rest after e, next.number) refl in (
+      Push n ∷ [],
+      ap says (named (codes "push") text args name) ∙ whole_name (codes "push") args is_push (blank_ends args (read_here args (n, rest) number).0)
+          ∙ ap (λ o. option_map (λ command. command ∷ []) (option_and_then (command_named (codes "push")) o)) numbers ∙ push_line n,
+      λ _. refl,
+    )
 said keeps text (Extend items) rest after (args, name, (numbers, read, kept)) e =
-    let all = all_numbers numbers args rest after read e in
-    (Extend (vector_of numbers) ∷ [],
-     ap says (named (codes "extend") text args name) ∙ whole_name (codes "extend") args is_extend all.1
-       ∙ ap (λ o. option_map (λ command. command ∷ []) (option_and_then (command_named (codes "extend")) o)) all.0 ∙ extend_line numbers,
-     λ h. ap (λ ns. Extend (vector_of ns) ∷ []) (sym (kept ∙ ap (λ v. cond v numbers []) h)))
+    let all = all_numbers numbers args rest after read e in (
+      Extend (vector_of numbers) ∷ [],
+      ap says (named (codes "extend") text args name) ∙ whole_name (codes "extend") args is_extend all.1
+          ∙ ap (λ o. option_map (λ command. command ∷ []) (option_and_then (command_named (codes "extend")) o)) all.0 ∙ extend_line numbers,
+      λ h. ap (λ ns. Extend (vector_of ns) ∷ []) (sym (kept ∙ ap (λ v. cond v numbers []) h)),
+    )
 said keeps text Dequeue rest after name e = (Dequeue ∷ [], said_alone (codes "dequeue") Dequeue text rest after is_dequeue name e dequeue_named, λ _. refl)
 said keeps text Skip rest after name e = (Skip ∷ [], said_alone (codes "skip") Skip text rest after is_skip name e skip_named, λ _. refl)
 said keeps text Clear rest after name e = (Clear ∷ [], said_alone (codes "clear") Clear text rest after is_clear name e clear_named, λ _. refl)
@@ -288,8 +290,8 @@ pub unsaid : (keeps : Bool) (text : List ℕ) (command : Command ℤ) (rest : Li
 unsaid keeps text (Push n) rest (args, name, number) e =
     ap says (named (codes "push") text args name) ∙ whole_name (codes "push") args is_push (blank_ends args (read_here args (n, rest) number).0)
     ∙ by_cases (ends_here rest)
-      (λ h. let next = whole_word args n rest number h in let more = next_word rest e in rw (next.words, next.number, more.words) (push_lines n (number_of more.word) (numbers_of (words_at (past_word (after_blanks rest))))))
-      (λ h. let next = broken_word args n rest number h in rw (next.words, next.number) refl)
+    (λ h. let next = whole_word args n rest number h in let more = next_word rest e in rw (next.words, next.number, more.words) (push_lines n (number_of more.word) (numbers_of (words_at (past_word (after_blanks rest))))))
+    (λ h. let next = broken_word args n rest number h in rw (next.words, next.number) refl)
 unsaid keeps text (Extend items) rest (args, name, (numbers, read, kept)) e = ap says (named (codes "extend") text args name) ∙ by_cases (ends_here args)
     (λ h. whole_name (codes "extend") args is_extend h ∙ ap (λ o. option_map (λ command. command ∷ []) (option_and_then (command_named (codes "extend")) o)) (some_other numbers args rest read e h))
     (λ h. longer_name (codes "extend") args is_extend h)
@@ -311,7 +313,7 @@ named_again name rest =
 not_word : (name text : List ℕ) → after_name name text ≡ None → bytes_eq (word_at text) name ≡ false
 not_word name text e = by_cases (bytes_eq (word_at text) name)
     (λ h. let is : text ≡ name ++ past_word text = word_and_past text ∙ ap (λ w. w ++ past_word text) ((bytes_eq-Decides (word_at text) name).0 h) in
-      let some : None ≡ Some (past_word text) = sym e ∙ ap (after_name name) is ∙ named_again name (past_word text) in absurd (cc))
+    let some : None ≡ Some (past_word text) = sym e ∙ ap (after_name name) is ∙ named_again name (past_word text) in absurd (cc))
     (λ h. h)
 
 no_such_name : (name : List ℕ) (numbers : List ℤ) → bytes_eq name (codes "push") ≡ false → bytes_eq name (codes "extend") ≡ false → bytes_eq name (codes "dequeue") ≡ false → bytes_eq name (codes "skip") ≡ false → bytes_eq name (codes "clear") ≡ false
@@ -322,9 +324,10 @@ no_such_name name numbers p e d s c = rw (p, e, d, s, c) refl
 no_push : (args : List ℕ) → number_at args ≡ None → ends_here args ≡ true → line_of (codes "push") args ≡ None
 unfolding command_named
 no_push args none h = elim (after_end (after_blanks args))
-    as (λ o. after_end (after_blanks args) ≡ o → line_of (codes "push") args ≡ None)
-    [ Some after ↦ λ e. rw (no_words_left args after e) refl
-    | None ↦ λ e. let next = other_word args none (blank_before_word args e h) e in rw (next.words, next.number) refl ]
+    as (λ o. after_end (after_blanks args) ≡ o → line_of (codes "push") args ≡ None) [
+      | Some after ↦ λ e. rw (no_words_left args after e) refl
+      | None ↦ λ e. let next = other_word args none (blank_before_word args e h) e in rw (next.words, next.number) refl
+    ]
     refl
 
 -- a push without a number
@@ -338,4 +341,4 @@ pub unsaid_unnamed : (text : List ℕ) → HasNoCommand text → starts_blank te
 unsaid_unnamed text (inr (args, name, none)) s e = unsaid_push text args name none
 unsaid_unnamed text (inl un) s e =
     ap commands_of (word_first text s e) ∙ ap (option_map (λ command. command ∷ [])) (none_from (command_named (word_at text)) (numbers_of (words_at (past_word text)))
-      (λ numbers. no_such_name (word_at text) numbers (not_word (codes "push") text un.no_push) (not_word (codes "extend") text un.no_extend) (not_word (codes "dequeue") text un.no_dequeue) (not_word (codes "skip") text un.no_skip) (not_word (codes "clear") text un.no_clear)))
+    (λ numbers. no_such_name (word_at text) numbers (not_word (codes "push") text un.no_push) (not_word (codes "extend") text un.no_extend) (not_word (codes "dequeue") text un.no_dequeue) (not_word (codes "skip") text un.no_skip) (not_word (codes "clear") text un.no_clear)))

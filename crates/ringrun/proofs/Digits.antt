@@ -110,12 +110,12 @@ pub other_value : (ds : List ℕ) → list_all digit ds ≡ true → list_all (�
 other_value [] all h = absurd (cc)
 other_value (d ∷ ds) all h = by_cases (d == 48)
     (λ k. let apart = both_true (digit d) (list_all digit ds) all in
-      let here : digit_value d ≡ 0 = grind (arith, nat_tests) in
-      let rest : list_all (λ d. d == 48) ds ≡ false = rw k at h in
-      rw here (other_value ds apart.1 rest))
+    let here : digit_value d ≡ 0 = grind (arith, nat_tests) in
+    let rest : list_all (λ d. d == 48) ds ≡ false = rw k at h in
+    rw here (other_value ds apart.1 rest))
     (λ k. let apart = both_true (digit d) (list_all digit ds) all in
-      let here : 0 < digit_value d = grind (arith, nat_tests) in
-      omega (arith, grows (0 * 10 + digit_value d) ds))
+    let here : 0 < digit_value d = grind (arith, nat_tests) in
+    omega (arith, grows (0 * 10 + digit_value d) ds))
 
 all_drop : (k : ℕ) (ds : List ℕ) → list_all digit ds ≡ true → list_all digit (drop k ds) ≡ true
 all_drop zero ds h = h

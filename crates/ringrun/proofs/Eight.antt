@@ -30,16 +30,16 @@ low_or_high i low high = by_cases (ltb i 8) (λ h. low (grind (arith, nat_tests)
 and_cat : (m a n b : ℕ) → a < 2 ^ 8 → b < 2 ^ 8 → bit_and a b < 2 ^ 8 → bit_and (m * 2 ^ 8 + a) (n * 2 ^ 8 + b) ≡ bit_and m n * 2 ^ 8 + bit_and a b
 and_cat m a n b ha hb hc = same_from_bits _ _ (λ i. low_or_high i
     (λ h. bit_at_and (m * 2 ^ 8 + a) (n * 2 ^ 8 + b) i ∙ ap (λ x. min x (bit_at (n * 2 ^ 8 + b) i)) (bit_at_cat_low m 8 a i h) ∙ ap (min (bit_at a i)) (bit_at_cat_low n 8 b i h)
-      ∙ sym (bit_at_cat_low (bit_and m n) 8 (bit_and a b) i h ∙ bit_at_and a b i))
+    ∙ sym (bit_at_cat_low (bit_and m n) 8 (bit_and a b) i h ∙ bit_at_and a b i))
     (λ h. bit_at_and (m * 2 ^ 8 + a) (n * 2 ^ 8 + b) i ∙ ap (λ x. min x (bit_at (n * 2 ^ 8 + b) i)) (bit_at_cat_high m 8 a i ha h) ∙ ap (min (bit_at m (i - 8))) (bit_at_cat_high n 8 b i hb h)
-      ∙ sym (bit_at_cat_high (bit_and m n) 8 (bit_and a b) i hc h ∙ bit_at_and m n (i - 8))))
+    ∙ sym (bit_at_cat_high (bit_and m n) 8 (bit_and a b) i hc h ∙ bit_at_and m n (i - 8))))
 
 xor_cat : (m a n b : ℕ) → a < 2 ^ 8 → b < 2 ^ 8 → bit_xor a b < 2 ^ 8 → bit_xor (m * 2 ^ 8 + a) (n * 2 ^ 8 + b) ≡ bit_xor m n * 2 ^ 8 + bit_xor a b
 xor_cat m a n b ha hb hc = same_from_bits _ _ (λ i. low_or_high i
     (λ h. bit_at_xor (m * 2 ^ 8 + a) (n * 2 ^ 8 + b) i ∙ ap (λ x. (x + bit_at (n * 2 ^ 8 + b) i) % 2) (bit_at_cat_low m 8 a i h) ∙ ap (λ y. (bit_at a i + y) % 2) (bit_at_cat_low n 8 b i h)
-      ∙ sym (bit_at_cat_low (bit_xor m n) 8 (bit_xor a b) i h ∙ bit_at_xor a b i))
+    ∙ sym (bit_at_cat_low (bit_xor m n) 8 (bit_xor a b) i h ∙ bit_at_xor a b i))
     (λ h. bit_at_xor (m * 2 ^ 8 + a) (n * 2 ^ 8 + b) i ∙ ap (λ x. (x + bit_at (n * 2 ^ 8 + b) i) % 2) (bit_at_cat_high m 8 a i ha h) ∙ ap (λ y. (bit_at m (i - 8) + y) % 2) (bit_at_cat_high n 8 b i hb h)
-      ∙ sym (bit_at_cat_high (bit_xor m n) 8 (bit_xor a b) i hc h ∙ bit_at_xor m n (i - 8))))
+    ∙ sym (bit_at_cat_high (bit_xor m n) 8 (bit_xor a b) i hc h ∙ bit_at_xor m n (i - 8))))
 
 and_zero : (a : ℕ) → bit_and a 0 ≡ 0
 and_zero a = same_from_bits _ _ (λ i. bit_at_and a 0 i ∙ ap (min (bit_at a i)) (bit_at-zero i) ∙ min_zero (bit_at a i) ∙ sym (bit_at-zero i))
@@ -47,9 +47,10 @@ and_zero a = same_from_bits _ _ (λ i. bit_at_and a 0 i ∙ ap (min (bit_at a i)
 -- no bit of either is in the mask, where none of both is
 either : (x y m : ℕ) → bit_and (bit_or x y) m ≡ 0 → (bit_and x m ≡ 0) × (bit_and y m ≡ 0)
 either x y m h =
-    let both = λ (i : ℕ). ap (λ n. min n (bit_at m i)) (sym (bit_at_or x y i)) ∙ sym (bit_at_and (bit_or x y) m i) ∙ ap (λ n. bit_at n i) h ∙ bit_at-zero i in
-    (same_from_bits _ _ (λ i. bit_at_and x m i ∙ least (bit_at x i) (bit_at y i) (bit_at m i) (both i) ∙ sym (bit_at-zero i)),
-     same_from_bits _ _ (λ i. bit_at_and y m i ∙ least_right (bit_at x i) (bit_at y i) (bit_at m i) (both i) ∙ sym (bit_at-zero i)))
+    let both = λ (i : ℕ). ap (λ n. min n (bit_at m i)) (sym (bit_at_or x y i)) ∙ sym (bit_at_and (bit_or x y) m i) ∙ ap (λ n. bit_at n i) h ∙ bit_at-zero i in (
+      same_from_bits _ _ (λ i. bit_at_and x m i ∙ least (bit_at x i) (bit_at y i) (bit_at m i) (both i) ∙ sym (bit_at-zero i)),
+      same_from_bits _ _ (λ i. bit_at_and y m i ∙ least_right (bit_at x i) (bit_at y i) (bit_at m i) (both i) ∙ sym (bit_at-zero i)),
+    )
 
 both_none : (x y m : ℕ) → bit_and x m ≡ 0 → bit_and y m ≡ 0 → bit_and (bit_or x y) m ≡ 0
 both_none x y m h k = same_from_bits _ _ (λ i. bit_at_and (bit_or x y) m i ∙ ap (λ n. min n (bit_at m i)) (bit_at_or x y i)
@@ -137,9 +138,10 @@ none_tops [] h e = tt
 none_tops (b ∷ bs) (h, hs) e =
     let parts : bit_and (pack bs) (pack (map (λ _. 128) bs)) * 2 ^ 8 + bit_and b 128 ≡ 0 = sym (and_cat (pack bs) b (pack (map (λ _. 128) bs)) 128 h (omega arith) (top_small b h)) ∙ e in
     let top : bit_and b 128 ≡ 0 = omega (arith, parts) in
-    let rest : bit_and (pack bs) (pack (map (λ _. 128) bs)) ≡ 0 = omega (arith, parts) in
-    (by_cases (ltb b 128) (λ k. grind (arith, nat_tests)) (λ k. let t = top_high b h (grind (arith, nat_tests)) in absurd (omega (arith, t, top))),
-     none_tops bs hs rest)
+    let rest : bit_and (pack bs) (pack (map (λ _. 128) bs)) ≡ 0 = omega (arith, parts) in (
+      by_cases (ltb b 128) (λ k. grind (arith, nat_tests)) (λ k. let t = top_high b h (grind (arith, nat_tests)) in absurd (omega (arith, t, top))),
+      none_tops bs hs rest,
+    )
 
 add_pack : (xs : List ℕ) → pack xs + pack (map (λ _. 118) xs) ≡ pack (map (λ x. x + 118) xs)
 add_pack [] = refl
@@ -293,10 +295,10 @@ joins : (p0 p1 p2 p3 p4 p5 p6 p7 : ℕ) → Below 100 (p0 ∷ p1 ∷ p2 ∷ p3 �
 joins p0 p1 p2 p3 p4 p5 p6 p7 h =
     let wide = weaken 100 256 (omega arith) (p0 ∷ p1 ∷ p2 ∷ p3 ∷ p4 ∷ p5 ∷ p6 ∷ p7 ∷ []) h in
     let low : bit_and (pack (p0 ∷ p1 ∷ p2 ∷ p3 ∷ p4 ∷ p5 ∷ p6 ∷ p7 ∷ [])) 1095216660735 ≡ pack (p0 ∷ 0 ∷ 0 ∷ 0 ∷ p4 ∷ 0 ∷ 0 ∷ 0 ∷ [])
-      = and_masked (true ∷ false ∷ false ∷ false ∷ true ∷ false ∷ false ∷ false ∷ []) (p0 ∷ p1 ∷ p2 ∷ p3 ∷ p4 ∷ p5 ∷ p6 ∷ p7 ∷ []) wide in
+    = and_masked (true ∷ false ∷ false ∷ false ∷ true ∷ false ∷ false ∷ false ∷ []) (p0 ∷ p1 ∷ p2 ∷ p3 ∷ p4 ∷ p5 ∷ p6 ∷ p7 ∷ []) wide in
     let rest : pack (p0 ∷ p1 ∷ p2 ∷ p3 ∷ p4 ∷ p5 ∷ p6 ∷ p7 ∷ []) / 65536 ≡ pack (p2 ∷ p3 ∷ p4 ∷ p5 ∷ p6 ∷ p7 ∷ []) = halves p0 p1 (pack (p2 ∷ p3 ∷ p4 ∷ p5 ∷ p6 ∷ p7 ∷ [])) wide.0 wide.1.0 in
     let high : bit_and (pack (p2 ∷ p3 ∷ p4 ∷ p5 ∷ p6 ∷ p7 ∷ [])) 1095216660735 ≡ pack (p2 ∷ 0 ∷ 0 ∷ 0 ∷ p6 ∷ 0 ∷ [])
-      = and_masked (true ∷ false ∷ false ∷ false ∷ true ∷ false ∷ []) (p2 ∷ p3 ∷ p4 ∷ p5 ∷ p6 ∷ p7 ∷ []) wide.1.1 in
+    = and_masked (true ∷ false ∷ false ∷ false ∷ true ∷ false ∷ []) (p2 ∷ p3 ∷ p4 ∷ p5 ∷ p6 ∷ p7 ∷ []) wide.1.1 in
     ap (λ n. (n * 4294967296000100 % 2 ^ 64 + bit_and (pack (p0 ∷ p1 ∷ p2 ∷ p3 ∷ p4 ∷ p5 ∷ p6 ∷ p7 ∷ []) / 65536) 1095216660735 * 42949672960001 % 2 ^ 64) % 2 ^ 64 / 4294967296) low
     ∙ ap (λ n. (pack (p0 ∷ 0 ∷ 0 ∷ 0 ∷ p4 ∷ 0 ∷ 0 ∷ 0 ∷ []) * 4294967296000100 % 2 ^ 64 + bit_and n 1095216660735 * 42949672960001 % 2 ^ 64) % 2 ^ 64 / 4294967296) rest
     ∙ ap (λ n. (pack (p0 ∷ 0 ∷ 0 ∷ 0 ∷ p4 ∷ 0 ∷ 0 ∷ 0 ∷ []) * 4294967296000100 % 2 ^ 64 + n * 42949672960001 % 2 ^ 64) % 2 ^ 64 / 4294967296) high
@@ -324,14 +326,17 @@ told_eight : (b0 b1 b2 b3 b4 b5 b6 b7 : ℕ) → Told (b0 ∷ b1 ∷ b2 ∷ b3 �
 told_eight b0 b1 b2 b3 b4 b5 b6 b7 small n e =
     let all = b0 ∷ b1 ∷ b2 ∷ b3 ∷ b4 ∷ b5 ∷ b6 ∷ b7 ∷ [] in
     let is : n ≡ pack (b0 ∷ b1 ∷ b2 ∷ b3 ∷ b4 ∷ b5 ∷ b6 ∷ b7 ∷ []) = omega (arith, e) in
-    let x : bit_xor n 3472328296227680304 ≡ pack (xored (b0 ∷ b1 ∷ b2 ∷ b3 ∷ b4 ∷ b5 ∷ b6 ∷ b7 ∷ [])) = ap (λ m. bit_xor m 3472328296227680304) is ∙ xor_pack (b0 ∷ b1 ∷ b2 ∷ b3 ∷ b4 ∷ b5 ∷ b6 ∷ b7 ∷ []) small in
-    ((λ other digits. other (ap tested x ∙ passes _ _ _ _ _ _ _ _ (from_digits (b0 ∷ b1 ∷ b2 ∷ b3 ∷ b4 ∷ b5 ∷ b6 ∷ b7 ∷ []) small digits))),
-     (λ pass.
-       let low = passed _ _ _ _ _ _ _ _ (xored_small (b0 ∷ b1 ∷ b2 ∷ b3 ∷ b4 ∷ b5 ∷ b6 ∷ b7 ∷ []) small) (ap tested (sym x) ∙ pass) in
-       let digits = to_digits (b0 ∷ b1 ∷ b2 ∷ b3 ∷ b4 ∷ b5 ∷ b6 ∷ b7 ∷ []) small low in
-       (digits, ap (λ m. joined (paired m)) x
-         ∙ value_of _ _ _ _ _ _ _ _ low.0 low.1.0 low.1.1.0 low.1.1.1.0 low.1.1.1.1.0 low.1.1.1.1.1.0 low.1.1.1.1.1.1.0 low.1.1.1.1.1.1.1.0
-         ∙ sym (value_horner 0 (b0 ∷ b1 ∷ b2 ∷ b3 ∷ b4 ∷ b5 ∷ b6 ∷ b7 ∷ []) small digits))))
+    let x : bit_xor n 3472328296227680304 ≡ pack (xored (b0 ∷ b1 ∷ b2 ∷ b3 ∷ b4 ∷ b5 ∷ b6 ∷ b7 ∷ [])) = ap (λ m. bit_xor m 3472328296227680304) is ∙ xor_pack (b0 ∷ b1 ∷ b2 ∷ b3 ∷ b4 ∷ b5 ∷ b6 ∷ b7 ∷ []) small in (
+      (λ other digits. other (ap tested x ∙ passes _ _ _ _ _ _ _ _ (from_digits (b0 ∷ b1 ∷ b2 ∷ b3 ∷ b4 ∷ b5 ∷ b6 ∷ b7 ∷ []) small digits))),
+      (λ pass.
+          let low = passed _ _ _ _ _ _ _ _ (xored_small (b0 ∷ b1 ∷ b2 ∷ b3 ∷ b4 ∷ b5 ∷ b6 ∷ b7 ∷ []) small) (ap tested (sym x) ∙ pass) in
+          let digits = to_digits (b0 ∷ b1 ∷ b2 ∷ b3 ∷ b4 ∷ b5 ∷ b6 ∷ b7 ∷ []) small low in (
+            digits,
+            ap (λ m. joined (paired m)) x
+                ∙ value_of _ _ _ _ _ _ _ _ low.0 low.1.0 low.1.1.0 low.1.1.1.0 low.1.1.1.1.0 low.1.1.1.1.1.0 low.1.1.1.1.1.1.0 low.1.1.1.1.1.1.1.0
+                ∙ sym (value_horner 0 (b0 ∷ b1 ∷ b2 ∷ b3 ∷ b4 ∷ b5 ∷ b6 ∷ b7 ∷ []) small digits),
+          )),
+    )
 
 pub told : (bs : List ℕ) → length bs ≡ 8 → Told bs
 told bs h = by_eight Told told_eight bs h

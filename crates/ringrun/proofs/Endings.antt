@@ -25,9 +25,10 @@ line_is m n e = cc
 pub named : {T : Type 0} (result : Result T Fault) (fault : Fault) (old mid : Script) (commands : List (Command ℤ)) → result ≡ Err fault → old ≡ with_front commands mid → NamesALine fault → IfNotACommand fault (λ line. mid ≡ Err line)
     → (line : ℕ) → (result ≡ Err (NotACommand line)) ↔ (old ≡ Err line)
 named result (NotACommand n) old mid commands is passed names bad line =
-    let first : old ≡ Err n = passed ∙ ap (with_front commands) bad in
-    ((λ e. first ∙ ap (λ m. let e : Script = Err m in e) (line_is n line (err_is (NotACommand n) (NotACommand line) (sym is ∙ e)))),
-     (λ e. is ∙ ap (λ m. Err (NotACommand m)) (err_is n line (sym first ∙ e))))
+    let first : old ≡ Err n = passed ∙ ap (with_front commands) bad in (
+      (λ e. first ∙ ap (λ m. let e : Script = Err m in e) (line_is n line (err_is (NotACommand n) (NotACommand line) (sym is ∙ e)))),
+      (λ e. is ∙ ap (λ m. Err (NotACommand m)) (err_is n line (sym first ∙ e))),
+    )
 named result BadArguments old mid commands is passed names bad line = absurd names
 named result NoMemory old mid commands is passed names bad line = absurd names
 named result InputOrOutput old mid commands is passed names bad line = absurd names
@@ -36,9 +37,10 @@ named result InputOrOutput old mid commands is passed names bad line = absurd na
 pub not_named : {T : Type 0} (result : Result T Fault) (old mid : Script) (front behind : List (Command ℤ)) → old ≡ with_front front mid → mid ≡ Ok behind → IfErr result (λ fault. IfNotACommand fault (λ line. old ≡ Err line))
     → (line : ℕ) → (result ≡ Err (NotACommand line)) ↔ (old ≡ Err line)
 not_named result old mid front behind passed good bad line =
-    let whole : old ≡ Ok (front ++ behind) = passed ∙ ap (with_front front) good in
-    ((λ e. subst (λ r. IfErr r (λ fault. IfNotACommand fault (λ line. old ≡ Err line))) e bad),
-     (λ e. let no : (let o : Script = Ok (front ++ behind) in o) ≡ Err line = sym whole ∙ e in absurd (cc)))
+    let whole : old ≡ Ok (front ++ behind) = passed ∙ ap (with_front front) good in (
+      (λ e. subst (λ r. IfErr r (λ fault. IfNotACommand fault (λ line. old ≡ Err line))) e bad),
+      (λ e. let no : (let o : Script = Ok (front ++ behind) in o) ≡ Err line = sym whole ∙ e in absurd (cc)),
+    )
 
 -- a known text under another name
 pub carried : (known : Option (List ℕ)) (xs ys : List ℕ) → xs ≡ ys → IfSome known (λ bytes. ys ≡ bytes) → IfSome known (λ bytes. xs ≡ bytes)
@@ -51,9 +53,10 @@ ok_holds commands = refl
 
 written : (kind : Kind) (capacity : ℕ) (known : Option (List ℕ)) (old new : Option (List ℕ)) (text : List ℕ) → IfSome known (λ bytes. Prints (limit_of kind capacity) bytes text) → Appends old new text → IfSome known (Writes kind capacity old new)
 written kind capacity None old new text h appends = tt
-written kind capacity (Some bytes) old new text (commands, good, is) appends =
-    (subst (λ (r : Script). IsOk r) (sym good) (ok_holds commands),
-     subst (Appends old new) (is ∙ ap (printed_for (limit_of kind capacity)) (sym good)) appends)
+written kind capacity (Some bytes) old new text (commands, good, is) appends = (
+  subst (λ (r : Script). IsOk r) (sym good) (ok_holds commands),
+  subst (Appends old new) (is ∙ ap (printed_for (limit_of kind capacity)) (sym good)) appends,
+)
 
 pub done : {T E : Type 0} (result : Result T E) (words : List (List ℕ)) (known old new : Option (List ℕ)) (text shown : List ℕ)
     → ((a : Arguments) × AsksFor words a × IfSome known (λ bytes. Prints (limit_of a.kind a.capacity) bytes text)) → shown ≡ text → OnOk result (Appends old new shown)

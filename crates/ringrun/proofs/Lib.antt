@@ -9,3 +9,4 @@ pub mod Rest
 pub mod Runs
 pub mod Signs
 pub mod Texts
+pub mod WorkedRows

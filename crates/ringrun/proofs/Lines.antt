@@ -70,10 +70,11 @@ words_behind_blank b bs h = rw (no_feed b h, h) refl
 first_of_first : (bs : List ℕ) → first_part is_blank (first_line bs) ≡ word_at bs
 first_of_first [] = refl
 first_of_first (b ∷ bs) =
-    elim (is_line_feed b) as (λ v. first_part is_blank (cond v [] (b ∷ first_line bs)) ≡ cond (is_blank b || v) [] (b ∷ word_at bs))
-    [ true ↦ elim (is_blank b) as (λ u. [] ≡ cond (u || true) [] (b ∷ word_at bs)) [ true ↦ refl | false ↦ refl ]
-    | false ↦ elim (is_blank b) as (λ u. cond u [] (b ∷ first_part is_blank (first_line bs)) ≡ cond (u || false) [] (b ∷ word_at bs))
-      [ true ↦ refl | false ↦ ap (λ t. b ∷ t) (first_of_first bs) ] ]
+    elim (is_line_feed b) as (λ v. first_part is_blank (cond v [] (b ∷ first_line bs)) ≡ cond (is_blank b || v) [] (b ∷ word_at bs)) [
+      | true ↦ elim (is_blank b) as (λ u. [] ≡ cond (u || true) [] (b ∷ word_at bs)) [ true ↦ refl | false ↦ refl ]
+      | false ↦ elim (is_blank b) as (λ u. cond u [] (b ∷ first_part is_blank (first_line bs)) ≡ cond (u || false) [] (b ∷ word_at bs))
+          [ true ↦ refl | false ↦ ap (λ t. b ∷ t) (first_of_first bs) ]
+    ]
 
 filter_next : (bs : List ℕ) → filter is_some_bytes (next_parts is_blank (first_line bs)) ≡ words_at (past_word bs)
 unfolding words_of

@@ -117,8 +117,8 @@ signed_is text =
     let digits = digits_at (without_leading_sign text) in let size = digits_value 10 digits in
     by_cases (is_some_bytes digits)
     (λ some. by_cases (ltb size (10 ^ 19))
-      (λ small. rw (some, small) (same_first (signed_of (starts_with_minus text) size) (behind_number text)))
-      (λ large. rw (some, large) (sym (too_large (starts_with_minus text) size large))))
+    (λ small. rw (some, small) (same_first (signed_of (starts_with_minus text) size) (behind_number text)))
+    (λ large. rw (some, large) (sym (too_large (starts_with_minus text) size large))))
     (λ none. rw none refl)
 
 -- the word that begins a text writes the number at the front, if it ends with it, and else none
@@ -129,11 +129,11 @@ number_of_word text =
     let word : without_leading_sign (word_at text) ≡ digits_at digits ++ word_at behind = sign_then_word text ∙ digits_then_word digits in
     by_cases (ends_here behind)
     (λ h. let whole : without_leading_sign (word_at text) ≡ digits_at digits = word ∙ ap (λ w. digits_at digits ++ w) (word_ends behind h) ∙ append-nil (digits_at digits) in
-      rw h (number_is (word_at text) (digits_at digits) whole (all_digits digits)
-        ∙ ap (λ m. cond (is_some_bytes (digits_at digits)) (signed_of m (digits_value 10 (digits_at digits))) None) (minus_then_word text)
-        ∙ sym (signed_is text)))
+    rw h (number_is (word_at text) (digits_at digits) whole (all_digits digits)
+    ∙ ap (λ m. cond (is_some_bytes (digits_at digits)) (signed_of m (digits_value 10 (digits_at digits))) None) (minus_then_word text)
+    ∙ sym (signed_is text)))
     (λ h. rw h (no_number (word_at text) (ap (list_all digit) word ∙ all_append (digits_at digits) (word_at behind)
-        ∙ ap (λ v. v && list_all digit (word_at behind)) (all_digits digits) ∙ stray digits h)))
+    ∙ ap (λ v. v && list_all digit (word_at behind)) (all_digits digits) ∙ stray digits h)))
 
 past_digits : (text : List ℕ) → past_word text ≡ past_word (behind_digits text)
 unfolding digits_at

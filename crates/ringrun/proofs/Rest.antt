@@ -36,17 +36,17 @@ here text = record { front = []; is = refl; no_feeds = refl }
 
 pub then_ends : (a b c : List ℕ) → EndsLine a b → EndsLine b c → EndsLine a c
 then_ends a b c p q = record {
-    front = p.front ++ q.front;
-    is = p.is ∙ ap (λ t. p.front ++ t) q.is ∙ sym (append_assoc p.front q.front c);
-    no_feeds = feeds-append p.front q.front ∙ ap (λ t. t ++ feeds q.front) p.no_feeds ∙ q.no_feeds;
-  }
+  front = p.front ++ q.front;
+  is = p.is ∙ ap (λ t. p.front ++ t) q.is ∙ sym (append_assoc p.front q.front c);
+  no_feeds = feeds-append p.front q.front ∙ ap (λ t. t ++ feeds q.front) p.no_feeds ∙ q.no_feeds;
+}
 
 one_more : (b : ℕ) (text rest : List ℕ) → is_line_feed b ≡ false → EndsLine text rest → EndsLine (b ∷ text) rest
 one_more b text rest h p = record {
-    front = b ∷ p.front;
-    is = ap (λ t. b ∷ t) p.is;
-    no_feeds = rw h p.no_feeds;
-  }
+  front = b ∷ p.front;
+  is = ap (λ t. b ∷ t) p.is;
+  no_feeds = rw h p.no_feeds;
+}
 
 pub blanks_end : (text : List ℕ) → EndsLine text (after_blanks text)
 unfolding after_blanks
@@ -70,27 +70,28 @@ no_feed_digits (b ∷ bs) = by_cases (is_digit b 10)
 
 digits_end : (text : List ℕ) → EndsLine text (behind_digits text)
 digits_end text = record {
-    front = digits_at text;
-    is = sym (take-append-drop (length (digits_at text)) text) ∙ ap (λ t. t ++ behind_digits text) (sym (digits_front text));
-    no_feeds = no_feed_digits text;
-  }
+  front = digits_at text;
+  is = sym (take-append-drop (length (digits_at text)) text) ∙ ap (λ t. t ++ behind_digits text) (sym (digits_front text));
+  no_feeds = no_feed_digits text;
+}
 
 sign_ends : (text : List ℕ) → EndsLine text (without_leading_sign text)
 sign_ends [] = here []
 sign_ends (b ∷ bs) = by_cases (eqb b 45)
     (λ h. let other : is_line_feed b ≡ false = grind (arith, nat_tests) in rw h (one_more b bs bs other (here bs)))
     (λ h. by_cases (eqb b 43)
-      (λ k. let other : is_line_feed b ≡ false = grind (arith, nat_tests) in rw (h, k) (one_more b bs bs other (here bs)))
-      (λ k. rw (h, k) (here (b ∷ bs))))
+    (λ k. let other : is_line_feed b ≡ false = grind (arith, nat_tests) in rw (h, k) (one_more b bs bs other (here bs)))
+    (λ k. rw (h, k) (here (b ∷ bs))))
 
 signed_ends : (text : List ℕ) → EndsLine text (behind_number text)
 signed_ends text = then_ends text (without_leading_sign text) (behind_number text) (sign_ends text) (digits_end (without_leading_sign text))
 
 number_ends : (text : List ℕ) (n : ℤ) (rest : List ℕ) → number_at text ≡ Some (n, rest) → EndsLine text rest
 unfolding number_at
-number_ends text n rest = elim (starts_blank text) as (λ v. cond v (signed_at (after_blanks text)) None ≡ Some (n, rest) → EndsLine text rest)
-    [ true ↦ λ e. then_ends text (after_blanks text) rest (blanks_end text) (subst (EndsLine (after_blanks text)) (sym (signed_rest (after_blanks text) n rest e)) (signed_ends (after_blanks text)))
-    | false ↦ λ e. absurd (cc) ]
+number_ends text n rest = elim (starts_blank text) as (λ v. cond v (signed_at (after_blanks text)) None ≡ Some (n, rest) → EndsLine text rest) [
+  | true ↦ λ e. then_ends text (after_blanks text) rest (blanks_end text) (subst (EndsLine (after_blanks text)) (sym (signed_rest (after_blanks text) n rest e)) (signed_ends (after_blanks text)))
+  | false ↦ λ e. absurd (cc)
+]
 
 numbers_end : (numbers : List ℤ) (text rest : List ℕ) → NumbersAt text numbers rest → EndsLine text rest
 numbers_end [] text rest (none, same) = subst (EndsLine text) (sym same) (here text)

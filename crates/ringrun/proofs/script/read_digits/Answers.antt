@@ -10,12 +10,13 @@ use Rattle.ringrun.proofs.script.read_digits.Goals.{in-Some, in-None}
 
 pub loop-at-init : goal.loop-at-init
 loop-at-init c = elim c.match-first_eight.branch [
-    in-Some w ↦
+  | in-Some w ↦
       let facts = w.in-Some.ensures in
       let all = all_from (take 8 c.args.text.now) facts.0.1 in
       let few = below_length (take 8 c.args.text.now) 8 all (omega (arith, length-take 8 c.args.text.now)) in
       rw w.size-is (record { within = facts.0.0; digits = all; size = omega (arith, facts.1, few) })
-    | in-None w ↦ rw w.size-is (record { within = omega arith; digits = refl; size = refl }) ]
+  | in-None w ↦ rw w.size-is (record { within = omega arith; digits = refl; size = refl })
+]
 
 -- the byte that is none
 stops : (c : goal.Then-digit-gt9) → digits_at c.args.text.now ≡ take c.loop-at.at c.args.text.now
@@ -40,8 +41,8 @@ loop-at-preserved c =
       within = omega (arith, c.loop-at-test.true);
       digits = all_more text at c.loop-at-test.true c.loop-at.invariant.digits byte.0;
       size = wraps (digits_value 10 (take at text)) c.loop-at.size _ c.loop-at.invariant.size
-        ∙ ap (λ d. (digits_value 10 (take at text) * 10 + d) % 2 ^ 64) byte.1
-        ∙ ap (λ n. n % 2 ^ 64) (sym (value_more text at c.loop-at-test.true));
+          ∙ ap (λ d. (digits_value 10 (take at text) * 10 + d) % 2 ^ 64) byte.1
+          ∙ ap (λ n. n % 2 ^ 64) (sym (value_more text at c.loop-at-test.true));
     }
 
 all : (c : goal.After-loop-at) → (c.loop-at.at ≡ length c.args.text.now) × (digits_at c.args.text.now ≡ take c.loop-at.at c.args.text.now)

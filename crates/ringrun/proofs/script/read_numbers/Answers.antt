@@ -8,9 +8,11 @@ loop-number-preserved c =
     let all = c.loop-number.invariant.read in let n = c.in-Some.number in
     record {
       within = omega (arith, c.in-Some.ensures.shorter, c.loop-number.invariant.within);
-      read = (all.0 ++ n ∷ [],
+      read = (
+        all.0 ++ n ∷ [],
         (λ numbers rest h. subst (λ ns. NumbersAt c.args.text.now ns rest) (sym (append_assoc all.0 (n ∷ []) numbers)) (all.1 (n ∷ numbers) rest (c.in-Some.after.now, c.in-Some.ensures.number, h))),
-        all.2 ∙ ap (λ k. cond k all.0 []) c.if-keeps.false ∙ ap (λ k. cond k (all.0 ++ n ∷ []) []) (sym c.if-keeps.false));
+        all.2 ∙ ap (λ k. cond k all.0 []) c.if-keeps.false ∙ ap (λ k. cond k (all.0 ++ n ∷ []) []) (sym c.if-keeps.false),
+      );
     }
 
 pub returns-clause-numbers : goal.returns-clause-numbers

@@ -33,15 +33,20 @@ loop-alloc-preserved g c =
     record {
       rest = c.in_ok-commands.ensures.rest;
       same_limit = replies.same_limit ∙ same;
-      run = (run.0 ++ map plain batch, step_passed _ run.0 _ (map plain batch) _ run.1 c.in_ok-commands.ensures.commands,
+      run = (
+        run.0 ++ map plain batch,
+        step_passed _ run.0 _ (map plain batch) _ run.1 c.in_ok-commands.ensures.commands,
         batch_replies join limit start now run.0 batch c.in_ok-replies.replies.items _ _ run.3 run.2 (replies.replies_in_turn ∙ ap (λ m. replies_to m now batch) same) (c.in_ok-push_replies.ensures ∙ ap (λ rs. string_bytes c.loop-alloc.text ++ flat_map reply_line rs) c.as_slice.ensures.value),
-        batch_contents join limit start now _ run.0 batch run.3 (replies.in_turn ∙ ap (λ m. after_all m now batch) same));
+        batch_contents join limit start now _ run.0 batch run.3 (replies.in_turn ∙ ap (λ m. after_all m now batch) same),
+      );
     }
 
 pub returns-clause-text : goal.returns-clause-text
 unfolding script_left
 returns-clause-text g c =
     let run = c.loop-alloc.invariant.run in let script = c.loop-alloc.script in
-    let empty : length script.rest.now ≡ 0 = search rules in
-    (run.0, run.1 ∙ ap (with_front run.0) (left_empty script.text.now script.rest.now empty) ∙ ap Ok (append-nil run.0),
-     printed c.runs_join.ensures.meanings (g.R.RingBuffer.limit c.args.ring.now) (g.R.RingBuffer.contents c.args.ring.now) (g.R.RingBuffer.contents c.loop-alloc.ring) run.0 _ _ c.len.ensures.within run.3 run.2 c.in_ok-push_items.ensures)
+    let empty : length script.rest.now ≡ 0 = search rules in (
+      run.0,
+      run.1 ∙ ap (with_front run.0) (left_empty script.text.now script.rest.now empty) ∙ ap Ok (append-nil run.0),
+      printed c.runs_join.ensures.meanings (g.R.RingBuffer.limit c.args.ring.now) (g.R.RingBuffer.contents c.args.ring.now) (g.R.RingBuffer.contents c.loop-alloc.ring) run.0 _ _ c.len.ensures.within run.3 run.2 c.in_ok-push_items.ensures,
+    )

@@ -15,8 +15,8 @@ invariant-loop-alloc g l =
       rest : IsRest l.script;
       same_limit : limit l.ring ≡ limit l.fn.ring;
       run : (commands : List (Command ℤ)) × (script_left l.fn.script ≡ with_front commands (script_left l.script))
-        × (string_bytes l.text ≡ flat_map reply_line (replies_to (limit l.fn.ring) (contents l.fn.ring) commands))
-        × (contents l.ring ≡ after_all (limit l.fn.ring) (contents l.fn.ring) commands);
+          × (string_bytes l.text ≡ flat_map reply_line (replies_to (limit l.fn.ring) (contents l.fn.ring) commands))
+          × (contents l.ring ≡ after_all (limit l.fn.ring) (contents l.fn.ring) commands);
     }
 
 abbrev pub decreases-loop-alloc : goal.decreases-loop-alloc

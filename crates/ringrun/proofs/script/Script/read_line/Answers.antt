@@ -46,7 +46,7 @@ returns-in_err-end_line-2-clause-bad c =
     let words = c.skip_blanks-words.ensures.rest in
     let at : CommandAt c.args.keeps_items c.skip_blanks-words.result.now c.in-Some.command c.in-Some.rest.now = rw c.in-Some.is at c.in_ok-command.ensures.command in
     rw (p.1, p.2, h.err.2) (command_bad c.args.keeps_items c.args.self.now.text.now c.args.self.now.rest.now c.in-Some.command c.in-Some.rest.now
-      (subst (λ w. CommandAt c.args.keeps_items w c.in-Some.command c.in-Some.rest.now) words at) h.err.0)
+    (subst (λ w. CommandAt c.args.keeps_items w c.in-Some.command c.in-Some.rest.now) words at) h.err.0)
 
 command : (c : goal.In_ok-end_line-2) → (commands : List (Command ℤ)) × (c.args.keeps_items ≡ true → commands ≡ plain c.in-Some.command ∷ []) × LineRead c.args.self.now.text.now c.args.self.now.rest.now c.end_line-2.new.self.rest.now commands
 command c =
