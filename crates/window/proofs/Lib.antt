@@ -1,2 +1,7 @@
+pub mod Combined
+pub mod Ladders
+pub mod Orders
+pub mod Pushed
 pub mod Sums
+mod Walk
 pub mod WorkedSums

@@ -45,43 +45,8 @@ IsSumOf-append {xs} {sum} {x} is fits adds = record {
 }
 
 -- Without the first sample the sum is so much less.
-IsSumOf-rest : {xs : List ℤ} {sum x less : ℤ} → IsSumOf (x ∷ xs) sum → less ≡ sum -ℤ x → IsSumOf xs less
+pub IsSumOf-rest : {xs : List ℤ} {sum x less : ℤ} → IsSumOf (x ∷ xs) sum → less ≡ sum -ℤ x → IsSumOf xs less
 IsSumOf-rest {xs} {sum} {x} is takes = record {
   summed = omega (arith, ints, takes, is.summed, total-cons x xs);
   in_range = All-tail (FitsSigned w64) x xs is.in_range;
 }
-
--- Behind what was in front, which is one sample at most, the sum is so much less.
-IsSumOf-behind : {xs : List ℤ} {sum less : ℤ} (front : Option ℤ) → IsSumOf (option_to_list front ++ xs) sum → less ≡ sum -ℤ total (option_to_list front) → IsSumOf xs less
-IsSumOf-behind None is takes = record { summed = omega (arith, ints, takes, is.summed); in_range = is.in_range }
-IsSumOf-behind (Some x) is takes = IsSumOf-rest is (omega (arith, ints, takes))
-
--- A list with a first item is that item and the rest.
-first-rest : {A : Type 0} (xs : List A) (x : A) → Some x ≡ slice_get xs 0 → xs ≡ x ∷ drop 1 xs
-first-rest [] x first = absurd (let none : Some x ≡ None = first in cc)
-first-rest (y ∷ ys) x first = let same : x ≡ y = let is : Some x ≡ Some y = first in cc in rw same refl
-
--- A push onto fewer than 2^64 samples that are summed up.
-module _ (limit : Option ℕ) (xs : List ℤ) (x : ℤ) {sum : ℤ} (old : Option ℤ)
-    (within : IsWithin xs limit) (few : length xs < 2 ^ 64) (is : IsSumOf xs sum) (in_range : FitsSigned w64 x) (answer : old ≡ overwritten limit xs) where
-  -- What it hands back and what it leaves are the samples and one more.
-  all : option_to_list old ++ keep_last limit (xs ++ x ∷ []) ≡ xs ++ x ∷ []
-  all = rw answer (overwritten-keep_last limit xs x within)
-
-  -- So the sum is without what it hands back,
-  pub IsSumOf-pushed : {new : ℤ} → new ≡ sum +ℤ (x -ℤ total (option_to_list old)) → IsSumOf (keep_last limit (xs ++ x ∷ [])) new
-  IsSumOf-pushed changed = IsSumOf-behind old (rw (← all) at (IsSumOf-append is in_range refl)) (omega (arith, ints, changed))
-
-  -- and it is one of at most 2^64 samples.
-  pub pushed-fits : FitsSigned w128 (sum +ℤ (x -ℤ total (option_to_list old)))
-  pushed-fits = IsSumOf-fits (IsSumOf-pushed refl) (omega (arith, ap length all, length-append xs (x ∷ []), length-append (option_to_list old) (keep_last limit (xs ++ x ∷ []))))
-
--- A dequeue of the first of fewer than 2^64 samples that are summed up.
-module _ (xs : List ℤ) (x : ℤ) {sum : ℤ} (first : Some x ≡ slice_get xs 0) (few : length xs < 2 ^ 64) (is : IsSumOf xs sum) where
-  -- The sum is without it,
-  pub IsSumOf-left : {left : ℤ} → left ≡ sum -ℤ x → IsSumOf (drop 1 xs) left
-  IsSumOf-left takes = IsSumOf-rest (rw (first-rest xs x first) at is) takes
-
-  -- of one sample fewer.
-  pub left-fits : FitsSigned w128 (sum -ℤ x)
-  left-fits = IsSumOf-fits (IsSumOf-left refl) (omega (arith, ap length (first-rest xs x first)))

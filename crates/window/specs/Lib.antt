@@ -1,1 +1,6 @@
+pub mod Folds
+pub mod Ladder
+pub mod Laws
+pub mod Least
+pub mod Views
 pub mod Window

@@ -1,11 +1,6 @@
--- What a window over a ring is seen as, and what its samples add up to.
-use Rattle.std.specs.Prelude.{◌≡◌, ℕ, ℤ, pos, ◌+ℤ◌, List, Option, All, FitsSigned, fold}
+-- What the samples of a window add up to.
+use Rattle.std.specs.Prelude.{◌≡◌, ℤ, pos, ◌+ℤ◌, List, All, FitsSigned, fold}
 use Rattle.std.specs.Int.{w64}
-
--- the samples that a window holds, oldest first, and the most that it can hold, if there is such a number
-pub record Samples : Type 0 where
-  pub contents : List ℤ
-  pub limit : Option ℕ
 
 -- the numbers of a list, added up
 abbrev pub total : List ℤ → ℤ

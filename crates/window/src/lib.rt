@@ -1,6 +1,18 @@
-//! A window over the samples in a ring buffer, whose sum is kept.
+//! Windows over the items of a ring buffer, with what the items add up to or combine to, or with the least of them.
 #![tactic(auto)]
 
-mod window;
+mod counted;
+mod fold_window;
+mod ghost_count;
+mod min_window;
+mod monoid;
+mod sum;
+mod tally;
+mod tally_window;
 
-pub use window::WindowSum;
+pub use fold_window::{Kept, WindowFold};
+pub use min_window::{Rung, WindowMin};
+pub use monoid::Monoid;
+pub use sum::{Sum, WindowSum};
+pub use tally::Tally;
+pub use tally_window::WindowTally;

@@ -1,0 +1,26 @@
+use Rattle.std.proofs.Common.{◌≡◌, ◌∙◌, ◌∷◌, ◌++◌, [], ap, sym, option_to_list}
+use Rattle.ringbuffer.specs.Contents.{keep_last, overwritten}
+use Rattle.ringbuffer.proofs.Limits.{overwritten-keep_last}
+use Rattle.window.specs.Folds.{HoldsFolds, items}
+use Rattle.window.proofs.Combined.{items-keep_last, items-overwritten, left_by, one_more}
+use Rattle.window.proofs.fold_window.WindowFold.push.Goals as goal
+
+pub invariant_of-self : goal.invariant_of-self
+invariant_of-self g c =
+    let ks = g.R.RingBuffer.contents c.before_push.new.ring in
+    let limit = g.R.RingBuffer.limit c.before_push.new.ring in
+    let k = c.new.result in
+    let more = one_more g.met.M.Monoid.laws k (rw c.new.ensures c.combined-newer.ensures.later) c.before_push.ensures.holds in
+    let all : option_to_list c.in-Ok.overwritten ++ keep_last limit (ks ++ k ∷ []) ≡ ks ++ k ∷ [] = rw c.in-Ok.ensures.overwrites (overwritten-keep_last limit ks k c.before_push.ensures.within) in
+    rw (c.in-Ok.ensures.ok, c.let_go.ensures.newer, c.combined-newer.ensures.value, ← c.new.ensures)
+    (left_by c.in-Ok.overwritten (keep_last limit (ks ++ k ∷ [])) (rw all more) c.let_go.ensures.parts)
+
+pub returns-in-Ok-clause-overwrites : goal.returns-in-Ok-clause-overwrites
+returns-in-Ok-clause-overwrites g c =
+    rw (← c.self.view_is, ← c.before_push.ensures.items, ← c.before_push.ensures.limit, c.let_go.ensures.value, c.in-Ok.ensures.overwrites)
+    (items-overwritten (g.R.RingBuffer.limit c.before_push.new.ring) (g.R.RingBuffer.contents c.before_push.new.ring))
+
+pub returns-in-Ok-clause-ok : goal.returns-in-Ok-clause-ok
+returns-in-Ok-clause-ok g c =
+    rw (← c.self.view_is, ← c.before_push.ensures.items, ← c.before_push.ensures.limit, c.in-Ok.ensures.ok, ← c.new.ensures)
+    (items-keep_last (g.R.RingBuffer.limit c.before_push.new.ring) (g.R.RingBuffer.contents c.before_push.new.ring) c.new.result)

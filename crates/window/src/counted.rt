@@ -1,0 +1,105 @@
+//! Calls that are counted: nothing else in the crate takes an item into a tally, lets one go, combines two values or compares
+//! two items.
+
+ghost use Rattle.std.specs.Prelude.{◌≡◌, ◌+◌, ◌<◌, ◌^◌, [], ◌∷◌, ◌++◌, List, length};
+ghost use Rattle.std.specs.Ordering.{is_gt};
+
+use crate::ghost_count::GhostCount;
+use crate::monoid::Monoid;
+use crate::tally::Tally;
+
+/// A tally, and how often it took an item in and let one go.
+#[derive(Drop)]
+pub struct CountedTally<S> {
+    tally: S,
+    taken_in: GhostCount,
+    let_go: GhostCount,
+}
+
+impl<S> CountedTally<S> {
+    /// Returns the tally of no item, which has counted nothing.
+    pub(crate) fn none<T>() -> Self
+    where
+        S: Tally<T>,
+        ensures tells { S.tells result.tally [] }
+        ensures taken_in { result.taken_in.count ≡ 0 }
+        ensures let_go { result.let_go.count ≡ 0 }
+    {
+        CountedTally {
+            tally: S::none(),
+            taken_in: GhostCount::zero(),
+            let_go: GhostCount::zero(),
+        }
+    }
+
+    /// Takes in `newest`, and counts it.
+    #[inline]
+    pub(crate) fn take_in<T>(&mut self, newest: &T)
+    where
+        S: Tally<T>,
+        requires { (xs : List T) × S.tells self.old.tally xs × (length xs < 2 ^ 64) }
+        ensures tells { (xs : List T) → S.tells self.old.tally xs
+            → S.tells self.new.tally (xs ++ newest.now ∷ []) }
+        ensures taken_in { self.new.taken_in.count ≡ self.old.taken_in.count + 1 }
+        ensures let_go { self.new.let_go.count ≡ self.old.let_go.count }
+    {
+        self.taken_in = self.taken_in.plus(1);
+        self.tally.take_in(newest);
+    }
+
+    /// Lets go of `oldest`, and counts it.
+    #[inline]
+    pub(crate) fn let_go<T>(&mut self, oldest: &T)
+    where
+        S: Tally<T>,
+        requires { (xs : List T) × S.tells self.old.tally (oldest.now ∷ xs) × (length xs < 2 ^ 64) }
+        ensures tells { (xs : List T) → S.tells self.old.tally (oldest.now ∷ xs)
+            → S.tells self.new.tally xs }
+        ensures taken_in { self.new.taken_in.count ≡ self.old.taken_in.count }
+        ensures let_go { self.new.let_go.count ≡ self.old.let_go.count + 1 }
+    {
+        self.let_go = self.let_go.plus(1);
+        self.tally.let_go(oldest);
+    }
+
+    /// Forgets all items. The counts stay.
+    pub(crate) fn clear<T>(&mut self)
+    where
+        S: Tally<T>,
+        ensures tells { S.tells self.new.tally [] }
+        ensures taken_in { self.new.taken_in.count ≡ self.old.taken_in.count }
+        ensures let_go { self.new.let_go.count ≡ self.old.let_go.count }
+    {
+        self.tally = S::none();
+    }
+
+    /// Returns the tally.
+    #[inline]
+    pub(crate) fn tally(&self) -> &S
+        ensures { result.now ≡ self.now.tally }
+    {
+        &self.tally
+    }
+}
+
+/// Returns what `earlier` and `later` combine to, and counts the call.
+#[inline]
+pub(crate) fn combined<M: Monoid>(calls: &mut GhostCount, earlier: &M, later: &M) -> M
+    ensures value { result ≡ M.op earlier.now later.now }
+    ensures earlier { M.valid earlier.now }
+    ensures later { M.valid later.now }
+    ensures calls { calls.new.count ≡ calls.old.count + 1 }
+{
+    *calls = calls.plus(1);
+    earlier.combine(later)
+}
+
+/// Returns whether `x` is above `y`, and counts the comparison.
+#[inline]
+pub(crate) fn is_above<T: Ord>(compared: &mut GhostCount, x: &T, y: &T) -> bool
+    ensures value { result ≡ is_gt (T.cmp x.now y.now) }
+    ensures compared { compared.new.count ≡ compared.old.count + 1 }
+{
+    *compared = compared.plus(1);
+    x.cmp(y).is_gt()
+}

@@ -1,0 +1,24 @@
+//! What a window can tell of its items when it takes in one and lets go of one at a time.
+
+ghost use Rattle.std.specs.Prelude.{◌<◌, ◌^◌, [], ◌∷◌, ◌++◌, List, length};
+
+/// What is told of a list of items, and can be told anew as an item comes last and as the first one goes: their sum, for
+/// example.
+pub trait Tally<T>: Drop + Sized {
+    // This is the tally of these items.
+    ghost tells: { Self → List T → Type 0 };
+
+    /// Returns the tally of no item.
+    fn none() -> Self
+        ensures { tells result [] };
+
+    /// Takes in `newest`, which comes last of at most 2^64 items.
+    fn take_in(&mut self, newest: &T)
+        requires { (xs : List T) × tells self.old xs × (length xs < 2 ^ 64) }
+        ensures { (xs : List T) → tells self.old xs → tells self.new (xs ++ newest.now ∷ []) };
+
+    /// Lets go of `oldest`, the first of at most 2^64 items.
+    fn let_go(&mut self, oldest: &T)
+        requires { (xs : List T) × tells self.old (oldest.now ∷ xs) × (length xs < 2 ^ 64) }
+        ensures { (xs : List T) → tells self.old (oldest.now ∷ xs) → tells self.new xs };
+}
