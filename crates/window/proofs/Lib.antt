@@ -2,6 +2,7 @@ pub mod Combined
 pub mod Ladders
 pub mod Orders
 pub mod Pushed
+pub mod Squares
 pub mod Sums
 mod Walk
 pub mod WorkedSums

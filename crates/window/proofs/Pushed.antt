@@ -1,5 +1,5 @@
 -- What a push leaves of a window's items before the pushed one, and what a walk reads.
-use Rattle.std.proofs.Common.{◌≡◌, ℕ, zero, suc, ◌+◌, ◌-◌, ◌<◌, ◌≤◌, List, [], ◌∷◌, ◌++◌, length, take, drop, Option, None, Some, option_to_list, slice_get, refl, ap, sym, ◌∙◌, arith, length-append, length-drop}
+use Rattle.std.proofs.Common.{◌≡◌, ℕ, zero, suc, ◌+◌, ◌-◌, ◌<◌, ◌≤◌, List, [], ◌∷◌, ◌++◌, length, take, drop, Option, None, Some, option_to_list, slice_get, refl, ap, sym, ◌∙◌, arith, length-append}
 use Rattle.std.proofs.lemmas.List.{drop-append-le}
 use Rattle.std.proofs.Math.Nat.{mod-eq_of_lt}
 use Rattle.std.specs.Borrow.{Bor}
@@ -28,12 +28,6 @@ stay_behind {A} (Some n) xs within = split (length xs + 1 - n) xs (omega arith) 
   split (suc zero) [] one = refl
   split (suc zero) (y ∷ ys) one = refl
   split (suc (suc k)) ys one = absurd (omega arith)
-
--- They are no more than the items were.
-pub stay_few : {A : Type 0} (limit : Option ℕ) (xs : List A) → length (stay limit xs) ≤ length xs
-unfolding stay
-stay_few None xs = omega arith
-stay_few (Some n) xs = omega (arith, length-drop (length xs + 1 - n) xs)
 
 -- A list is its first item, if there is one, and the rest.
 pub first_and_rest : {A : Type 0} (xs : List A) → option_to_list (slice_get xs 0) ++ drop 1 xs ≡ xs

@@ -15,7 +15,7 @@ fold-from a [] = omega (arith, ints)
 fold-from a (x ∷ xs) = omega (arith, ints, fold-from (a +ℤ x) xs, fold-from (pos 0 +ℤ x) xs)
 
 -- The first number is one summand.
-total-cons : (x : ℤ) (xs : List ℤ) → total (x ∷ xs) ≡ x +ℤ total xs
+pub total-cons : (x : ℤ) (xs : List ℤ) → total (x ∷ xs) ≡ x +ℤ total xs
 total-cons x xs = omega (arith, ints, fold-from (pos 0 +ℤ x) xs)
 
 -- By induction on the list: each number adds at most 2^63 - 1, and takes away at most 2^63.

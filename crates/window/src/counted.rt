@@ -37,7 +37,7 @@ impl<S> CountedTally<S> {
     pub(crate) fn take_in<T>(&mut self, newest: &T)
     where
         S: Tally<T>,
-        requires { (xs : List T) × S.tells self.old.tally xs × (length xs < 2 ^ 64) }
+        requires { (xs : List T) × S.tells self.old.tally xs × (length xs + 1 < 2 ^ 64) }
         ensures tells { (xs : List T) → S.tells self.old.tally xs
             → S.tells self.new.tally (xs ++ newest.now ∷ []) }
         ensures taken_in { self.new.taken_in.count ≡ self.old.taken_in.count + 1 }
@@ -52,7 +52,7 @@ impl<S> CountedTally<S> {
     pub(crate) fn let_go<T>(&mut self, oldest: &T)
     where
         S: Tally<T>,
-        requires { (xs : List T) × S.tells self.old.tally (oldest.now ∷ xs) × (length xs < 2 ^ 64) }
+        requires { (xs : List T) × S.tells self.old.tally (oldest.now ∷ xs) × (length xs + 1 < 2 ^ 64) }
         ensures tells { (xs : List T) → S.tells self.old.tally (oldest.now ∷ xs)
             → S.tells self.new.tally xs }
         ensures taken_in { self.new.taken_in.count ≡ self.old.taken_in.count }

@@ -3,15 +3,19 @@
 
 mod counted;
 mod fold_window;
+mod fraction;
 mod ghost_count;
 mod min_window;
+mod moments;
 mod monoid;
 mod sum;
 mod tally;
 mod tally_window;
 
 pub use fold_window::{Kept, WindowFold};
+pub use fraction::Fraction;
 pub use min_window::{Rung, WindowMin};
+pub use moments::{Moments, WindowMoments};
 pub use monoid::Monoid;
 pub use sum::{Sum, WindowSum};
 pub use tally::Tally;

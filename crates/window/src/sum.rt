@@ -1,8 +1,9 @@
 //! Sums of whole numbers, exactly.
 
-ghost use Rattle.std.specs.Prelude.{◌≡◌, ◌+◌, drop, length, option_to_list, slice_get};
+ghost use Rattle.std.specs.Prelude.{◌≡◌, ◌+◌, ◌↔◌, [], pos, IfSome, IsNone, int_div, drop, length, option_to_list, slice_get};
 ghost use Rattle.window.specs.Window.{total};
 
+use crate::fraction::{Fraction, rounded};
 use crate::tally::Tally;
 use crate::tally_window::WindowTally;
 use ringbuffer::RingBuffer;
@@ -49,6 +50,31 @@ impl<R: RingBuffer<i64>> WindowTally<i64, Sum, R> {
         ensures { result ≡ total self.now.contents }
     {
         self.tally().get()
+    }
+
+    /// Returns the mean of the samples, or `None` if there is none: their sum over their number.
+    pub fn mean(&self) -> Option<Fraction>
+        ensures none { IsNone result ↔ (self.now.contents ≡ []) }
+        ensures numerator { IfSome result (λ f. f.numerator ≡ total self.now.contents) }
+        ensures denominator { IfSome result (λ f. f.denominator ≡ length self.now.contents) }
+    {
+        let count = self.len();
+        if count == 0 {
+            return None;
+        }
+        Some(Fraction {
+            numerator: self.sum(),
+            denominator: count as u128,
+        })
+    }
+
+    /// Returns the mean of the samples, rounded towards zero, or `None` if there is none.
+    pub fn rounded_mean(&self) -> Option<i128>
+        ensures none { IsNone result ↔ (self.now.contents ≡ []) }
+        ensures mean { IfSome result
+            (λ m. m ≡ int_div (total self.now.contents) (pos (length self.now.contents))) }
+    {
+        rounded(self.sum(), self.len())
     }
 
     /// Another name for `dequeue`.

@@ -1,6 +1,6 @@
 //! What a window can tell of its items when it takes in one and lets go of one at a time.
 
-ghost use Rattle.std.specs.Prelude.{◌<◌, ◌^◌, [], ◌∷◌, ◌++◌, List, length};
+ghost use Rattle.std.specs.Prelude.{◌+◌, ◌<◌, ◌^◌, [], ◌∷◌, ◌++◌, List, length};
 
 /// What is told of a list of items, and can be told anew as an item comes last and as the first one goes: their sum, for
 /// example.
@@ -12,13 +12,13 @@ pub trait Tally<T>: Drop + Sized {
     fn none() -> Self
         ensures { tells result [] };
 
-    /// Takes in `newest`, which comes last of at most 2^64 items.
+    /// Takes in `newest`, which comes last of fewer than 2^64 items.
     fn take_in(&mut self, newest: &T)
-        requires { (xs : List T) × tells self.old xs × (length xs < 2 ^ 64) }
+        requires { (xs : List T) × tells self.old xs × (length xs + 1 < 2 ^ 64) }
         ensures { (xs : List T) → tells self.old xs → tells self.new (xs ++ newest.now ∷ []) };
 
-    /// Lets go of `oldest`, the first of at most 2^64 items.
+    /// Lets go of `oldest`, the first of fewer than 2^64 items.
     fn let_go(&mut self, oldest: &T)
-        requires { (xs : List T) × tells self.old (oldest.now ∷ xs) × (length xs < 2 ^ 64) }
+        requires { (xs : List T) × tells self.old (oldest.now ∷ xs) × (length xs + 1 < 2 ^ 64) }
         ensures { (xs : List T) → tells self.old (oldest.now ∷ xs) → tells self.new xs };
 }

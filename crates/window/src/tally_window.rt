@@ -147,7 +147,7 @@ fn tally_of<T: Drop, S: Tally<T>, R: RingBuffer<T>>(ring: &R) -> CountedTally<S>
 // Lets `oldest`, if an item left, go from the tally.
 fn let_go_of<T: Drop, S: Tally<T>>(counted: &mut CountedTally<S>, oldest: &Option<T>)
     requires { (xs : List T) × S.tells counted.old.tally (option_to_list oldest.now ++ xs)
-        × (length xs < 2 ^ 64) }
+        × (length (option_to_list oldest.now ++ xs) < 2 ^ 64) }
     ensures tells { (xs : List T) → S.tells counted.old.tally (option_to_list oldest.now ++ xs)
         → S.tells counted.new.tally xs }
     ensures taken_in { counted.new.taken_in.count ≡ counted.old.taken_in.count }
@@ -162,11 +162,13 @@ fn let_go_of<T: Drop, S: Tally<T>>(counted: &mut CountedTally<S>, oldest: &Optio
 // Takes the newest item of `ring` into the tally.
 fn take_in_newest<T: Drop, S: Tally<T>, R: RingBuffer<T>>(counted: &mut CountedTally<S>, ring: &R)
     requires { (xs : List T) × (x : T) × (R.contents ring.now ≡ xs ++ x ∷ [])
-        × S.tells counted.old.tally xs × (length xs < 2 ^ 64) }
+        × S.tells counted.old.tally xs }
     ensures tells { S.tells counted.new.tally (R.contents ring.now) }
     ensures taken_in { counted.new.taken_in.count ≡ counted.old.taken_in.count + 1 }
     ensures let_go { counted.new.let_go.count ≡ counted.old.let_go.count }
 {
+    // As in `push`.
+    let _ = ring.len();
     if let Some(newest) = ring.back() {
         counted.take_in(newest);
     }

@@ -1,5 +1,5 @@
 use Rattle.std.proofs.Common.{◌≡◌, ◌<◌, ◌^◌, ◌∙◌, length, refl, arith}
-use Rattle.window.proofs.Pushed.{stay, stay_behind, stay_few, stay_pushed}
+use Rattle.window.proofs.Pushed.{stay, stay_behind, stay_pushed}
 use Rattle.window.proofs.tally_window.WindowTally.push.Goals as goal
 
 -- What was overwritten stood before what stays.
@@ -7,7 +7,8 @@ pub let_go_of-requires : goal.let_go_of-requires
 let_go_of-requires g c =
     let xs = g.R.RingBuffer.contents c.self.inside.ring in
     let limit = g.R.RingBuffer.limit c.self.inside.ring in
-    (stay limit xs, rw (c.in_ok-overwritten.ensures.overwrites, stay_behind limit xs c.len.ensures.within) c.self.invariant, omega (arith, c.len.ensures.value, c.len.type_inv, stay_few limit xs))
+    let all = stay_behind limit xs c.len.ensures.within in
+    (stay limit xs, rw (c.in_ok-overwritten.ensures.overwrites, all) c.self.invariant, rw (c.in_ok-overwritten.ensures.overwrites, all) (omega (arith, c.len.ensures.value, c.len.type_inv)))
 
 -- The pushed item comes behind what stays.
 pub take_in_newest-requires : goal.take_in_newest-requires
@@ -17,6 +18,4 @@ take_in_newest-requires g c =
       stay limit xs,
       c.args.item,
       c.in_ok-overwritten.ensures.ok refl ∙ stay_pushed limit xs c.args.item c.len.ensures.within,
-      c.let_go_of.ensures.tells (stay limit xs) (rw (c.in_ok-overwritten.ensures.overwrites, stay_behind limit xs c.len.ensures.within) c.self.invariant),
-      omega (arith, c.len.ensures.value, c.len.type_inv, stay_few limit xs),
-    )
+      c.let_go_of.ensures.tells (stay limit xs) (rw (c.in_ok-overwritten.ensures.overwrites, stay_behind limit xs c.len.ensures.within) c.self.invariant))
