@@ -12,7 +12,7 @@ use Rattle.ringbuffer.proofs.Limits.{map-keep_last}
 use Rattle.ringbuffer.proofs.Items.{slice_get-append_left, slice_get-at, slice_get-drop}
 use Rattle.window.specs.Ladder.{Climbs, HoldsLadder, IsLadder, IsRanked, LeadsTo, Reaches, Stops, item_on, items_on, next}
 use Rattle.window.specs.Least.{AtMost, IsBelow, IsFirstLeast, IsLeastFrom}
-use Rattle.window.specs.declared.min_window.Rung.{Rung}
+use Rattle.window.specs.declared.least_window.Rung.{Rung}
 use Rattle.window.proofs.Orders.{AtMost-below, AtMost-same, AtMost-trans, IsBelow-trans}
 
 -- By induction on the list: what holds of all items holds of that at a place.

@@ -21,3 +21,7 @@ pub record IsFirstLeast {T : Type 0} (cmp : T → T → Ordering) (xs : List T) 
   pub place : ℕ
   pub stands : slice_get xs place ≡ Some x
   pub least : IsLeastFrom cmp x place xs
+
+-- x stands among the items, is above each that stands before it, and below none
+abbrev pub IsFirstGreatest : {T : Type 0} → (T → T → Ordering) → List T → T → Type 0
+IsFirstGreatest cmp xs x = IsFirstLeast (λ y z. cmp z y) xs x

@@ -6,6 +6,7 @@ ghost use Rattle.std.specs.Ordering.{is_gt};
 
 use crate::ghost_count::GhostCount;
 use crate::monoid::Monoid;
+use crate::order::Order;
 use crate::tally::Tally;
 
 /// A tally, and how often it took an item in and let one go.
@@ -96,10 +97,10 @@ pub(crate) fn combined<M: Monoid>(calls: &mut GhostCount, earlier: &M, later: &M
 
 /// Returns whether `x` is above `y`, and counts the comparison.
 #[inline]
-pub(crate) fn is_above<T: Ord>(compared: &mut GhostCount, x: &T, y: &T) -> bool
-    ensures value { result ≡ is_gt (T.cmp x.now y.now) }
+pub(crate) fn is_above<T, O: Order<T>>(compared: &mut GhostCount, x: &T, y: &T) -> bool
+    ensures value { result ≡ is_gt (O.cmp x.now y.now) }
     ensures compared { compared.new.count ≡ compared.old.count + 1 }
 {
     *compared = compared.plus(1);
-    x.cmp(y).is_gt()
+    O::is_above(x, y)
 }

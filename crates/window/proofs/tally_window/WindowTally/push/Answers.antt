@@ -18,4 +18,5 @@ take_in_newest-requires g c =
       stay limit xs,
       c.args.item,
       c.in_ok-overwritten.ensures.ok refl ∙ stay_pushed limit xs c.args.item c.len.ensures.within,
-      c.let_go_of.ensures.tells (stay limit xs) (rw (c.in_ok-overwritten.ensures.overwrites, stay_behind limit xs c.len.ensures.within) c.self.invariant))
+      c.let_go_of.ensures.tells (stay limit xs) (rw (c.in_ok-overwritten.ensures.overwrites, stay_behind limit xs c.len.ensures.within) c.self.invariant),
+    )

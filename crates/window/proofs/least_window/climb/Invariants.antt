@@ -1,0 +1,14 @@
+use Rattle.std.proofs.Common.{◌≡◌, ◌*◌, ◌-◌, ◌≤◌}
+use Rattle.window.specs.Ladder.{Reaches}
+use Rattle.window.proofs.least_window.climb.Given as goal
+
+-- none of the items that the loop went past is still named, and each was compared once
+abbrev pub invariant-loop-behind : goal.invariant-loop-behind
+invariant-loop-behind g l = record {
+  reaches : Reaches g.O.Order.cmp (g.R.RingBuffer.contents l.ring) l.first l.behind l.counts.compared.count (2 * l.counts.pushed.count);
+  pushed : l.counts.pushed.count ≡ l.fn.counts.pushed.count;
+  rises : l.fn.counts.compared.count ≤ l.counts.compared.count;
+}
+
+abbrev pub decreases-loop-behind : goal.decreases-loop-behind
+decreases-loop-behind g l = l.len - l.behind

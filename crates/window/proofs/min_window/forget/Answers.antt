@@ -1,8 +1,0 @@
-use Rattle.std.proofs.Common.{◌≡◌, ◌++◌, option_to_list}
-use Rattle.window.proofs.Ladders.{forgets}
-use Rattle.window.proofs.min_window.forget.Goals as goal
-
-pub returns-clause-holds : goal.returns-clause-holds
-returns-clause-holds g c = λ rs compared most is.
-    let was = rw c.in_ok-rung.was at is in
-    forgets g.met.T.Ord.total c.in_ok-rung.rung rs c.args.first.now _ compared most was c.first_after.ensures.one c.first_after.ensures.more

@@ -1,0 +1,416 @@
+//! A window over a ring, with the least of its items in some order.
+
+ghost use Rattle.std.specs.Prelude.{◌≡◌, ℕ, ◌+◌, ◌*◌, ◌-◌, ◌<◌, ◌≤◌, ◌↔◌, [], ◌∷◌, ◌++◌, IfErr, IfOk, IfSome, IsNone, IsOk, IsSome, List, OnErr, OnOk, Some, drop, length, option_to_list, slice_get, slice_set};
+ghost use Rattle.std.specs.Option.{option_copied, option_map};
+ghost use Rattle.std.specs.Ordering.{is_gt};
+ghost use Rattle.ringbuffer.specs.Contents.{IsWithin, keep_last, overwritten};
+ghost use Rattle.window.specs.declared.least_window.Rung.{Rung};
+ghost use Rattle.window.specs.Ladder.{HeldBehind, HoldsLadder, IsRanked, Stops, item_on, items_on};
+ghost use Rattle.window.specs.Least.{IsFirstGreatest, IsFirstLeast};
+
+use crate::counted::is_above;
+use crate::ghost_count::GhostCount;
+use crate::order::{Ascending, Descending, Order};
+use ringbuffer::RingBuffer;
+use std::marker::{Model, PhantomData};
+
+/// An item in the ring of a window that knows its least, and what the window keeps with it.
+#[derive(Drop)]
+pub struct Rung<T> {
+    item: T,
+    behind: usize,
+    ahead: usize,
+}
+
+impl<T> Rung<T> {
+    /// Returns `item` as one that no window has ranked.
+    pub fn new(item: T) -> Self
+        ensures { result.item ≡ item }
+    {
+        Rung {
+            item,
+            behind: 1,
+            ahead: 0,
+        }
+    }
+
+    /// Returns the item.
+    pub fn item(&self) -> &T
+        ensures { result.now ≡ self.now.item }
+    {
+        &self.item
+    }
+}
+
+// How many items a window has taken in, and how often it compared two by this order.
+#[derive(Drop)]
+struct Counts<O> {
+    pushed: GhostCount,
+    compared: GhostCount,
+    order: PhantomData<O>,
+}
+
+/// A ring of items, of which the least in the order `O` is known: to read it takes no comparison, and a push takes two at
+/// most on average.
+///
+/// The window names some of its items: the least, the least of those after it, and so on up to the newest. Each of these
+/// says how far the next one is ahead and the one before it is behind, in the ring's own slots. A push takes the newest of
+/// them that are above its item off this list, one comparison each, so the worst push makes as many comparisons as there are
+/// items.
+///
+/// A contract sees a window as its items and the limit of its ring, how many items it has taken in, and how often it
+/// compared two.
+#[derive(Drop)]
+pub struct WindowLeast<T: Drop, O: Order<T>, R: RingBuffer<Rung<T>>> {
+    ring: R,
+    // How many items go up to the least one and with it; 0 where there is none.
+    first: usize,
+    counts: Counts<O>,
+    items: PhantomData<T>,
+}
+
+impl<T: Drop, O: Order<T>, R: RingBuffer<Rung<T>>> Model for WindowLeast<T, O, R> {
+    ghost use Rattle.std.specs.Prelude.{◌*◌};
+    ghost use Rattle.window.specs.Views.{RankedItems};
+    ghost use Rattle.window.specs.Ladder.{HoldsLadder, items_on};
+
+    ghost Value = { RankedItems T };
+
+    ghost view = { λ w. record { contents = items_on (R.contents w.ring); limit = R.limit w.ring; pushed = w.counts.pushed.count; compared = w.counts.compared.count } };
+
+    ghost invariant = { λ w. HoldsLadder O.cmp (R.contents w.ring) w.first w.counts.compared.count (2 * w.counts.pushed.count) };
+}
+
+impl<T: Drop, O: Order<T>, R: RingBuffer<Rung<T>>> WindowLeast<T, O, R> {
+    /// Returns a window over what `ring` holds, which counts as taken in.
+    pub fn new(mut ring: R) -> Self
+        ensures contents { result.contents ≡ items_on (R.contents ring) }
+        ensures limit { result.limit ≡ R.limit ring }
+        ensures pushed { result.pushed ≡ length (R.contents ring) }
+        ensures compared { result.compared ≤ 2 * result.pushed }
+    {
+        let (first, counts) = rank_all(&mut ring);
+        WindowLeast {
+            ring,
+            first,
+            counts,
+            items: PhantomData,
+        }
+    }
+
+    /// Takes in `item`. A window at its limit hands back its oldest item, which gave way for it.
+    ///
+    /// # Errors
+    ///
+    /// Hands `item` back where the ring was refused memory, which no ring with a limit meets. The window is as it was.
+    pub fn push(&mut self, item: T) -> Result<Option<T>, T>
+        ensures overwrites { IfOk result
+            (λ old. old ≡ overwritten self.old.limit self.old.contents) }
+        ensures ok { OnOk result
+            (self.new.contents ≡ keep_last self.old.limit (self.old.contents ++ item ∷ [])) }
+        ensures err { IfErr result (λ back. (back ≡ item) × (self.new ≡ self.old)) }
+        ensures limit { self.new.limit ≡ self.old.limit }
+        ensures succeeds { IsSome self.old.limit → IsOk result }
+        ensures pushed { OnOk result (self.new.pushed ≡ self.old.pushed + 1) }
+        ensures compared { self.new.compared ≤ 2 * self.new.pushed }
+        ensures rises { self.old.compared ≤ self.new.compared }
+    {
+        // Brings in that the limit is above zero.
+        let _ = self.ring.len();
+        match self.ring.push(Rung::new(item)) {
+            Ok(overwritten) => {
+                let oldest = forget(&mut self.first, overwritten, &self.counts);
+                rank_newest(&mut self.ring, &mut self.first, &mut self.counts);
+                Ok(oldest)
+            }
+            Err(rung) => Err(rung.item),
+        }
+    }
+
+    /// Takes out the oldest item. Does nothing to an empty window.
+    pub fn dequeue(&mut self) -> Option<T>
+        ensures value { result ≡ slice_get self.old.contents 0 }
+        ensures rest { self.new.contents ≡ drop 1 self.old.contents }
+        ensures limit { self.new.limit ≡ self.old.limit }
+        ensures pushed { self.new.pushed ≡ self.old.pushed }
+        ensures compared { self.new.compared ≡ self.old.compared }
+    {
+        let oldest = self.ring.dequeue();
+        forget(&mut self.first, oldest, &self.counts)
+    }
+
+    /// Drops all items.
+    pub fn clear(&mut self)
+        ensures contents { self.new.contents ≡ [] }
+        ensures limit { self.new.limit ≡ self.old.limit }
+        ensures pushed { self.new.pushed ≡ self.old.pushed }
+        ensures compared { self.new.compared ≡ self.old.compared }
+    {
+        self.ring.clear();
+        self.first = 0;
+    }
+
+    /// Returns the least item in the window's order, the oldest of those that are equal, or `None` if there is none.
+    pub fn least(&self) -> Option<&T>
+        ensures none { IsNone result ↔ (self.now.contents ≡ []) }
+        ensures least { IfSome result (λ x. IsFirstLeast O.cmp self.now.contents x.now) }
+    {
+        if self.first == 0 {
+            return None;
+        }
+        let rung = self.ring.get(self.first - 1)?;
+        Some(&rung.item)
+    }
+
+    /// Returns how many items the window holds.
+    pub fn len(&self) -> usize
+        ensures value { result ≡ length self.now.contents }
+        ensures within { IsWithin self.now.contents self.now.limit }
+    {
+        self.ring.len()
+    }
+
+    /// Returns the ring, which holds the items.
+    pub fn ring(&self) -> &R
+        ensures contents { items_on (R.contents result.now) ≡ self.now.contents }
+        ensures limit { R.limit result.now ≡ self.now.limit }
+    {
+        &self.ring
+    }
+
+    /// Returns the ring without its window.
+    pub fn into_ring(self) -> R
+        ensures contents { items_on (R.contents result) ≡ self.contents }
+        ensures limit { R.limit result ≡ self.limit }
+    {
+        self.ring
+    }
+}
+
+/// A window over a ring, with its least item.
+pub type WindowMin<T, R> = WindowLeast<T, Ascending, R>;
+
+impl<T: Ord + Drop, R: RingBuffer<Rung<T>>> WindowLeast<T, Ascending, R> {
+    /// Returns the least item, the oldest of those that are equal as `Iterator::min` does, or `None` if there is none.
+    pub fn min(&self) -> Option<&T>
+        ensures none { IsNone result ↔ (self.now.contents ≡ []) }
+        ensures least { IfSome result (λ x. IsFirstLeast T.cmp self.now.contents x.now) }
+    {
+        self.least()
+    }
+}
+
+/// A window over a ring, with its greatest item.
+pub type WindowMax<T, R> = WindowLeast<T, Descending, R>;
+
+impl<T: Ord + Drop, R: RingBuffer<Rung<T>>> WindowLeast<T, Descending, R> {
+    /// Returns the greatest item, or `None` if there is none. Of those that are equal it is the oldest, where
+    /// `Iterator::max` returns the newest.
+    pub fn max(&self) -> Option<&T>
+        ensures none { IsNone result ↔ (self.now.contents ≡ []) }
+        ensures greatest { IfSome result (λ x. IsFirstGreatest T.cmp self.now.contents x.now) }
+    {
+        self.least()
+    }
+}
+
+// Ranks all items of `ring`, from the newest on. Returns the first place of the ladder, and the counts.
+fn rank_all<T: Drop, O: Order<T>, R: RingBuffer<Rung<T>>>(ring: &mut R) -> (usize, Counts<O>)
+    ensures holds { HoldsLadder O.cmp (R.contents ring.new) result.0 result.1.compared.count
+        (2 * result.1.pushed.count) }
+    ensures pushed { result.1.pushed.count ≡ length (R.contents ring.old) }
+    ensures items { items_on (R.contents ring.new) ≡ items_on (R.contents ring.old) }
+    ensures limit { R.limit ring.new ≡ R.limit ring.old }
+{
+    let mut counts = Counts {
+        pushed: GhostCount::zero(),
+        compared: GhostCount::zero(),
+        order: PhantomData,
+    };
+    let mut first = 0;
+    let mut at = ring.len();
+    while at > 0 {
+        at -= 1;
+        first = rank_before(ring, at, first, &mut counts);
+    }
+    (first, counts)
+}
+
+// Ranks the item at the place `at`, which comes before those that are ranked. The first of these is `first` places ahead, and
+// there is none at 0. Returns the first place with it, counted from 1.
+fn rank_before<T: Drop, O: Order<T>, R: RingBuffer<Rung<T>>>(
+    ring: &mut R,
+    at: usize,
+    first: usize,
+    counts: &mut Counts<O>,
+) -> usize
+    requires at { at < length (R.contents ring.old) }
+    requires ranked { IsRanked O.cmp (drop (at + 1) (R.contents ring.old)) first
+        counts.old.compared.count (2 * counts.old.pushed.count) }
+    ensures ranked { IsRanked O.cmp (drop at (R.contents ring.new)) result
+        counts.new.compared.count (2 * counts.new.pushed.count) }
+    ensures pushed { counts.new.pushed.count ≡ counts.old.pushed.count + 1 }
+    ensures items { items_on (R.contents ring.new) ≡ items_on (R.contents ring.old) }
+    ensures limit { R.limit ring.new ≡ R.limit ring.old }
+{
+    // Brings in that there are fewer than 2^64 items.
+    let _ = ring.len();
+    counts.pushed = counts.pushed.plus(1);
+    if first == 0 {
+        set_links(ring, at, 1, first);
+        return 1;
+    }
+    if is_above_at(ring, at, at + first, counts) {
+        set_behind(ring, at + first, first + 1);
+        return first + 1;
+    }
+    set_links(ring, at, 1, first);
+    1
+}
+
+// Lets `oldest`, if an item left, go from the ladder. Returns its item.
+fn forget<T: Drop, O: Order<T>>(
+    first: &mut usize,
+    oldest: Option<Rung<T>>,
+    counts: &Counts<O>,
+) -> Option<T>
+    requires { (rs : List (Rung T)) × (compared most : ℕ) × HeldBehind O.cmp oldest rs first.old compared most }
+    ensures value { result ≡ option_map item_on oldest }
+    ensures holds { (rs : List (Rung T)) (compared most : ℕ)
+        → HeldBehind O.cmp oldest rs first.old compared most
+        → HoldsLadder O.cmp rs first.new compared most }
+{
+    let rung = oldest?;
+    *first = first_after(*first, rung.ahead);
+    Some(rung.item)
+}
+
+// Returns the first place without the oldest item, from which the next one named is `ahead`.
+#[inline]
+fn first_after(first: usize, ahead: usize) -> usize
+    ensures one { first ≡ 1 → result ≡ ahead }
+    ensures more { 1 < first → result ≡ first - 1 }
+{
+    if first > 1 { first - 1 } else { ahead }
+}
+
+// Ranks the newest item of `ring`.
+fn rank_newest<T: Drop, O: Order<T>, R: RingBuffer<Rung<T>>>(
+    ring: &mut R,
+    first: &mut usize,
+    counts: &mut Counts<O>,
+)
+    requires { (rs : List (Rung T)) × (r : Rung T) × (R.contents ring.old ≡ rs ++ r ∷ [])
+        × HoldsLadder O.cmp rs first.old counts.old.compared.count (2 * counts.old.pushed.count) }
+    ensures holds { HoldsLadder O.cmp (R.contents ring.new) first.new counts.new.compared.count
+        (2 * counts.new.pushed.count) }
+    ensures pushed { counts.new.pushed.count ≡ counts.old.pushed.count + 1 }
+    ensures rises { counts.old.compared.count ≤ counts.new.compared.count }
+    ensures items { items_on (R.contents ring.new) ≡ items_on (R.contents ring.old) }
+    ensures limit { R.limit ring.new ≡ R.limit ring.old }
+{
+    let len = ring.len();
+    let behind = climb(ring, *first, counts);
+    counts.pushed = counts.pushed.plus(1);
+    set_links(ring, len - 1, behind, 0);
+    if behind == len {
+        *first = len;
+    } else {
+        set_ahead(ring, len - 1 - behind, behind);
+    }
+}
+
+// Returns how many items, from the newest on, go down to the last one named that isn't above it, or to the oldest.
+fn climb<T: Drop, O: Order<T>, R: RingBuffer<Rung<T>>>(
+    ring: &R,
+    first: usize,
+    counts: &mut Counts<O>,
+) -> usize
+    requires { (rs : List (Rung T)) × (r : Rung T) × (R.contents ring.now ≡ rs ++ r ∷ [])
+        × HoldsLadder O.cmp rs first counts.old.compared.count (2 * counts.old.pushed.count) }
+    ensures stops { Stops O.cmp (R.contents ring.now) first result counts.new.compared.count
+        (2 * counts.new.pushed.count + 1) }
+    ensures pushed { counts.new.pushed.count ≡ counts.old.pushed.count }
+    ensures rises { counts.old.compared.count ≤ counts.new.compared.count }
+{
+    let len = ring.len();
+    let mut behind = 1;
+    while behind < len {
+        let at = len - 1 - behind;
+        if !is_above_at(ring, at, len - 1, counts) {
+            return behind;
+        }
+        if at + 1 == first {
+            return len;
+        }
+        behind += behind_at(ring, at);
+    }
+    behind
+}
+
+// Writes how far the item at the place `at` is behind the one named before it, and the next one ahead.
+#[inline]
+fn set_links<T: Drop, R: RingBuffer<Rung<T>>>(ring: &mut R, at: usize, behind: usize, ahead: usize)
+    requires { at < length (R.contents ring.old) }
+    ensures contents { (x : Rung T) → slice_get (R.contents ring.old) at ≡ Some x
+        → R.contents ring.new ≡ slice_set (R.contents ring.old) at (record x { behind = behind; ahead = ahead }) }
+    ensures limit { R.limit ring.new ≡ R.limit ring.old }
+{
+    if let Some(rung) = ring.get_mut(at) {
+        rung.behind = behind;
+        rung.ahead = ahead;
+    }
+}
+
+// Writes how far the item at the place `at` is behind the one named before it.
+fn set_behind<T: Drop, R: RingBuffer<Rung<T>>>(ring: &mut R, at: usize, behind: usize)
+    requires { at < length (R.contents ring.old) }
+    ensures contents { (x : Rung T) → slice_get (R.contents ring.old) at ≡ Some x
+        → R.contents ring.new ≡ slice_set (R.contents ring.old) at (record x { behind = behind }) }
+    ensures limit { R.limit ring.new ≡ R.limit ring.old }
+{
+    if let Some(rung) = ring.get_mut(at) {
+        rung.behind = behind;
+    }
+}
+
+// Writes how far ahead of the item at the place `at` the next one named is.
+#[inline]
+fn set_ahead<T: Drop, R: RingBuffer<Rung<T>>>(ring: &mut R, at: usize, ahead: usize)
+    requires { at < length (R.contents ring.old) }
+    ensures contents { (x : Rung T) → slice_get (R.contents ring.old) at ≡ Some x
+        → R.contents ring.new ≡ slice_set (R.contents ring.old) at (record x { ahead = ahead }) }
+    ensures limit { R.limit ring.new ≡ R.limit ring.old }
+{
+    if let Some(rung) = ring.get_mut(at) {
+        rung.ahead = ahead;
+    }
+}
+
+// Returns whether the item at the place `at` is above that at the place `other`, and counts the comparison.
+#[inline]
+fn is_above_at<T: Drop, O: Order<T>, R: RingBuffer<Rung<T>>>(
+    ring: &R,
+    at: usize,
+    other: usize,
+    counts: &mut Counts<O>,
+) -> bool
+    requires { (at < length (R.contents ring.now)) × (other < length (R.contents ring.now)) }
+    ensures value { (x y : Rung T) → slice_get (R.contents ring.now) at ≡ Some x
+        → slice_get (R.contents ring.now) other ≡ Some y → result ≡ is_gt (O.cmp x.item y.item) }
+    ensures compared { counts.new.compared.count ≡ counts.old.compared.count + 1 }
+    ensures pushed { counts.new.pushed.count ≡ counts.old.pushed.count }
+{
+    let x = ring.get(at).unwrap();
+    let y = ring.get(other).unwrap();
+    is_above::<T, O>(&mut counts.compared, &x.item, &y.item)
+}
+
+// Returns how far the item at the place `at` is behind the one named before it.
+#[inline]
+fn behind_at<T: Drop, R: RingBuffer<Rung<T>>>(ring: &R, at: usize) -> usize
+    requires { at < length (R.contents ring.now) }
+    ensures { (x : Rung T) → slice_get (R.contents ring.now) at ≡ Some x → result ≡ x.behind }
+{
+    ring.get(at).unwrap().behind
+}
