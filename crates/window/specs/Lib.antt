@@ -1,7 +1,13 @@
+pub mod Extremes
 pub mod Folds
+pub mod Gcd
+pub mod GcdLaws
+pub mod JoinLaws
 pub mod Ladder
 pub mod Laws
 pub mod Least
+pub mod Matrices
+pub mod MatrixLaws
 pub mod Moments
 pub mod Views
 pub mod Window

@@ -2,10 +2,14 @@
 #![tactic(auto)]
 
 mod counted;
+mod extremes;
 mod fold_window;
 mod fraction;
+mod gcd;
 mod ghost_count;
 mod least_window;
+mod makers;
+mod matrix;
 mod moments;
 mod monoid;
 mod order;
@@ -13,9 +17,16 @@ mod sum;
 mod tally;
 mod tally_window;
 
+pub use extremes::{BoundingBox, Corners, Greatest, Least};
 pub use fold_window::{Kept, WindowFold};
 pub use fraction::Fraction;
+pub use gcd::Gcd;
 pub use least_window::{Rung, WindowLeast, WindowMax, WindowMin};
+pub use makers::{
+    AllocWindowFold, AllocWindowMax, AllocWindowMin, ConstGenericWindowFold, ConstGenericWindowMax,
+    ConstGenericWindowMin, GrowableAllocWindowFold, GrowableAllocWindowMax, GrowableAllocWindowMin,
+};
+pub use matrix::Matrix;
 pub use moments::{Moments, WindowMoments};
 pub use monoid::Monoid;
 pub use order::{Ascending, Descending, Order};
