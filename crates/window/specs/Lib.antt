@@ -2,6 +2,8 @@ pub mod Extremes
 pub mod Folds
 pub mod Gcd
 pub mod GcdLaws
+pub mod HashLaws
+pub mod Hashes
 pub mod JoinLaws
 pub mod Ladder
 pub mod Laws

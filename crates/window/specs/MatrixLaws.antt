@@ -7,10 +7,10 @@ use Rattle.window.specs.Matrices.{HasEntries, entry, product, unit_matrix}
 use Rattle.window.specs.declared.matrix.Matrix.{Matrix}
 
 -- The remainder of a sum is that of the sum of remainders.
-pub sum-mod : (x y m : ℕ) → (x % m + y % m) % m ≡ (x + y) % m
+sum-mod : (x y m : ℕ) → (x % m + y % m) % m ≡ (x + y) % m
 sum-mod x y m = mod-add-mod x m (y % m) ∙ add-mod-mod x y m
 
-same_sum : (m x x' y y' : ℕ) → x % m ≡ x' % m → y % m ≡ y' % m → (x + y) % m ≡ (x' + y') % m
+pub same_sum : (m x x' y y' : ℕ) → x % m ≡ x' % m → y % m ≡ y' % m → (x + y) % m ≡ (x' + y') % m
 same_sum m x x' y y' p q = sym (sum-mod x y m) ∙ rw (p, q) (sum-mod x' y' m)
 
 -- Factors that are entries may be taken before the remainder.
@@ -53,6 +53,6 @@ product_laws = record {
   left_identity = λ x is. same_entries _ _ _ _ _ _ _ _ (one_zero x.a x.c is.a) (one_zero x.b x.d is.b) (zero_one x.a x.c is.c) (zero_one x.b x.d is.d);
   right_identity = λ x is. same_entries _ _ _ _ _ _ _ _ (times_one x.a x.b is.a) (times_zero x.a x.b is.b) (times_one x.c x.d is.c) (times_zero x.c x.d is.d);
   assoc = λ x y z _ _ _. same_entries _ _ _ _ _ _ _ _
-  (entry-assoc x.a x.b y.a y.b y.c y.d z.a z.c) (entry-assoc x.a x.b y.a y.b y.c y.d z.b z.d)
-  (entry-assoc x.c x.d y.a y.b y.c y.d z.a z.c) (entry-assoc x.c x.d y.a y.b y.c y.d z.b z.d);
+      (entry-assoc x.a x.b y.a y.b y.c y.d z.a z.c) (entry-assoc x.a x.b y.a y.b y.c y.d z.b z.d)
+      (entry-assoc x.c x.d y.a y.b y.c y.d z.a z.c) (entry-assoc x.c x.d y.a y.b y.c y.d z.b z.d);
 }

@@ -9,10 +9,12 @@ mod gcd;
 mod ghost_count;
 mod least_window;
 mod makers;
+mod matching;
 mod matrix;
 mod moments;
 mod monoid;
 mod order;
+mod polynomial_hash;
 mod sum;
 mod tally;
 mod tally_window;
@@ -26,10 +28,12 @@ pub use makers::{
     AllocWindowFold, AllocWindowMax, AllocWindowMin, ConstGenericWindowFold, ConstGenericWindowMax,
     ConstGenericWindowMin, GrowableAllocWindowFold, GrowableAllocWindowMax, GrowableAllocWindowMin,
 };
+pub use matching::{Matching, Test};
 pub use matrix::Matrix;
 pub use moments::{Moments, WindowMoments};
 pub use monoid::Monoid;
 pub use order::{Ascending, Descending, Order};
+pub use polynomial_hash::PolynomialHash;
 pub use sum::{Sum, WindowSum};
 pub use tally::Tally;
 pub use tally_window::WindowTally;

@@ -13,7 +13,10 @@ use std::alloc::{AllocError, Global};
 pub type AllocWindowFold<M> = WindowFold<M, AllocRingBuffer<Kept<M>>>;
 
 /// A `WindowFold` over an array ring.
-pub type ConstGenericWindowFold<M, const CAP: usize> = WindowFold<M, ConstGenericRingBuffer<Kept<M>, CAP>>;
+pub type ConstGenericWindowFold<M, const CAP: usize> = WindowFold<
+    M,
+    ConstGenericRingBuffer<Kept<M>, CAP>,
+>;
 
 /// A `WindowFold` over a growable ring.
 pub type GrowableAllocWindowFold<M> = WindowFold<M, GrowableAllocRingBuffer<Kept<M>>>;
@@ -22,7 +25,10 @@ pub type GrowableAllocWindowFold<M> = WindowFold<M, GrowableAllocRingBuffer<Kept
 pub type AllocWindowMin<T> = WindowMin<T, AllocRingBuffer<Rung<T>>>;
 
 /// A `WindowMin` over an array ring.
-pub type ConstGenericWindowMin<T, const CAP: usize> = WindowMin<T, ConstGenericRingBuffer<Rung<T>, CAP>>;
+pub type ConstGenericWindowMin<T, const CAP: usize> = WindowMin<
+    T,
+    ConstGenericRingBuffer<Rung<T>, CAP>,
+>;
 
 /// A `WindowMin` over a growable ring.
 pub type GrowableAllocWindowMin<T> = WindowMin<T, GrowableAllocRingBuffer<Rung<T>>>;
@@ -31,7 +37,10 @@ pub type GrowableAllocWindowMin<T> = WindowMin<T, GrowableAllocRingBuffer<Rung<T
 pub type AllocWindowMax<T> = WindowMax<T, AllocRingBuffer<Rung<T>>>;
 
 /// A `WindowMax` over an array ring.
-pub type ConstGenericWindowMax<T, const CAP: usize> = WindowMax<T, ConstGenericRingBuffer<Rung<T>, CAP>>;
+pub type ConstGenericWindowMax<T, const CAP: usize> = WindowMax<
+    T,
+    ConstGenericRingBuffer<Rung<T>, CAP>,
+>;
 
 /// A `WindowMax` over a growable ring.
 pub type GrowableAllocWindowMax<T> = WindowMax<T, GrowableAllocRingBuffer<Rung<T>>>;
@@ -91,7 +100,11 @@ impl<T: Drop, O: Order<T>> WindowLeast<T, O, AllocRingBuffer<Rung<T>>> {
     }
 }
 
-impl<T: Drop, O: Order<T>, const CAP: usize> WindowLeast<T, O, ConstGenericRingBuffer<Rung<T>, CAP>> {
+impl<T: Drop, O: Order<T>, const CAP: usize> WindowLeast<
+    T,
+    O,
+    ConstGenericRingBuffer<Rung<T>, CAP>,
+> {
     /// Returns an empty window over an array ring of this capacity.
     pub fn in_array() -> Self
         requires { 0 < CAP }
