@@ -6,6 +6,7 @@
 mod ends;
 mod faults;
 mod fills;
+mod folds;
 mod positions;
 mod pushing;
 mod slices;

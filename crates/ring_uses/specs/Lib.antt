@@ -1,4 +1,6 @@
 pub mod Bytes
+pub mod Events
 pub mod Log
+pub mod Readings
 pub mod Signal
 pub mod States

@@ -2,10 +2,13 @@
 #![tactic(auto)]
 
 pub mod array_pipe;
+pub mod average;
 pub mod events;
 pub mod last_lines;
 pub mod last_two;
+pub mod limiter;
 pub mod pipe;
+pub mod readings;
 pub mod relay;
 pub mod samples;
 pub mod tail;

@@ -1,23 +1,26 @@
-//! A sliding window over samples.
+//! A sliding window over samples, which knows the least and the greatest of them without a walk.
 
 ghost use Rattle.std.specs.Prelude.{◌≡◌, ◌<◌, ◌≤◌, ◌≤ℤ◌, ◌↔◌, [], ◌∷◌, ◌++◌, All, Contains, IfSome, IsNone, Some, length};
 ghost use Rattle.ringbuffer.specs.Contents.{keep_last};
 
-use ringbuffer::{ConstGenericRingBuffer, RingBuffer};
 use std::marker::Model;
+use window::{ConstGenericWindowMax, ConstGenericWindowMin};
 
 /// The last samples of a series, at most `N`, oldest first. It takes no memory but its own.
 #[derive(Drop)]
 pub struct Window<const N: usize> {
-    samples: ConstGenericRingBuffer<i64, N>,
+    lows: ConstGenericWindowMin<i64, N>,
+    highs: ConstGenericWindowMax<i64, N>,
 }
 
 impl<const N: usize> Model for Window<N> {
-    ghost use Rattle.std.specs.Prelude.{List, ℤ};
+    ghost use Rattle.std.specs.Prelude.{◌≡◌, List, Some, ℤ};
 
     ghost Value = { List ℤ };
 
-    ghost view = { λ w. w.samples.items };
+    ghost view = { λ w. w.lows.contents };
+
+    ghost invariant = { λ w. (w.highs.contents ≡ w.lows.contents) × (w.lows.limit ≡ Some N) × (w.highs.limit ≡ Some N) };
 }
 
 impl<const N: usize> Window<N> {
@@ -27,7 +30,8 @@ impl<const N: usize> Window<N> {
         ensures { result ≡ [] }
     {
         Window {
-            samples: ConstGenericRingBuffer::new(),
+            lows: ConstGenericWindowMin::in_array(),
+            highs: ConstGenericWindowMax::in_array(),
         }
     }
 
@@ -35,14 +39,19 @@ impl<const N: usize> Window<N> {
     pub fn push(&mut self, sample: i64)
         ensures { self.new ≡ keep_last (Some N) (self.old ++ sample ∷ []) }
     {
-        let _ = self.samples.push(sample);
+        let _ = self.lows.push(sample);
+        let _ = self.highs.push(sample);
     }
 
     /// Takes in a series of samples.
     pub fn extend(&mut self, series: &[i64])
         ensures { self.new ≡ keep_last (Some N) (self.old ++ series.now) }
     {
-        let _ = self.samples.extend(series.iter().copied());
+        // Brings in that the window holds at most `N` samples.
+        let _ = self.count();
+        for sample in series {
+            self.push(*sample);
+        }
     }
 
     /// How many samples the window holds.
@@ -50,7 +59,7 @@ impl<const N: usize> Window<N> {
         ensures value { result ≡ length self.now }
         ensures within { result ≤ N }
     {
-        self.samples.len()
+        self.lows.len()
     }
 
     /// The least sample, or `None` before the first.
@@ -59,7 +68,8 @@ impl<const N: usize> Window<N> {
         ensures held { IfSome result (Contains self.now) }
         ensures least { IfSome result (λ least. All (λ sample. least ≤ℤ sample) self.now) }
     {
-        self.samples.iter().copied().min()
+        let least = self.lows.min()?;
+        Some(*least)
     }
 
     /// The greatest sample, or `None` before the first.
@@ -68,6 +78,7 @@ impl<const N: usize> Window<N> {
         ensures held { IfSome result (Contains self.now) }
         ensures greatest { IfSome result (λ greatest. All (λ sample. sample ≤ℤ greatest) self.now) }
     {
-        self.samples.iter().copied().max()
+        let greatest = self.highs.max()?;
+        Some(*greatest)
     }
 }

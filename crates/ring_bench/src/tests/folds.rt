@@ -1,0 +1,376 @@
+//! Windows with a tally, a fold or the least of their items, over each type of ring.
+
+use super::assert_equal;
+use ringbuffer::{AllocRingBuffer, ConstGenericRingBuffer, GrowableAllocRingBuffer, RingBuffer};
+use std::collections::VecDeque;
+use std::process::Abort;
+use window::{
+    AllocWindowFold, AllocWindowMax, AllocWindowMin, BoundingBox, ConstGenericWindowFold,
+    ConstGenericWindowMax, ConstGenericWindowMin, Corners, Gcd, Greatest, GrowableAllocWindowFold,
+    GrowableAllocWindowMax, GrowableAllocWindowMin, Kept, Least, Matching, Matrix, Monoid,
+    PolynomialHash, Rung, Test, WindowFold, WindowMax, WindowMin, WindowMoments, WindowSum, WindowTally,
+};
+
+/// A call of a window that knows its least item, and what it answers.
+#[derive(Clone, Copy, Debug, Drop, PartialEq)]
+enum Rank {
+    /// A push, and the sample that falls out for it.
+    Push(i64, Option<i64>),
+    Dequeue(Option<i64>),
+    Clear,
+    Min(Option<i64>),
+    Len(usize),
+}
+
+/// Does the call. Returns it with what the window answered.
+fn ranked<R: RingBuffer<Rung<i64>>>(
+    rt: &impl Abort,
+    window: &mut WindowMin<i64, R>,
+    rank: Rank,
+) -> Rank {
+    match rank {
+        Rank::Push(sample, _) => {
+            Rank::Push(sample, window.push(sample).expect(rt, "room for a sample"))
+        }
+        Rank::Dequeue(_) => Rank::Dequeue(window.dequeue()),
+        Rank::Clear => {
+            window.clear();
+            Rank::Clear
+        }
+        Rank::Min(_) => Rank::Min(window.min().copied()),
+        Rank::Len(_) => Rank::Len(window.len()),
+    }
+}
+
+/// Each of the calls answers what it says.
+fn assert_ranks<R: RingBuffer<Rung<i64>>>(
+    rt: &impl Abort,
+    mut window: WindowMin<i64, R>,
+    ranks: &[Rank],
+) {
+    for (i, rank) in ranks.iter().enumerate() {
+        let found = ranked(rt, &mut window, *rank);
+        assert_equal(rt, (i, found), (i, *rank));
+    }
+}
+
+/// Calls on a window of three.
+const OF_THREE: [Rank; 15] = [
+    Rank::Min(None),
+    Rank::Push(5, None),
+    Rank::Min(Some(5)),
+    Rank::Push(7, None),
+    Rank::Push(4, None),
+    Rank::Min(Some(4)),
+    Rank::Push(9, Some(5)),
+    Rank::Push(8, Some(7)),
+    Rank::Min(Some(4)),
+    Rank::Push(6, Some(4)),
+    Rank::Min(Some(6)),
+    Rank::Dequeue(Some(9)),
+    Rank::Len(2),
+    Rank::Clear,
+    Rank::Min(None),
+];
+
+#[test]
+fn least_of_the_last_three(rt: HostRuntime) {
+    assert_ranks(&rt, ConstGenericWindowMin::<i64, 3>::in_array(), &OF_THREE);
+    let window = AllocWindowMin::on_heap(rt.alloc(), 3).expect(&rt, "memory");
+    assert_ranks(&rt, window, &OF_THREE);
+}
+
+#[test]
+fn least_of_a_window_without_a_limit(rt: HostRuntime) {
+    let ranks = [
+        Rank::Push(2, None),
+        Rank::Push(2, None),
+        Rank::Push(9223372036854775807, None),
+        Rank::Push(-9223372036854775808, None),
+        Rank::Min(Some(-9223372036854775808)),
+        Rank::Dequeue(Some(2)),
+        Rank::Dequeue(Some(2)),
+        Rank::Dequeue(Some(9223372036854775807)),
+        Rank::Min(Some(-9223372036854775808)),
+        Rank::Dequeue(Some(-9223372036854775808)),
+        Rank::Min(None),
+    ];
+    assert_ranks(&rt, GrowableAllocWindowMin::growable(rt.alloc()), &ranks);
+}
+
+#[test]
+fn least_of_the_last_one(rt: HostRuntime) {
+    let ranks = [
+        Rank::Push(3, None),
+        Rank::Push(8, Some(3)),
+        Rank::Min(Some(8)),
+        Rank::Push(1, Some(8)),
+        Rank::Min(Some(1)),
+        Rank::Dequeue(Some(1)),
+        Rank::Min(None),
+    ];
+    assert_ranks(&rt, ConstGenericWindowMin::<i64, 1>::in_array(), &ranks);
+}
+
+/// A ring that holds items already is ranked, folded and tallied from the first query on.
+#[test]
+fn windows_over_rings_that_hold_items(rt: HostRuntime) {
+    let mut rungs = ConstGenericRingBuffer::<Rung<i64>, 3>::new();
+    let mut kept = ConstGenericRingBuffer::<Kept<Gcd>, 3>::new();
+    let mut samples = ConstGenericRingBuffer::<i32, 3>::new();
+    for sample in [40, 12, 18, 30] {
+        let _ = rungs.push(Rung::new(sample));
+        let _ = kept.push(Kept::new(Gcd(sample.unsigned_abs())));
+        let _ = samples.push(sample as i32);
+    }
+    let mut least = WindowMin::new(rungs);
+    assert_equal(&rt, least.min().copied(), Some(12));
+    let _ = least.push(50);
+    assert_equal(&rt, least.min().copied(), Some(18));
+    let divisor = WindowFold::new(kept);
+    assert_equal(&rt, divisor.fold(), Gcd(6));
+    let moments = WindowMoments::new(samples);
+    assert_equal(&rt, (moments.sum(), moments.sum_of_squares()), (60, 1368));
+    assert_equal(&rt, moments.rounded_mean(), Some(20));
+    assert!(rt; moments.fits_variance());
+    let variance = moments.variance().map(|v| (v.numerator, v.denominator));
+    assert_equal(&rt, variance, Some((504, 9)));
+}
+
+#[test]
+fn means_round_towards_zero(rt: HostRuntime) {
+    let mut window = WindowSum::new(ConstGenericRingBuffer::<i64, 2>::new());
+    assert_equal(&rt, window.rounded_mean(), None);
+    assert!(rt; window.mean().is_none());
+    let _ = window.push(-9223372036854775808);
+    let _ = window.push(-9223372036854775807);
+    assert_equal(&rt, window.rounded_mean(), Some(-9223372036854775807));
+    let mean = window.mean().map(|m| (m.numerator, m.denominator));
+    assert_equal(&rt, mean, Some((-18446744073709551615, 2)));
+}
+
+/// Text in the order of its bytes is lent, and needs not be copied.
+#[test]
+fn least_of_texts(rt: HostRuntime) {
+    let mut window = AllocWindowMin::on_heap(rt.alloc(), 2).expect(&rt, "memory");
+    for word in ["pear", "apple", "quince", "plum"] {
+        let word = String::from_str(rt.alloc(), word).expect(&rt, "memory");
+        let _ = window.push(word).expect(&rt, "room for a word");
+    }
+    let least = window.min().expect(&rt, "a word");
+    assert_equal(&rt, least.as_str(), "plum");
+}
+
+/// Points in the upper half of the plane.
+#[derive(Drop)]
+struct Upper;
+
+impl Test<(i64, i64)> for Upper {
+    ghost use Rattle.std.specs.Prelude.{pos};
+    ghost use Rattle.std.specs.Int.{int_lt};
+
+    ghost passes = { λ p. int_lt (pos 0) p.1 };
+
+    fn passes(item: &(i64, i64)) -> bool {
+        0 < item.1
+    }
+}
+
+#[test]
+fn points_in_the_upper_half(rt: HostRuntime) {
+    let ring = ConstGenericRingBuffer::<(i64, i64), 2>::new();
+    let mut window = WindowTally::<(i64, i64), Matching<Upper>, _>::new(ring);
+    for point in [(0, 1), (3, -2), (5, 6)] {
+        let _ = window.push(point);
+    }
+    assert_equal(&rt, window.tally().get(), 1);
+}
+
+#[test]
+fn box_round_the_last_points(rt: HostRuntime) {
+    let mut window = ConstGenericWindowFold::<BoundingBox, 2>::in_array();
+    assert_equal(&rt, window.fold(), BoundingBox(None));
+    for (x, y) in [(100, 100), (1, 8), (-4, 2)] {
+        let _ = window.push(BoundingBox::of_point(x, y));
+    }
+    let corners = Corners {
+        left: -4,
+        bottom: 2,
+        right: 1,
+        top: 8,
+    };
+    assert_equal(&rt, window.fold(), BoundingBox(Some(corners)));
+}
+
+#[test]
+fn least_and_greatest_by_value(rt: HostRuntime) {
+    let least = Least(Some(4)).combine(&Least(Some(-3)));
+    assert_equal(&rt, least, Least(Some(-3)));
+    let greatest = Greatest(Some(4)).combine(&Greatest::neutral());
+    assert_equal(&rt, greatest, Greatest(Some(4)));
+}
+
+/// The hash of some bytes, read as the digits of a number.
+fn hash_of(bytes: &[u8]) -> u128 {
+    let mut hash = 0u128;
+    for byte in bytes {
+        hash = hash.wrapping_mul(1000003).wrapping_add(u128::from(*byte)) % 2305843009213693951;
+    }
+    hash
+}
+
+#[test]
+fn hashes_of_the_last_bytes(rt: HostRuntime) {
+    let mut window = ConstGenericWindowFold::<PolynomialHash, 5>::in_array();
+    let text = b"the quick brown fox";
+    for (i, byte) in text.iter().enumerate() {
+        let _ = window.push(PolynomialHash::of_byte(*byte));
+        let from = i.saturating_sub(4);
+        let last = hash_of(text.get(from..=i).expect(&rt, "the last bytes"));
+        assert_equal(&rt, (i, u128::from(window.fold().hash())), (i, last));
+    }
+}
+
+/// A number of a series that looks random: the next state, and some of its bits.
+fn next_number(state: &mut u64) -> u64 {
+    *state = state
+        .wrapping_mul(6364136223846793005)
+        .wrapping_add(1442695040888963407);
+    *state >> 40
+}
+
+/// A matrix that doesn't commute with others of its kind.
+fn matrix_of(sample: i64) -> Matrix {
+    Matrix {
+        a: sample.cast_unsigned(),
+        b: 1,
+        c: 2,
+        d: 1,
+    }
+}
+
+/// The least, the greatest, the sum and the product of some samples, by a walk.
+fn folded(samples: &VecDeque<i64>) -> (Option<i64>, Option<i64>, i128, Matrix) {
+    let mut sum = 0i128;
+    let mut product = Matrix::neutral();
+    for sample in samples.iter() {
+        sum = sum.wrapping_add(i128::from(*sample));
+        product = product.combine(&matrix_of(*sample));
+    }
+    (
+        samples.iter().copied().min(),
+        samples.iter().copied().max(),
+        sum,
+        product,
+    )
+}
+
+/// Four windows over the same samples.
+#[derive(Drop)]
+struct Four<A: RingBuffer<Rung<i64>>, B: RingBuffer<Rung<i64>>, C: RingBuffer<i64>, D: RingBuffer<Kept<Matrix>>> {
+    least: WindowMin<i64, A>,
+    greatest: WindowMax<i64, B>,
+    sum: WindowSum<C>,
+    product: WindowFold<Matrix, D>,
+}
+
+impl<A: RingBuffer<Rung<i64>>, B: RingBuffer<Rung<i64>>, C: RingBuffer<i64>, D: RingBuffer<Kept<Matrix>>> Four<A, B, C, D> {
+    fn push(&mut self, rt: &impl Abort, sample: i64) {
+        let _ = self.least.push(sample).expect(rt, "room");
+        let _ = self.greatest.push(sample).expect(rt, "room");
+        let _ = self.sum.push(sample).expect(rt, "room");
+        if self.product.push(matrix_of(sample)).is_err() {
+            assert!(rt; false);
+        }
+    }
+
+    fn dequeue(&mut self) {
+        let _ = self.least.dequeue();
+        let _ = self.greatest.dequeue();
+        let _ = self.sum.dequeue();
+        let _ = self.product.dequeue();
+    }
+
+    fn clear(&mut self) {
+        self.least.clear();
+        self.greatest.clear();
+        self.sum.clear();
+        self.product.clear();
+    }
+
+    fn answers(&self) -> (Option<i64>, Option<i64>, i128, Matrix) {
+        (
+            self.least.min().copied(),
+            self.greatest.max().copied(),
+            self.sum.sum(),
+            self.product.fold(),
+        )
+    }
+}
+
+/// After each of 10,000 random calls the windows answer what a walk over the last `limit` samples finds. Dequeues keep a
+/// window without a limit to that length.
+fn agree_with_a_walk<A: RingBuffer<Rung<i64>>, B: RingBuffer<Rung<i64>>, C: RingBuffer<i64>, D: RingBuffer<Kept<Matrix>>>(
+    rt: &(impl Abort + AllocGlobal),
+    mut four: Four<A, B, C, D>,
+    limit: usize,
+    overwrites: bool,
+) {
+    let mut samples = VecDeque::new(rt.alloc());
+    let mut state = 1u64;
+    for step in 0..10_000u32 {
+        let number = next_number(&mut state);
+        if number % 512 == 0 {
+            four.clear();
+            samples.clear();
+        } else if number % 8 == 1 {
+            four.dequeue();
+            let _ = samples.pop_front();
+        } else {
+            // Few numbers, so that many are equal.
+            let sample = ((number / 512) % 16).cast_signed().wrapping_sub(8);
+            if samples.len() >= limit {
+                if !overwrites {
+                    four.dequeue();
+                }
+                let _ = samples.pop_front();
+            }
+            four.push(rt, sample);
+            samples.push_back(sample).expect(rt, "memory");
+        }
+        assert_equal(rt, (step, four.answers()), (step, folded(&samples)));
+    }
+}
+
+#[test]
+fn random_calls_on_array_rings(rt: HostRuntime) {
+    let four = Four {
+        least: ConstGenericWindowMin::<i64, 7>::in_array(),
+        greatest: ConstGenericWindowMax::<i64, 7>::in_array(),
+        sum: WindowSum::new(ConstGenericRingBuffer::<i64, 7>::new()),
+        product: ConstGenericWindowFold::<Matrix, 7>::in_array(),
+    };
+    agree_with_a_walk(&rt, four, 7, true);
+}
+
+#[test]
+fn random_calls_on_heap_rings(rt: HostRuntime) {
+    let four = Four {
+        least: AllocWindowMin::on_heap(rt.alloc(), 20).expect(&rt, "memory"),
+        greatest: AllocWindowMax::on_heap(rt.alloc(), 20).expect(&rt, "memory"),
+        sum: WindowSum::new(AllocRingBuffer::new(rt.alloc(), 20).expect(&rt, "memory")),
+        product: AllocWindowFold::on_heap(rt.alloc(), 20).expect(&rt, "memory"),
+    };
+    agree_with_a_walk(&rt, four, 20, true);
+}
+
+#[test]
+fn random_calls_on_growable_rings(rt: HostRuntime) {
+    let four = Four {
+        least: GrowableAllocWindowMin::growable(rt.alloc()),
+        greatest: GrowableAllocWindowMax::growable(rt.alloc()),
+        sum: WindowSum::new(GrowableAllocRingBuffer::new(rt.alloc())),
+        product: GrowableAllocWindowFold::growable(rt.alloc()),
+    };
+    agree_with_a_walk(&rt, four, 20, false);
+}
