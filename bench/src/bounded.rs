@@ -1,6 +1,7 @@
 //! The same work on a `VecDeque` that is kept to its capacity by hand.
 
 use crate::pipe;
+use crate::sliding;
 use crate::work::{Work, EXTENSION};
 use std::collections::VecDeque;
 use std::hint::black_box;
@@ -220,6 +221,9 @@ pub fn deque(work: Work, capacity: usize, items: usize) -> u64 {
         Work::Slide => return slide(capacity, items),
         Work::Pipe => return through_pipe(capacity, items),
         Work::Undo => sum = undo(&mut ring, capacity, items),
+        Work::Least | Work::LeastRising | Work::LeastFalling | Work::Product => {
+            return sliding::by_hand(work, capacity, items);
+        }
         Work::Reextend => (0..rounds).for_each(|_| reextend(black_box(&mut ring), capacity)),
         Work::Slices => (0..rounds).for_each(|_| sum = sum_slices(&ring, sum)),
         Work::ToVec => (0..rounds).for_each(|_| sum = to_vec(&ring, sum)),

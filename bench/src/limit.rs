@@ -150,7 +150,7 @@ pub fn slices(work: Work, capacity: usize, items: usize) -> u64 {
         }
         Work::Slide => sum = slide(&mut ring, &mut 0, items) as u64,
         Work::Pipe => return through_pipe(capacity, items),
-        Work::Undo => unreachable!("no limit of undoing"),
+        Work::Undo | Work::Least | Work::LeastRising | Work::LeastFalling | Work::Product => unreachable!("no such limit"),
     }
     sum.wrapping_add(ring.read(0))
 }

@@ -8,6 +8,7 @@ mod bounded;
 mod limit;
 mod pipe;
 mod rust_side;
+mod sliding;
 mod table;
 mod work;
 
@@ -28,7 +29,7 @@ pub struct Contender {
     run: fn(Work, usize, usize) -> u64,
 }
 
-/// The name of the contender that adds up each sliding sum anew. It does no other work, and at the smaller capacities alone,
+/// The name of the contender that makes each sliding sum, least or product anew. It does no other work, and at the smaller capacities alone,
 /// since an item takes it as many steps as the ring holds.
 const ANEW: &str = "summed anew";
 
@@ -38,6 +39,9 @@ const PIPES: [&str; 5] = ["heap", "Rust heap", "VecDeque", "Boost", "limit"];
 /// The contenders at undoing, of those that can take out their newest item.
 const HISTORIES: [&str; 5] = ["heap", "growable", "Rust growable", "VecDeque", "Boost"];
 
+/// The contenders at windows with their least sample or their product. `VecDeque` keeps pairs of them, or two stacks, by hand.
+const WINDOWS: [&str; 2] = ["heap", "VecDeque"];
+
 impl Contender {
     /// Whether it is timed at this work with this capacity.
     fn does(&self, work: Work, capacity: usize) -> bool {
@@ -45,6 +49,9 @@ impl Contender {
             Work::Slide => self.name != ANEW || capacity <= 1000,
             Work::Pipe => capacity == pipe::CAPACITY && PIPES.contains(&self.name),
             Work::Undo => HISTORIES.contains(&self.name),
+            Work::Least | Work::LeastRising | Work::LeastFalling | Work::Product => {
+                WINDOWS.contains(&self.name) || self.name == ANEW && capacity <= 1000
+            }
             _ => self.name != ANEW,
         }
     }
@@ -61,7 +68,7 @@ pub const CONTENDERS: &[Contender] = &[
     Contender { name: "VecDeque", run: bounded::deque },
     #[cfg(feature = "boost")]
     Contender { name: "Boost", run: |work, capacity, items| unsafe { boost_side(work as u32, capacity, items) } },
-    Contender { name: ANEW, run: |_, capacity, items| bounded::slide_anew(capacity, items) },
+    Contender { name: ANEW, run: sliding::anew },
     Contender { name: "limit", run: limit::slices },
 ];
 

@@ -26,10 +26,14 @@ pub enum Work {
     FromSlice,
     Pipe,
     Undo,
+    Least,
+    LeastRising,
+    LeastFalling,
+    Product,
 }
 
 impl Work {
-    pub const ALL: [Work; 18] = [
+    pub const ALL: [Work; 22] = [
         Work::Push,
         Work::PushCall,
         Work::PushDequeue,
@@ -48,6 +52,10 @@ impl Work {
         Work::FromSlice,
         Work::Pipe,
         Work::Undo,
+        Work::Least,
+        Work::LeastRising,
+        Work::LeastFalling,
+        Work::Product,
     ];
 
     pub fn name(self) -> &'static str {
@@ -70,6 +78,10 @@ impl Work {
             Work::FromSlice => "from a slice",
             Work::Pipe => "bytes through a pipe",
             Work::Undo => "undo and record",
+            Work::Least => "sliding least, random",
+            Work::LeastRising => "sliding least, rising",
+            Work::LeastFalling => "sliding least, falling",
+            Work::Product => "sliding product",
         }
     }
 }

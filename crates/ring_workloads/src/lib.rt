@@ -3,7 +3,8 @@
 //! Each export makes a ring of u64 items, a window over one of i64 samples, or a pipe of bytes, fills it, does so much
 //! work on it, and returns a number that depends on that work. Its first argument names the work, by the numbers of
 //! `Work`. It returns 0 where the work or the array's capacity isn't one of those named here, where the capacity is 0,
-//! and where memory is refused. Only the heap ring does `Work::Pipe`: the others return 0 for it.
+//! and where memory is refused. Only the heap ring does `Work::Pipe` and the work on windows with their least sample or
+//! their product: the others return 0 for it.
 #![tactic(auto)]
 
 mod pipes;
@@ -15,8 +16,10 @@ use pipes::on_heap_pipe;
 use ringbuffer::ConstGenericRingBuffer;
 use rings::{on_fixed, on_growable, on_heap};
 use std::alloc::Global;
-use windows::{on_array_window, on_growable_window, on_heap_window};
-use work::Work;
+use windows::{
+    on_array_window, on_growable_window, on_heap_least, on_heap_product, on_heap_window,
+};
+use work::{Series, Work};
 
 /// Work on an array ring. The capacity is 7, 1000, 1024 or 65536.
 #[unsafe(no_mangle)]
@@ -31,7 +34,11 @@ pub extern "C" fn ring_workloads_array(
     };
     match work {
         Work::Slide => return on_array_window(capacity, items),
-        Work::Pipe => return 0,
+        Work::Pipe
+        | Work::Least
+        | Work::LeastRising
+        | Work::LeastFalling
+        | Work::Product => return 0,
         _ => {}
     }
     match capacity {
@@ -78,6 +85,18 @@ pub extern "C" fn ring_workloads_heap(
     match Work::numbered(work) {
         Some(Work::Slide) if capacity > 0 => { on_heap_window(alloc, capacity, items).unwrap_or(0) }
         Some(Work::Pipe) if capacity > 0 => on_heap_pipe(alloc, capacity, items).unwrap_or(0),
+        Some(Work::Least) if capacity > 0 => {
+            on_heap_least(alloc, capacity, items, Series::RANDOM).unwrap_or(0)
+        }
+        Some(Work::LeastRising) if capacity > 0 => {
+            on_heap_least(alloc, capacity, items, Series::RISING).unwrap_or(0)
+        }
+        Some(Work::LeastFalling) if capacity > 0 => {
+            on_heap_least(alloc, capacity, items, Series::FALLING).unwrap_or(0)
+        }
+        Some(Work::Product) if capacity > 0 => {
+            on_heap_product(alloc, capacity, items).unwrap_or(0)
+        }
         Some(work) if capacity > 0 => on_heap(alloc, work, capacity, items).unwrap_or(0),
         _ => 0,
     }
@@ -95,7 +114,9 @@ pub extern "C" fn ring_workloads_growable(
         Some(Work::Slide) if capacity > 0 => {
             on_growable_window(alloc, capacity, items).unwrap_or(0)
         }
-        Some(Work::Pipe) => 0,
+        Some(
+            Work::Pipe | Work::Least | Work::LeastRising | Work::LeastFalling | Work::Product,
+        ) => 0,
         Some(work) if capacity > 0 => on_growable(alloc, work, capacity, items).unwrap_or(0),
         _ => 0,
     }

@@ -1,10 +1,10 @@
 //! The work on a window over each type of ring.
 ghost use Rattle.std.specs.Prelude.{◌<◌};
 
-use crate::work::{slide, slide_within};
+use crate::work::{Series, slide, slide_least, slide_product, slide_within};
 use ringbuffer::{AllocRingBuffer, ConstGenericRingBuffer, GrowableAllocRingBuffer, RingBuffer};
 use std::alloc::{AllocError, Global};
-use window::WindowSum;
+use window::{AllocWindowFold, AllocWindowMin, WindowSum};
 
 /// Work on a window over an array ring. The capacity is 7, 1000, 1024 or 65536.
 #[inline(never)]
@@ -30,6 +30,29 @@ pub fn on_growable_window(alloc: Global, capacity: usize, items: usize) -> Resul
     let mut window = WindowSum::new(GrowableAllocRingBuffer::with_capacity(alloc, capacity)?);
     let _ = slide(&mut window, capacity);
     Ok(low_half(slide_within(&mut window, capacity, items)))
+}
+
+/// Work on a window that knows its least sample, over a heap ring.
+pub fn on_heap_least(
+    alloc: Global,
+    capacity: usize,
+    items: usize,
+    series: Series,
+) -> Result<u64, AllocError>
+    requires { 0 < capacity }
+{
+    let mut window = AllocWindowMin::on_heap(alloc, capacity)?;
+    let _ = slide_least(&mut window, capacity, series);
+    Ok(slide_least(&mut window, items, series).cast_unsigned())
+}
+
+/// Work on a window that knows the product of its matrices, over a heap ring.
+pub fn on_heap_product(alloc: Global, capacity: usize, items: usize) -> Result<u64, AllocError>
+    requires { 0 < capacity }
+{
+    let mut window = AllocWindowFold::on_heap(alloc, capacity)?;
+    let _ = slide_product(&mut window, capacity);
+    Ok(slide_product(&mut window, items))
 }
 
 // Work on a window over a ring with a limit.

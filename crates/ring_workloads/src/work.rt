@@ -5,7 +5,7 @@
 
 use ringbuffer::{RingBuffer, RingBufferIterator};
 use std::alloc::Global;
-use window::WindowSum;
+use window::{Kept, Matrix, Rung, WindowFold, WindowMin, WindowSum};
 
 /// The number of items of one extension.
 pub const EXTENSION: u64 = 4096;
@@ -49,6 +49,14 @@ pub enum Work {
     Pipe,
     /// Takes out the newest item of a full ring, and pushes another.
     Undo,
+    /// Pushes of random samples onto a full window, and a read of its least one after each.
+    Least,
+    /// The same with rising samples.
+    LeastRising,
+    /// The same with falling samples.
+    LeastFalling,
+    /// Pushes of matrices onto a full window, and a read of their product after each.
+    Product,
 }
 
 impl Work {
@@ -73,6 +81,10 @@ impl Work {
             15 => Some(Work::FromSlice),
             16 => Some(Work::Pipe),
             17 => Some(Work::Undo),
+            18 => Some(Work::Least),
+            19 => Some(Work::LeastRising),
+            20 => Some(Work::LeastFalling),
+            21 => Some(Work::Product),
             _ => None,
         }
     }
@@ -221,4 +233,73 @@ pub fn slide_within<R: RingBuffer<i64> + Drop>(
         sums = sums.wrapping_add(window.sum());
     }
     sums
+}
+
+/// A series of numbers, each of which follows from the one before it.
+#[derive(Clone, Copy)]
+pub struct Series {
+    factor: u64,
+    step: u64,
+}
+
+impl Series {
+    /// Numbers that look random.
+    pub const RANDOM: Series = Series {
+        factor: 6364136223846793005,
+        step: 1442695040888963407,
+    };
+
+    /// Each number is one more than the one before it.
+    pub const RISING: Series = Series { factor: 1, step: 1 };
+
+    /// Each number is one less than the one before it.
+    pub const FALLING: Series = Series {
+        factor: 1,
+        step: 18446744073709551615,
+    };
+
+    #[inline]
+    fn after(self, number: u64) -> u64 {
+        number.wrapping_mul(self.factor).wrapping_add(self.step)
+    }
+}
+
+/// Pushes so many numbers of a series onto a window, and adds up the least ones that it has after each.
+#[inline(never)]
+pub fn slide_least<R: RingBuffer<Rung<i64>> + Drop>(
+    window: &mut WindowMin<i64, R>,
+    items: usize,
+    series: Series,
+) -> i64 {
+    let mut sum = 0i64;
+    let mut number = 0u64;
+    for _ in 0..items {
+        number = series.after(number);
+        let _ = window.push(number.cast_signed());
+        if let Some(least) = window.min() {
+            sum = sum.wrapping_add(*least);
+        }
+    }
+    sum
+}
+
+/// Pushes so many matrices onto a window, and adds up an entry of the products that it has after each.
+#[inline(never)]
+pub fn slide_product<R: RingBuffer<Kept<Matrix>> + Drop>(
+    window: &mut WindowFold<Matrix, R>,
+    items: usize,
+) -> u64 {
+    let mut sum = 0u64;
+    let mut number = 0u64;
+    for _ in 0..items {
+        number = Series::RANDOM.after(number);
+        let _ = window.push(Matrix {
+            a: number,
+            b: 1,
+            c: 2,
+            d: 1,
+        });
+        sum = sum.wrapping_add(window.fold().b);
+    }
+    sum
 }

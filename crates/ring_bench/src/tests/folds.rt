@@ -3,12 +3,14 @@
 use super::assert_equal;
 use ringbuffer::{AllocRingBuffer, ConstGenericRingBuffer, GrowableAllocRingBuffer, RingBuffer};
 use std::collections::VecDeque;
+use std::fmt::Debug;
 use std::process::Abort;
 use window::{
-    AllocWindowFold, AllocWindowMax, AllocWindowMin, BoundingBox, ConstGenericWindowFold,
-    ConstGenericWindowMax, ConstGenericWindowMin, Corners, Gcd, Greatest, GrowableAllocWindowFold,
-    GrowableAllocWindowMax, GrowableAllocWindowMin, Kept, Least, Matching, Matrix, Monoid,
-    PolynomialHash, Rung, Test, WindowFold, WindowMax, WindowMin, WindowMoments, WindowSum, WindowTally,
+    AllocWindowFold, AllocWindowMax, AllocWindowMin, Ascending, BoundingBox,
+    ConstGenericWindowFold, ConstGenericWindowMax, ConstGenericWindowMin, Corners, Descending, Gcd,
+    Greatest, GrowableAllocWindowFold, GrowableAllocWindowMax, GrowableAllocWindowMin, Kept, Least,
+    Matching, Matrix, Monoid, PolynomialHash, Rung, Sum, Test, WindowFold, WindowLeast, WindowMin,
+    WindowMoments, WindowSum, WindowTally,
 };
 
 /// A call of a window that knows its least item, and what it answers.
@@ -43,7 +45,7 @@ fn ranked<R: RingBuffer<Rung<i64>>>(
 }
 
 /// Each of the calls answers what it says.
-fn assert_ranks<R: RingBuffer<Rung<i64>>>(
+fn assert_ranks<R: RingBuffer<Rung<i64>> + Drop>(
     rt: &impl Abort,
     mut window: WindowMin<i64, R>,
     ranks: &[Rank],
@@ -166,8 +168,7 @@ fn least_of_texts(rt: HostRuntime) {
 struct Upper;
 
 impl Test<(i64, i64)> for Upper {
-    ghost use Rattle.std.specs.Prelude.{pos};
-    ghost use Rattle.std.specs.Int.{int_lt};
+    ghost use Rattle.std.specs.Prelude.{int_lt, pos};
 
     ghost passes = { λ p. int_lt (pos 0) p.1 };
 
@@ -249,70 +250,130 @@ fn matrix_of(sample: i64) -> Matrix {
     }
 }
 
-/// The least, the greatest, the sum and the product of some samples, by a walk.
-fn folded(samples: &VecDeque<i64>) -> (Option<i64>, Option<i64>, i128, Matrix) {
-    let mut sum = 0i128;
-    let mut product = Matrix::neutral();
-    for sample in samples.iter() {
-        sum = sum.wrapping_add(i128::from(*sample));
-        product = product.combine(&matrix_of(*sample));
-    }
-    (
-        samples.iter().copied().min(),
-        samples.iter().copied().max(),
-        sum,
-        product,
-    )
+/// A window of samples, whose answer a walk over them finds too.
+trait Sliding {
+    type Answer: PartialEq + Debug + Drop;
+
+    fn push(&mut self, rt: &impl Abort, sample: i64);
+
+    fn dequeue(&mut self);
+
+    fn clear(&mut self);
+
+    fn answer(&self) -> Self::Answer;
+
+    fn by_walk(samples: &VecDeque<i64>) -> Self::Answer;
 }
 
-/// Four windows over the same samples.
-#[derive(Drop)]
-struct Four<A: RingBuffer<Rung<i64>>, B: RingBuffer<Rung<i64>>, C: RingBuffer<i64>, D: RingBuffer<Kept<Matrix>>> {
-    least: WindowMin<i64, A>,
-    greatest: WindowMax<i64, B>,
-    sum: WindowSum<C>,
-    product: WindowFold<Matrix, D>,
-}
+impl<R: RingBuffer<Rung<i64>>> Sliding for WindowLeast<i64, Ascending, R> {
+    type Answer = Option<i64>;
 
-impl<A: RingBuffer<Rung<i64>>, B: RingBuffer<Rung<i64>>, C: RingBuffer<i64>, D: RingBuffer<Kept<Matrix>>> Four<A, B, C, D> {
     fn push(&mut self, rt: &impl Abort, sample: i64) {
-        let _ = self.least.push(sample).expect(rt, "room");
-        let _ = self.greatest.push(sample).expect(rt, "room");
-        let _ = self.sum.push(sample).expect(rt, "room");
-        if self.product.push(matrix_of(sample)).is_err() {
-            assert!(rt; false);
-        }
+        assert!(rt; self.push(sample).is_ok());
     }
 
     fn dequeue(&mut self) {
-        let _ = self.least.dequeue();
-        let _ = self.greatest.dequeue();
-        let _ = self.sum.dequeue();
-        let _ = self.product.dequeue();
+        let _ = self.dequeue();
     }
 
     fn clear(&mut self) {
-        self.least.clear();
-        self.greatest.clear();
-        self.sum.clear();
-        self.product.clear();
+        self.clear();
     }
 
-    fn answers(&self) -> (Option<i64>, Option<i64>, i128, Matrix) {
-        (
-            self.least.min().copied(),
-            self.greatest.max().copied(),
-            self.sum.sum(),
-            self.product.fold(),
-        )
+    fn answer(&self) -> Option<i64> {
+        self.min().copied()
+    }
+
+    fn by_walk(samples: &VecDeque<i64>) -> Option<i64> {
+        samples.iter().copied().min()
     }
 }
 
-/// After each of 10,000 random calls the windows answer what a walk over the last `limit` samples finds. Dequeues keep a
-/// window without a limit to that length.
-fn agree_with_a_walk<A: RingBuffer<Rung<i64>>, B: RingBuffer<Rung<i64>>, C: RingBuffer<i64>, D: RingBuffer<Kept<Matrix>>>(
+impl<R: RingBuffer<Rung<i64>>> Sliding for WindowLeast<i64, Descending, R> {
+    type Answer = Option<i64>;
+
+    fn push(&mut self, rt: &impl Abort, sample: i64) {
+        assert!(rt; self.push(sample).is_ok());
+    }
+
+    fn dequeue(&mut self) {
+        let _ = self.dequeue();
+    }
+
+    fn clear(&mut self) {
+        self.clear();
+    }
+
+    fn answer(&self) -> Option<i64> {
+        self.max().copied()
+    }
+
+    fn by_walk(samples: &VecDeque<i64>) -> Option<i64> {
+        samples.iter().copied().max()
+    }
+}
+
+impl<R: RingBuffer<i64>> Sliding for WindowTally<i64, Sum, R> {
+    type Answer = i128;
+
+    fn push(&mut self, rt: &impl Abort, sample: i64) {
+        assert!(rt; self.push(sample).is_ok());
+    }
+
+    fn dequeue(&mut self) {
+        let _ = self.dequeue();
+    }
+
+    fn clear(&mut self) {
+        self.clear();
+    }
+
+    fn answer(&self) -> i128 {
+        self.sum()
+    }
+
+    fn by_walk(samples: &VecDeque<i64>) -> i128 {
+        let mut sum = 0i128;
+        for sample in samples.iter() {
+            sum = sum.wrapping_add(i128::from(*sample));
+        }
+        sum
+    }
+}
+
+impl<R: RingBuffer<Kept<Matrix>>> Sliding for WindowFold<Matrix, R> {
+    type Answer = Matrix;
+
+    fn push(&mut self, rt: &impl Abort, sample: i64) {
+        assert!(rt; self.push(matrix_of(sample)).is_ok());
+    }
+
+    fn dequeue(&mut self) {
+        let _ = self.dequeue();
+    }
+
+    fn clear(&mut self) {
+        self.clear();
+    }
+
+    fn answer(&self) -> Matrix {
+        self.fold()
+    }
+
+    fn by_walk(samples: &VecDeque<i64>) -> Matrix {
+        let mut product = Matrix::neutral();
+        for sample in samples.iter() {
+            product = product.combine(&matrix_of(*sample));
+        }
+        product
+    }
+}
+
+/// After each of 10,000 random calls the window answers what a walk over the last `limit` samples finds. Dequeues keep a
+/// window that doesn't overwrite to that length.
+fn agree_with_a_walk<W: Sliding + Drop>(
     rt: &(impl Abort + AllocGlobal),
-    mut four: Four<A, B, C, D>,
+    mut window: W,
     limit: usize,
     overwrites: bool,
 ) {
@@ -321,56 +382,73 @@ fn agree_with_a_walk<A: RingBuffer<Rung<i64>>, B: RingBuffer<Rung<i64>>, C: Ring
     for step in 0..10_000u32 {
         let number = next_number(&mut state);
         if number % 512 == 0 {
-            four.clear();
+            window.clear();
             samples.clear();
         } else if number % 8 == 1 {
-            four.dequeue();
+            window.dequeue();
             let _ = samples.pop_front();
         } else {
             // Few numbers, so that many are equal.
             let sample = ((number / 512) % 16).cast_signed().wrapping_sub(8);
             if samples.len() >= limit {
                 if !overwrites {
-                    four.dequeue();
+                    window.dequeue();
                 }
                 let _ = samples.pop_front();
             }
-            four.push(rt, sample);
+            window.push(rt, sample);
             samples.push_back(sample).expect(rt, "memory");
         }
-        assert_equal(rt, (step, four.answers()), (step, folded(&samples)));
+        assert_equal(rt, (step, window.answer()), (step, W::by_walk(&samples)));
     }
 }
 
 #[test]
 fn random_calls_on_array_rings(rt: HostRuntime) {
-    let four = Four {
-        least: ConstGenericWindowMin::<i64, 7>::in_array(),
-        greatest: ConstGenericWindowMax::<i64, 7>::in_array(),
-        sum: WindowSum::new(ConstGenericRingBuffer::<i64, 7>::new()),
-        product: ConstGenericWindowFold::<Matrix, 7>::in_array(),
-    };
-    agree_with_a_walk(&rt, four, 7, true);
+    agree_with_a_walk(&rt, ConstGenericWindowMin::<i64, 7>::in_array(), 7, true);
+    agree_with_a_walk(&rt, ConstGenericWindowMax::<i64, 7>::in_array(), 7, true);
+    let sums = WindowSum::new(ConstGenericRingBuffer::<i64, 7>::new());
+    agree_with_a_walk(&rt, sums, 7, true);
+    agree_with_a_walk(
+        &rt,
+        ConstGenericWindowFold::<Matrix, 7>::in_array(),
+        7,
+        true,
+    );
 }
 
 #[test]
 fn random_calls_on_heap_rings(rt: HostRuntime) {
-    let four = Four {
-        least: AllocWindowMin::on_heap(rt.alloc(), 20).expect(&rt, "memory"),
-        greatest: AllocWindowMax::on_heap(rt.alloc(), 20).expect(&rt, "memory"),
-        sum: WindowSum::new(AllocRingBuffer::new(rt.alloc(), 20).expect(&rt, "memory")),
-        product: AllocWindowFold::on_heap(rt.alloc(), 20).expect(&rt, "memory"),
-    };
-    agree_with_a_walk(&rt, four, 20, true);
+    let least = AllocWindowMin::<i64>::on_heap(rt.alloc(), 20).expect(&rt, "memory");
+    agree_with_a_walk(&rt, least, 20, true);
+    let greatest = AllocWindowMax::<i64>::on_heap(rt.alloc(), 20).expect(&rt, "memory");
+    agree_with_a_walk(&rt, greatest, 20, true);
+    let ring = AllocRingBuffer::<i64>::new(rt.alloc(), 20).expect(&rt, "memory");
+    agree_with_a_walk(&rt, WindowSum::new(ring), 20, true);
+    let product = AllocWindowFold::<Matrix>::on_heap(rt.alloc(), 20).expect(&rt, "memory");
+    agree_with_a_walk(&rt, product, 20, true);
 }
 
 #[test]
 fn random_calls_on_growable_rings(rt: HostRuntime) {
-    let four = Four {
-        least: GrowableAllocWindowMin::growable(rt.alloc()),
-        greatest: GrowableAllocWindowMax::growable(rt.alloc()),
-        sum: WindowSum::new(GrowableAllocRingBuffer::new(rt.alloc())),
-        product: GrowableAllocWindowFold::growable(rt.alloc()),
-    };
-    agree_with_a_walk(&rt, four, 20, false);
+    agree_with_a_walk(
+        &rt,
+        GrowableAllocWindowMin::<i64>::growable(rt.alloc()),
+        20,
+        false,
+    );
+    agree_with_a_walk(
+        &rt,
+        GrowableAllocWindowMax::<i64>::growable(rt.alloc()),
+        20,
+        false,
+    );
+    let sums = WindowSum::new(GrowableAllocRingBuffer::<i64>::new(rt.alloc()));
+    agree_with_a_walk(&rt, sums, 20, false);
+    agree_with_a_walk(
+        &rt,
+        GrowableAllocWindowFold::<Matrix>::growable(rt.alloc()),
+        20,
+        false,
+    );
 }
