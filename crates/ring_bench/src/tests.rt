@@ -6,7 +6,6 @@
 mod ends;
 mod faults;
 mod fills;
-mod folds;
 mod positions;
 mod pushing;
 mod slices;

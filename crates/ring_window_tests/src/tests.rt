@@ -1,6 +1,5 @@
-//! Windows with a tally, a fold or the least of their items, over each type of ring.
+//! Windows over each type of ring.
 
-use super::assert_equal;
 use ringbuffer::{AllocRingBuffer, ConstGenericRingBuffer, GrowableAllocRingBuffer, RingBuffer};
 use std::collections::VecDeque;
 use std::fmt::Debug;
@@ -12,6 +11,11 @@ use window::{
     Matching, Matrix, Monoid, PolynomialHash, Rung, Sum, Test, WindowFold, WindowLeast, WindowMin,
     WindowMoments, WindowSum, WindowTally,
 };
+
+/// Both are equal. A failure names the test and both values.
+fn assert_equal<T: PartialEq + Debug + Drop>(rt: &impl Abort, found: T, wanted: T) {
+    assert_eq!(rt; found, wanted);
+}
 
 /// A call of a window that knows its least item, and what it answers.
 #[derive(Clone, Copy, Debug, Drop, PartialEq)]
