@@ -1,6 +1,6 @@
 -- What the laws give of `combined`, and how a window's folds change.
-use Rattle.std.proofs.Common.{◌≡◌, ℕ, zero, suc, ◌+◌, ◌-◌, ◌<◌, ◌≤◌, List, [], ◌∷◌, ◌++◌, length, map, take, drop, All, Option, None, Some, IsSome, option_to_list, refl, ap, sym, ◌∙◌, arith, length-append, slice_get, slice_set}
-use Rattle.std.proofs.lemmas.List.{length-map, map-append, take-append-drop, take-append-le, drop-append-le, drop-drop, drop-map, take_all, drop_all}
+use Rattle.std.proofs.Common.{◌≡◌, ℕ, zero, suc, ◌+◌, ◌-◌, List, [], ◌∷◌, ◌++◌, length, take, drop, All, Option, None, Some, option_to_list, refl, ap, sym, ◌∙◌, arith, length-append, slice_get, slice_set}
+use Rattle.std.proofs.lemmas.List.{length-map, map-append, take-append-drop, take-append-le, drop-append-le, drop-map, take_all, drop_all}
 use Rattle.std.proofs.lemmas.List.Elements.{All-cons, All-drop, All-head, All-nil, All-push, All-tail, All-take}
 use Rattle.std.specs.List.{take-map}
 use Rattle.std.specs.Option.{option_map}

@@ -1,12 +1,10 @@
 -- Sums of lists, and how a push and a dequeue change them.
-use Rattle.std.proofs.Common.{◌≡◌, ℕ, ◌*◌, ◌^◌, ◌<◌, ◌≤◌, ℤ, pos, ◌+ℤ◌, ◌-ℤ◌, ◌≤ℤ◌, neg_ℤ, List, [], ◌∷◌, ◌++◌, length, drop, All, Option, None, Some, option_to_list, slice_get, refl, ap, sym, arith, length-append, fold}
+use Rattle.std.proofs.Common.{◌≡◌, ◌*◌, ◌^◌, ◌≤◌, ℤ, pos, ◌+ℤ◌, ◌-ℤ◌, ◌≤ℤ◌, neg_ℤ, List, [], ◌∷◌, ◌++◌, length, All, sym, arith, fold}
 use Rattle.std.specs.Prelude.{FitsSigned}
 use Rattle.std.specs.Int.{w64, w128}
 use Rattle.std.proofs.lemmas.Int.{ints}
 use Rattle.std.proofs.lemmas.List.Elements.{All-head, All-push, All-tail}
 use Rattle.std.proofs.lemmas.List.Sums.{fold_push}
-use Rattle.ringbuffer.specs.Contents.{IsWithin, keep_last, overwritten}
-use Rattle.ringbuffer.proofs.Limits.{overwritten-keep_last}
 use Rattle.window.specs.Window.{IsSumOf, total}
 
 -- By induction on the list: a sum that begins at a number is that much more.

@@ -1,5 +1,5 @@
 -- The greatest common divisor is what its name says, and a monoid.
-use Rattle.std.proofs.Common.{◌≡◌, ℕ, zero, suc, ◌+◌, ◌<◌, ◌%◌, refl, ap, arith}
+use Rattle.std.proofs.Common.{◌≡◌, ℕ, zero, suc, ◌<◌, ◌%◌, refl, ap, arith}
 use Rattle.std.specs.Int.{IsGcd}
 use Rattle.std.proofs.lemmas.Nat.Gcd.{IsGcd-from_mod, IsGcd-from_zero, dvd-zero, dvd_refl, dvd_trans, same_from_IsGcd}
 use Rattle.window.specs.Gcd.{gcd, gcd_below}

@@ -1,6 +1,6 @@
 -- 2x2 matrices modulo 2^64 are a monoid by their product.
 use Rattle.std.proofs.Common.{◌≡◌, ℕ, ◌+◌, ◌*◌, ◌%◌, ◌^◌, ◌<◌, refl, ap, sym, ◌∙◌, arith}
-use Rattle.std.proofs.Math.Nat.{add-mod-mod, mod-add-mod, mod-eq_of_lt, mod-lt}
+use Rattle.std.proofs.Math.Nat.{add-mod-mod, mod-add-mod, mod-eq_of_lt}
 use Rattle.std.proofs.lemmas.Nat.{mul-mod_first, mul-mod_second}
 use Rattle.window.specs.Laws.{MonoidLaws}
 use Rattle.window.specs.Matrices.{HasEntries, entry, product, unit_matrix}

@@ -1,4 +1,3 @@
-use Rattle.std.proofs.Common.{◌≡◌, ◌++◌, option_to_list}
 use Rattle.window.proofs.Ladders.{forgets}
 use Rattle.window.proofs.least_window.forget.Goals as goal
 

@@ -1,4 +1,4 @@
-use Rattle.std.proofs.Common.{◌≡◌, ◌+◌, ◌*◌, ◌-◌, length, arith}
+use Rattle.std.proofs.Common.{arith}
 use Rattle.std.proofs.lemmas.List.{length-set}
 use Rattle.window.proofs.Ladders.{joins_after, joins_alone, recounted_to}
 use Rattle.window.proofs.least_window.rank_newest.Goals as goal

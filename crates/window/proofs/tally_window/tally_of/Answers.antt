@@ -1,4 +1,4 @@
-use Rattle.std.proofs.Common.{◌≡◌, ◌<◌, ◌^◌, ◌++◌, ◌∷◌, [], ap, append_assoc, append-nil, arith, length, length-append, ◌∙◌, sym}
+use Rattle.std.proofs.Common.{◌≡◌, ◌++◌, ◌∷◌, [], ap, append_assoc, arith, length, length-append}
 use Rattle.ringbuffer.specs.Walk.{iterator_to_come}
 use Rattle.window.proofs.tally_window.tally_of.Goals as goal
 

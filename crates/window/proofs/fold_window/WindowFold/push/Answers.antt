@@ -1,7 +1,6 @@
-use Rattle.std.proofs.Common.{◌≡◌, ◌∙◌, ◌∷◌, ◌++◌, [], ap, sym, option_to_list}
-use Rattle.ringbuffer.specs.Contents.{keep_last, overwritten}
+use Rattle.std.proofs.Common.{◌≡◌, ◌∷◌, ◌++◌, [], option_to_list}
+use Rattle.ringbuffer.specs.Contents.{keep_last}
 use Rattle.ringbuffer.proofs.Limits.{overwritten-keep_last}
-use Rattle.window.specs.Folds.{HoldsFolds, items}
 use Rattle.window.proofs.Combined.{items-keep_last, items-overwritten, left_by, one_more}
 use Rattle.window.proofs.fold_window.WindowFold.push.Goals as goal
 

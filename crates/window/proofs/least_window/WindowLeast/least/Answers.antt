@@ -1,4 +1,3 @@
-use Rattle.std.proofs.Common.{◌≡◌, Some, slice_get, sym}
 use Rattle.window.proofs.Ladders.{least_read}
 use Rattle.window.proofs.Pushed.{read_here}
 use Rattle.window.proofs.least_window.WindowLeast.least.Goals as goal

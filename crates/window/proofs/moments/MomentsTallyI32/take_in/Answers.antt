@@ -1,6 +1,6 @@
-use Rattle.std.proofs.Common.{◌≡◌, ◌+◌, ◌≤◌, ◌<◌, ◌^◌, ◌++◌, ◌∷◌, [], refl, length, length-append, arith, rules}
-use Rattle.std.specs.Prelude.{FitsSigned, ◌+ℤ◌}
-use Rattle.std.specs.Int.{w32, w128}
+use Rattle.std.proofs.Common.{◌≤◌, ◌^◌, ◌++◌, ◌∷◌, [], refl, length, length-append, arith, rules}
+use Rattle.std.specs.Prelude.{FitsSigned}
+use Rattle.std.specs.Int.{w32}
 use Rattle.std.proofs.lemmas.Int.{ints, to_z-of_z}
 use Rattle.window.proofs.Squares.{moments_fit, moments_push}
 use Rattle.window.proofs.moments.MomentsTallyI32.take_in.Goals as goal

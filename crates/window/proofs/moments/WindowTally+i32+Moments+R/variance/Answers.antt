@@ -1,4 +1,4 @@
-use Rattle.std.proofs.Common.{◌≡◌, ◌*◌, ◌≤◌, arith, rules}
+use Rattle.std.proofs.Common.{◌≡◌, arith, rules}
 use Rattle.std.specs.Prelude.{unsigned_abs}
 use Rattle.window.proofs.Squares.{variance_fits}
 use Rattle.window.proofs.moments.WindowTally+i32+Moments+R.variance.Goals as goal

@@ -1,6 +1,6 @@
-use Rattle.std.proofs.Common.{◌≡◌, ◌+◌, ◌≤◌, ◌<◌, ◌^◌, ◌++◌, ◌∷◌, [], refl, length, length-append, arith, rules}
+use Rattle.std.proofs.Common.{◌≤◌, ◌^◌, refl, length, arith}
 use Rattle.std.specs.Prelude.{FitsSigned, ◌-ℤ◌}
-use Rattle.std.specs.Int.{w64, w128}
+use Rattle.std.specs.Int.{w128}
 use Rattle.std.proofs.lemmas.Int.{ints}
 use Rattle.window.proofs.Sums.{IsSumOf-fits, IsSumOf-rest}
 use Rattle.window.proofs.sum.SumTallyI64.let_go.Goals as goal

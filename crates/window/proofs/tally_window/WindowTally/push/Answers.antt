@@ -1,4 +1,4 @@
-use Rattle.std.proofs.Common.{◌≡◌, ◌<◌, ◌^◌, ◌∙◌, length, refl, arith}
+use Rattle.std.proofs.Common.{◌∙◌, refl, arith}
 use Rattle.window.proofs.Pushed.{stay, stay_behind, stay_pushed}
 use Rattle.window.proofs.tally_window.WindowTally.push.Goals as goal
 
