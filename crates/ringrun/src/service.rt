@@ -39,6 +39,8 @@ pub fn serve<I: Read, O: Write, E: Write>(
     ensures bad { result ≡ 1 → IfSome (I.remaining input.old)
         (λ bytes. (line : ℕ) × IsBad line bytes) }
     ensures statuses { result ≤ 4 }
+    ensures silent { IfSome (I.remaining input.old)
+        (λ bytes. IsErr (script_of bytes) → output.new ≡ output.old) }
     ensures arguments { (result ≡ 2) ↔ (¬ NamesRing (map string_bytes words.now)) }
     ensures unread { result ≡ 2 → input.new ≡ input.old }
     ensures ring_first { AsksTooMuch (map string_bytes words.now)
@@ -82,6 +84,8 @@ fn attempt<I: Read, O: Write>(
         (Writes a.kind a.capacity (O.contents output.old) (O.contents output.new))) }
     ensures bad { IfErr result (λ fault. IfNotACommand fault
         (λ line. IfSome (I.remaining input.old) (IsBad line))) }
+    ensures silent { IfSome (I.remaining input.old)
+        (λ bytes. IsErr (script_of bytes) → output.new ≡ output.old) }
     ensures arguments { IsErrOf result Fault.BadArguments
         ↔ (¬ NamesRing (map string_bytes words.now)) }
     ensures unread { IsErrOf result Fault.BadArguments → input.new ≡ input.old }
