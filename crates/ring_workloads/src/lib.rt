@@ -34,11 +34,8 @@ pub extern "C" fn ring_workloads_array(
     };
     match work {
         Work::Slide => return on_array_window(capacity, items),
-        Work::Pipe
-        | Work::Least
-        | Work::LeastRising
-        | Work::LeastFalling
-        | Work::Product => return 0,
+        Work::Pipe | Work::Least | Work::LeastRising | Work::LeastFalling | Work::Product =>
+            return 0,
         _ => {}
     }
     match capacity {
@@ -114,9 +111,8 @@ pub extern "C" fn ring_workloads_growable(
         Some(Work::Slide) if capacity > 0 => {
             on_growable_window(alloc, capacity, items).unwrap_or(0)
         }
-        Some(
-            Work::Pipe | Work::Least | Work::LeastRising | Work::LeastFalling | Work::Product,
-        ) => 0,
+        Some(Work::Pipe | Work::Least | Work::LeastRising | Work::LeastFalling | Work::Product) =>
+            0,
         Some(work) if capacity > 0 => on_growable(alloc, work, capacity, items).unwrap_or(0),
         _ => 0,
     }
