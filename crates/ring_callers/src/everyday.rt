@@ -19,10 +19,7 @@ pub fn queue_job(queue: &mut AllocRingBuffer<u32>, job: u32) -> Result<(), u32>
 }
 
 /// As `queue_job`, with a queue in an array.
-pub fn queue_job_in_array(
-    queue: &mut ConstGenericRingBuffer<u32, 4>,
-    job: u32,
-) -> Result<(), u32>
+pub fn queue_job_in_array(queue: &mut ConstGenericRingBuffer<u32, 4>, job: u32) -> Result<(), u32>
     ensures taken { OnOk result (queue.new.items ≡ queue.old.items ++ job ∷ []) }
     ensures refused { IfErr result (λ back. (back ≡ job) × (queue.new ≡ queue.old)) }
 {
@@ -133,10 +130,7 @@ pub fn growable_of_nothing(alloc: Global) -> GrowableAllocRingBuffer<String>
 }
 
 /// Takes all numbers out of a heap ring, and returns them in order.
-pub fn take_all(
-    alloc: Global,
-    ring: &mut AllocRingBuffer<u32>,
-) -> Result<Vec<u32>, AllocError>
+pub fn take_all(alloc: Global, ring: &mut AllocRingBuffer<u32>) -> Result<Vec<u32>, AllocError>
     ensures { IfOk result (λ taken. taken.items ≡ ring.old.items) }
 {
     ring.drain().collect(alloc)
