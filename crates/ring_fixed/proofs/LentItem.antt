@@ -1,5 +1,5 @@
 -- What a ring shows once an item that it lent was written.
-use Rattle.ring_fixed.proofs.Words.{◌≡◌, ℕ, ◌+◌, ◌%◌, ◌<◌, [], length, Some, sym, ap, ◌∙◌, arith, length-set, slice_get, Slots, changed, View, after_write, items_from, view_from, IsLaidOut, LaysOut}
+use Rattle.ring_fixed.proofs.Words.{◌≡◌, ℕ, ◌+◌, ◌%◌, ◌<◌, length, Some, sym, ap, ◌∙◌, length-set, slice_get, Slots, changed, View, after_write, items_from, view_from, IsLaidOut, LaysOut}
 use Rattle.ring_fixed.proofs.LaysOut.{LaysOut-write}
 
 -- a ring of so many items in these slots shows this, and the item at an index among them is lent
