@@ -1,16 +1,16 @@
 -- The command that begins a line, and what the words of the line say.
-use Rattle.std.proofs.Common.{◌≡◌, ℕ, zero, suc, ◌+◌, ◌||◌, ◌&&◌, Bool, true, false, cond, List, [], ◌∷◌, ◌++◌, length, take, drop, Option, Some, None, codes, inl, inr, ℤ, refl, sym, ap, ◌∙◌, arith, append-nil}
+use Rattle.std.proofs.Common.{◌≡◌, ℕ, Bool, true, false, cond, List, [], ◌∷◌, ◌++◌, length, take, drop, Option, Some, None, codes, inl, inr, ℤ, refl, sym, ap, ◌∙◌, append-nil}
 use Rattle.std.proofs.Math.Seq.{drop-append_seam, take-append_seam}
 use Rattle.std.proofs.lemmas.List.{take-append-drop}
 use Rattle.std.proofs.lemmas.Slice.Eq.{bytes_eq-Decides}
 use Rattle.std.specs.Str.{bytes_eq}
-use Rattle.std.specs.Option.{option_and_then, option_map, option_to_list}
+use Rattle.std.specs.Option.{option_and_then, option_map}
 use Rattle.ringbuffer.specs.declared.Command.{Command}
 use Rattle.ringbuffer.specs.declared.Command.TheVariants.{Push, Extend, Dequeue, Skip, Clear}
-use Rattle.ringrun.proofs.Lines.{both_false, by_cases, ends_word, past_word, some_is, word_at, words_at, words_behind_blanks, words_from_word}
+use Rattle.ringrun.proofs.Lines.{by_cases, ends_word, past_word, some_is, word_at, words_at, words_behind_blanks, words_from_word}
 use Rattle.ringrun.proofs.Numbers.{behind_number, ends_here, number_of_word, number_part, no_number_at_end, no_number_at_feed, past_end, past_number, signed_rest, word_ends}
 use Rattle.ringrun.specs.Reading.{after_blanks, after_end, after_name, number_at, signed_at, starts_blank, CommandAt, HasNoCommand, NumbersAt}
-use Rattle.ringrun.specs.Script.{alone, command_named, commands_of, is_blank, is_line_feed, number_of, numbers_of, plain, push_of, words_of, vector_of}
+use Rattle.ringrun.specs.Script.{alone, command_named, commands_of, is_blank, is_line_feed, number_of, numbers_of, plain, words_of, vector_of}
 
 -- What the words of the first line say.
 abbrev pub says : List ℕ → Option (List (Command ℤ))

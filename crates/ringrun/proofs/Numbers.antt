@@ -1,16 +1,16 @@
 -- A number at the front of a text, and the word that it stands in.
-use Rattle.std.proofs.Common.{◌≡◌, ℕ, zero, suc, ◌+◌, ◌^◌, ◌<◌, ◌≤◌, ◌||◌, ◌&&◌, Bool, true, false, cond, List, [], ◌∷◌, ◌++◌, length, take, drop, get_or, ◌-◌, ◌≢◌, Option, Some, None, ℤ, pos, negsuc, neg_ℤ, append-nil, subst, ltb, eqb, refl, sym, ap, ◌∙◌, arith}
+use Rattle.std.proofs.Common.{◌≡◌, ℕ, zero, suc, ◌^◌, ◌<◌, ◌≤◌, ◌||◌, ◌&&◌, Bool, true, false, cond, List, [], ◌∷◌, ◌++◌, length, take, drop, get_or, ◌-◌, ◌≢◌, Option, Some, None, ℤ, append-nil, subst, ltb, eqb, refl, sym, ap, ◌∙◌, arith}
 use Rattle.std.proofs.lemmas.Bool.{eqb-true}
 use Rattle.std.proofs.lemmas.Bool.Decides.{nat_tests}
 use Rattle.std.specs.Char.{is_digit}
 use Rattle.std.specs.List.{list_all}
-use Rattle.std.specs.Option.{option_and_then, option_map}
+use Rattle.std.specs.Option.{option_map}
 use Rattle.std.specs.Str.Parse.{digits_value, signed_digits_value, starts_with_minus, without_leading_sign}
-use Rattle.ringrun.proofs.Lines.{both_false, by_cases, ends_word, first_part, past_word, word_at}
+use Rattle.ringrun.proofs.Lines.{by_cases, ends_word, past_word, word_at}
 use mir.Val.{bool_byte}
 use Rattle.std.proofs.lemmas.List.{take_rest}
 use Rattle.ringrun.specs.Reading.{after_blanks, digits_at, number_at, signed_at, signed_of, size_at, starts_blank}
-use Rattle.ringrun.specs.Script.{is_blank, is_i64, is_line_feed, is_numeral, is_some_bytes, number_of}
+use Rattle.ringrun.specs.Script.{is_blank, is_i64, is_line_feed, is_some_bytes, number_of}
 
 abbrev digit : ℕ → Bool
 digit b = is_digit b 10

@@ -1,19 +1,19 @@
 -- What is left of a script once a line is read.
-use Rattle.std.proofs.Common.{◌≡◌, ℕ, ℤ, zero, suc, ◌+◌, ◌-◌, ◌≤◌, ◌&&◌, Bool, true, false, cond, List, [], ◌∷◌, ◌++◌, length, take, drop, eqb, Option, Some, None, Result, Ok, Err, codes, refl, sym, ap, subst, ◌∙◌, arith, append-nil, append_assoc, length-append}
+use Rattle.std.proofs.Common.{◌≡◌, ℕ, ℤ, ◌+◌, ◌-◌, Bool, true, false, cond, List, [], ◌∷◌, ◌++◌, length, take, eqb, Some, None, Result, Ok, Err, codes, refl, sym, ap, subst, ◌∙◌, arith, append_assoc, length-append}
 use Rattle.std.proofs.Math.Seq.{take-append_seam}
 use Rattle.std.proofs.lemmas.Bool.Decides.{nat_tests}
 use Rattle.std.proofs.lemmas.List.{take-append-drop}
 use Rattle.std.proofs.lemmas.List.Sums.{length-filter}
 use Rattle.std.specs.Char.{is_digit}
-use Rattle.std.specs.List.{count_by, filter, slice_split}
+use Rattle.std.specs.List.{count_by, filter}
 use Rattle.std.specs.Str.Parse.{without_leading_sign}
 use Rattle.ringbuffer.specs.declared.Command.{Command}
 use Rattle.ringbuffer.specs.declared.Command.TheVariants.{Push, Extend, Dequeue, Skip, Clear}
 use Rattle.ringrun.proofs.Commands.{after_blanks_twice, named, no_blank_left, no_words_left, said, says, unsaid, unsaid_unnamed}
 use Rattle.ringrun.proofs.Digits.{digits_front}
-use Rattle.ringrun.proofs.Lines.{by_cases, first_line, lines_behind_blanks, lines_first, next_lines, no_feed, some_is, words_behind_blanks}
+use Rattle.ringrun.proofs.Lines.{by_cases, lines_first, next_lines, no_feed, some_is, words_behind_blanks}
 use Rattle.ringrun.proofs.Numbers.{behind_digits, behind_number, signed_rest}
-use Rattle.ringrun.specs.Reading.{after_blanks, after_end, after_name, digits_at, number_at, signed_at, starts_blank, CommandAt, HasNoCommand, NumbersAt, ReadsNumbers}
+use Rattle.ringrun.specs.Reading.{after_blanks, after_end, after_name, digits_at, number_at, signed_at, starts_blank, CommandAt, HasNoCommand, NumbersAt}
 use Rattle.ringrun.specs.Script.{commands_of, is_blank, is_line_feed, lines_of, plain, script_from, with_front, with_line, words_of}
 
 -- the line feeds of a text

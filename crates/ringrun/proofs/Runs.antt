@@ -1,16 +1,16 @@
 -- Runs of the script's commands, batch by batch, and what they print.
-use Rattle.std.proofs.Common.{◌≡◌, ℕ, ℤ, ◌+◌, ◌-◌, ◌^◌, ◌<◌, ◌≤◌, List, [], ◌∷◌, ◌++◌, length, take, map, flat_map, Option, Result, Ok, Err, Vec, refl, sym, ap, ◌∙◌, subst, arith, append_assoc}
+use Rattle.std.proofs.Common.{◌≡◌, ℕ, ℤ, ◌-◌, ◌^◌, List, [], ◌∷◌, ◌++◌, map, flat_map, Option, Vec, refl, sym, ap, ◌∙◌, arith, append_assoc}
 use Rattle.std.specs.Global.{Global}
 use Rattle.std.proofs.lemmas.List.{take_all}
 use Rattle.ringbuffer.specs.Contents.{keep_last, IsWithin}
-use Rattle.ringbuffer.specs.History.{contents_after, replies_of, MeaningsAgree}
+use Rattle.ringbuffer.specs.History.{replies_of, MeaningsAgree}
 use Rattle.ringbuffer.specs.Meaning.{after_all, after_one, replies_to, reply_to, RunsJoin}
 use Rattle.ringbuffer.specs.declared.Command.{Command}
 use Rattle.ringbuffer.specs.declared.Command.TheVariants.{Push, Extend, Dequeue, Skip, Clear}
 use Rattle.ringbuffer.specs.declared.Reply.{Reply}
 use Rattle.ringrun.specs.Program.{printed_on}
 use Rattle.ringrun.specs.Report.{items_line, reply_line}
-use Rattle.ringrun.specs.Script.{plain, vector_of, with_front}
+use Rattle.ringrun.specs.Script.{plain, vector_of}
 
 kept : (items : Vec ℤ Global) → (vector_of items.items).items ≡ items.items
 unfolding vector_of

@@ -1,5 +1,5 @@
 -- What a text has at its end once a line is put there.
-use Rattle.std.proofs.Common.{◌≡◌, ℕ, cond, List, ◌++◌, Result, Ok, Err, refl, ◌∙◌, append_assoc}
+use Rattle.std.proofs.Common.{◌≡◌, ℕ, cond, List, ◌++◌, Result, Ok, Err, ◌∙◌, append_assoc}
 use Rattle.std.specs.Result.{OnOk, is_ok}
 
 pub appended : {T E : Type 0} (result : Result T E) (new old words : List ℕ) → new ≡ cond (is_ok result) (old ++ words) old → OnOk result (new ≡ old ++ words)

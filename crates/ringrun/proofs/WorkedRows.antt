@@ -1,8 +1,7 @@
 -- Inputs worked out: which commands they write, or which line is bad, and what the program prints for them.
-use Rattle.std.proofs.Common.{◌≡◌, ℕ, ℤ, List, [], ◌∷◌, ◌++◌, Result, Ok, Err, pos, negsuc, codes, refl}
+use Rattle.std.proofs.Common.{◌≡◌, [], ◌∷◌, ◌++◌, Ok, pos, negsuc, codes, refl}
 use Rattle.std.specs.Fmt.{digits}
-use Rattle.ringbuffer.specs.declared.Command.{Command}
-use Rattle.ringbuffer.specs.declared.Command.TheVariants.{Push, Dequeue, Skip, Clear}
+use Rattle.ringbuffer.specs.declared.Command.TheVariants.{Push, Skip, Clear}
 use Rattle.ringrun.specs.Program.{output_of, printed_on, IsBad}
 use Rattle.ringrun.specs.Script.{command_named, lines_of, number_of, script_of, vector_of, words_of}
 use Rattle.ringrun.specs.declared.arguments.Kind.TheVariants.{Array, Heap, Grow}

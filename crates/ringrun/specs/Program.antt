@@ -1,5 +1,5 @@
 -- What the program does, from the bytes that come in to the bytes that go out.
-use Rattle.std.specs.Prelude.{◌≡◌, ℕ, ℤ, List, [], ◌++◌, Option, None, Some, Result, Ok, Err, IsOk, IsErr, flat_map}
+use Rattle.std.specs.Prelude.{◌≡◌, ℕ, ℤ, List, [], ◌++◌, Option, None, Some, Result, Ok, Err, IsOk, flat_map}
 use Rattle.std.specs.Io.KnownBytes.{Appends}
 use Rattle.ringbuffer.specs.History.{contents_after, replies_of}
 use Rattle.ringbuffer.specs.declared.Command.{Command}

@@ -1,6 +1,6 @@
 -- How a text is read from its front. The functions of the parser say what they read in these words, and a proof joins them to
 -- the grammar, which works line by line.
-use Rattle.std.specs.Prelude.{◌≡◌, ℕ, ◌^◌, ◌&&◌, ◌⊎◌, nat_lt, Bool, cond, true, false, List, [], ◌∷◌, length, take, drop, ℤ, pos, neg_ℤ, Option, None, Some, codes, if◌then◌else◌}
+use Rattle.std.specs.Prelude.{◌≡◌, ℕ, ◌^◌, ◌&&◌, ◌⊎◌, nat_lt, Bool, cond, false, List, [], ◌∷◌, length, take, drop, ℤ, pos, neg_ℤ, Option, None, Some, codes, if◌then◌else◌}
 use Rattle.std.specs.Char.{is_digit}
 use Rattle.std.specs.Option.{option_and_then, option_map}
 use Rattle.std.specs.Str.{bytes_eq}

@@ -1,5 +1,5 @@
 -- What the program prints.
-use Rattle.std.specs.Prelude.{ℕ, ℤ, List, [], ◌++◌, Option, None, Some, codes, flat_map}
+use Rattle.std.specs.Prelude.{ℕ, ℤ, List, ◌++◌, None, Some, codes, flat_map}
 use Rattle.std.specs.Fmt.{signed_decimal}
 use Rattle.ringbuffer.specs.declared.Reply.{Reply}
 use Rattle.ringbuffer.specs.declared.Reply.TheVariants.{Pushed, Extended, Dequeued, Skipped, Cleared}

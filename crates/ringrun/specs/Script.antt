@@ -2,11 +2,11 @@
 --
 -- Lines end with a line feed, which the last may lack. The words of a line stand between runs of spaces, tabs, form feeds
 -- and carriage returns. A line without words is no command. Else its first word names one, and the others are numbers.
-use Rattle.std.specs.Prelude.{◌≡◌, ℕ, ◌+◌, ◌-◌, ◌^◌, ◌<◌, ◌≤◌, ◌==◌, ◌||◌, ◌&&◌, not, nat_lt, Bool, List, [], ◌∷◌, ◌++◌, length, take, filter, ℤ, pos, negsuc, Option, None, Some, Result, Ok, Err, Vec, codes, if◌then◌else◌, refl}
+use Rattle.std.specs.Prelude.{ℕ, ◌+◌, ◌-◌, ◌^◌, ◌<◌, ◌==◌, ◌||◌, ◌&&◌, nat_lt, Bool, List, [], ◌∷◌, ◌++◌, length, take, filter, ℤ, pos, negsuc, Option, None, Some, Result, Ok, Err, Vec, codes, if◌then◌else◌, refl}
 use Rattle.std.specs.Char.{is_digit}
 use Rattle.std.specs.Global.{Global}
 use Rattle.std.specs.List.{list_all, slice_split}
-use Rattle.std.specs.Option.{option_and_then, option_map, option_to_list}
+use Rattle.std.specs.Option.{option_and_then, option_map}
 use Rattle.std.specs.Ptr.{null_ptr}
 use Rattle.std.specs.Str.{bytes_eq}
 use Rattle.std.specs.Str.Parse.{signed_digits_value, without_leading_sign}

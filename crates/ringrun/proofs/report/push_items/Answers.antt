@@ -1,5 +1,5 @@
 -- The item goes from those to come to those so far.
-use Rattle.std.proofs.Common.{◌≡◌, ◌++◌, ap, sym, ◌∙◌, append_assoc, flat_map}
+use Rattle.std.proofs.Common.{◌++◌, ap, sym, ◌∙◌, append_assoc, flat_map}
 use Rattle.std.specs.Prelude.{string_bytes}
 use Rattle.ringbuffer.specs.Walk.{iterator_to_come}
 use Rattle.ringrun.specs.Report.{item_text}

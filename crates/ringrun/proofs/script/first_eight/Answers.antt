@@ -1,5 +1,5 @@
 -- The eight bytes, by the lemma on numbers alone.
-use Rattle.std.proofs.Common.{◌≤◌, ℕ, take, length, ap, ◌∙◌, arith}
+use Rattle.std.proofs.Common.{◌≤◌, take, length, ap, ◌∙◌, arith}
 use Rattle.std.proofs.lemmas.List.{length-take-le}
 use Rattle.ringrun.proofs.Eight.{small_bytes, small_front, sum_of, told}
 use Rattle.ringrun.proofs.script.first_eight.Goals as goal

@@ -1,8 +1,7 @@
 -- The bytes so far are the digits at the front where the next is none.
-use Rattle.std.proofs.Common.{◌≡◌, ◌<◌, ◌^◌, ◌%◌, ◌*◌, ◌+◌, true, false, refl, get_or, length, take, arith, ap, sym, ◌∙◌}
-use Rattle.ringrun.proofs.Digits.{all_from, all_more, below_length, digit, digits_done, less, told, value_more, wraps}
+use Rattle.std.proofs.Common.{◌≡◌, ◌^◌, ◌%◌, ◌*◌, ◌+◌, refl, get_or, length, take, arith, ap, sym, ◌∙◌}
+use Rattle.ringrun.proofs.Digits.{all_from, all_more, below_length, digits_done, less, told, value_more, wraps}
 use Rattle.std.proofs.lemmas.List.{length-take, length-take-le}
-use Rattle.std.specs.Char.{digit_value}
 use Rattle.std.specs.Str.Parse.{digits_value}
 use Rattle.ringrun.specs.Reading.{digits_at}
 use Rattle.ringrun.proofs.script.read_digits.Goals as goal

@@ -1,5 +1,5 @@
 -- One more number, and the end where none is left.
-use Rattle.std.proofs.Common.{◌≡◌, ◌++◌, ◌∷◌, [], cond, true, false, sym, subst, ap, ◌∙◌, append-nil, append_assoc, arith, refl, List, ℤ, ℕ}
+use Rattle.std.proofs.Common.{◌++◌, ◌∷◌, [], cond, sym, subst, ap, ◌∙◌, append-nil, append_assoc, arith, refl}
 use Rattle.ringrun.specs.Reading.{NumbersAt}
 use Rattle.ringrun.proofs.script.read_numbers.Goals as goal
 

@@ -1,8 +1,7 @@
 -- The digits at the front, as the function counts them.
-use Rattle.std.proofs.Common.{◌≡◌, take, ap, sym, ◌∙◌}
+use Rattle.std.proofs.Common.{take, ap, sym, ◌∙◌}
 use Rattle.std.proofs.lemmas.List.{take_rest}
 use Rattle.ringrun.proofs.Digits.{digits_front, is_long, size_read, unread_empty, unread_long}
-use Rattle.ringrun.specs.Reading.{digits_at}
 use Rattle.ringrun.proofs.script.read_size.Goals as goal
 
 pub returns-then-end-eq0-clause-size : goal.returns-then-end-eq0-clause-size

@@ -1,6 +1,5 @@
 -- Each way in which no number is read, and the number that is.
-use Rattle.std.proofs.Common.{ap, sym, ◌∙◌}
-use Rattle.std.specs.Option.{MatchOption}
+use Rattle.std.proofs.Common.{◌∙◌}
 use Rattle.ringrun.proofs.Numbers.{number_read, sign_passed, unread_end, unread_sign, unread_size, unread_word}
 use Rattle.ringrun.proofs.Signs.{in_machine}
 use Rattle.ringrun.proofs.script.split_number.Goals as goal

@@ -1,5 +1,4 @@
 use Rattle.std.proofs.Common.{rules}
-use Rattle.ringrun.proofs.Endings.{named, not_named}
 use Rattle.ringrun.proofs.service.answer_script.Goals as goal
 
 pub returns-clause-all_read : goal.returns-clause-all_read

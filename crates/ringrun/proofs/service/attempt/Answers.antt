@@ -1,5 +1,4 @@
-use Rattle.std.proofs.Common.{map, rules}
-use Rattle.std.specs.Prelude.{string_bytes}
+use Rattle.std.proofs.Common.{rules}
 use Rattle.ringrun.proofs.Endings.{done}
 use Rattle.ringrun.proofs.service.attempt.Goals as goal
 

@@ -1,5 +1,5 @@
 -- Runs join, and what came before a batch that failed comes before the lines that are left.
-use Rattle.std.proofs.Common.{◌≡◌, ◌++◌, [], map, ap, ◌∙◌, append-nil, length, flat_map, rules, Ok}
+use Rattle.std.proofs.Common.{◌≡◌, ◌++◌, map, ap, ◌∙◌, append-nil, length, flat_map, rules, Ok}
 use Rattle.std.specs.Prelude.{string_bytes}
 use Rattle.ringrun.specs.Report.{reply_line}
 use Rattle.ringbuffer.specs.Meaning.{replies_to, after_all}

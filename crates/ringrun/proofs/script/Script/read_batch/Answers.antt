@@ -1,5 +1,5 @@
 -- What came before the line that was refused memory.
-use Rattle.std.proofs.Common.{◌≡◌, ◌++◌, map}
+use Rattle.std.proofs.Common.{◌++◌, map}
 use Rattle.ringrun.proofs.Rest.{step_passed}
 use Rattle.ringrun.specs.Script.{plain}
 use Rattle.ringrun.proofs.script.Script.read_batch.Goals as goal

@@ -1,7 +1,6 @@
 -- The lines that are left are the one that is read and those behind it.
 use Rattle.std.proofs.Common.{◌≡◌, ℤ, List, [], ◌∷◌, true, ap, subst, sym, ◌∙◌}
 use Rattle.std.proofs.lemmas.Result.{err_from_is_err_and}
-use Rattle.std.specs.Option.{MatchOption}
 use Rattle.ringbuffer.specs.declared.Command.{Command}
 use Rattle.ringrun.proofs.Rest.{blank_read, command_bad, command_read, left, other_bad, LineRead}
 use Rattle.ringrun.specs.Reading.{after_blanks, after_end, CommandAt, HasNoCommand}
