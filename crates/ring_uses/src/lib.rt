@@ -11,6 +11,6 @@ pub mod pipe;
 pub mod readings;
 pub mod relay;
 pub mod samples;
+pub mod sliding_window;
 pub mod tail;
 pub mod undo;
-pub mod window;

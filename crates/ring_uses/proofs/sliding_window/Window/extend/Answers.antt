@@ -4,7 +4,7 @@ use Rattle.std.specs.Int.{w64}
 use Rattle.std.proofs.lemmas.Int.{to_z-of_z}
 use Rattle.std.proofs.lemmas.List.{take_all, take_more}
 use Rattle.ringbuffer.proofs.Limits.{keep_last-keep_last}
-use Rattle.ring_uses.proofs.window.Window.extend.Goals as goal
+use Rattle.ring_uses.proofs.sliding_window.Window.extend.Goals as goal
 
 -- A window holds no more than it can.
 pub loop-sample-init : goal.loop-sample-init

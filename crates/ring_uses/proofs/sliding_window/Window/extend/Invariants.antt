@@ -1,6 +1,6 @@
 use Rattle.std.proofs.Common.{◌≡◌, ◌++◌, Some, take}
 use Rattle.ringbuffer.specs.Contents.{keep_last}
-use Rattle.ring_uses.proofs.window.Window.extend.Given as goal
+use Rattle.ring_uses.proofs.sliding_window.Window.extend.Given as goal
 
 -- the samples so far are pushed
 abbrev pub invariant-loop-sample : goal.invariant-loop-sample
