@@ -152,7 +152,12 @@ fn assert_prints(rt: &(impl Abort + AllocGlobal), cases: &[(&str, &[u8], &str)])
 
 #[test]
 fn prints_what_the_commands_answer(rt: HostRuntime) {
-    let cases: [(&str, &[u8], &str); 8] = [
+    let cases: [(&str, &[u8], &str); 9] = [
+        (
+            "1",
+            b"push 0\npush 0\ndequeue\nextend 0 1000000009\n",
+            "pushed\npushed over 0\ndequeued 0\nextended\nitems 1000000009\n",
+        ),
         ("2", SCRIPT, ANSWER),
         ("02", SCRIPT, ANSWER),
         ("2", b"", "items\n"),
@@ -256,7 +261,9 @@ fn takes_white_space_between_words_and_lines_without_words(rt: HostRuntime) {
 
 #[test]
 fn runs_on_each_kind_of_ring(rt: HostRuntime) {
-    let cases: [([&str; 2], &[u8], &str); 6] = [
+    let cases: [([&str; 2], &[u8], &str); 8] = [
+        (["heap", "1"], b"extend 1 2", "extended\nitems 2\n"),
+        (["heap", "2097153"], b"push 1", "pushed\nitems 1\n"),
         (
             ["heap", "2"],
             b"extend 1 2 3\n\nextend\nclear\ndequeue\n",
@@ -326,7 +333,8 @@ fn names_a_line_that_is_no_command(rt: HostRuntime) {
         b"extend 1 2 9223372036854775808|extend 1+2|extend 1-2|extend 1 -|push 5x|push -x|items",
         b"push 92233720368547758070|push 18446744073709551617|push -18446744073709551617|\xff|\xc3",
         b"skip \xff|skip\x0b|\x0b|push\xc2\xa01|skip\x00|push5|push-5|extend5|skip5|extendpush 1\
-        |push 1234567:|push /1234567|extend 12345678 1234\xb5678",
+        |push 1234567:|push /1234567|extend 12345678 1234\xb5678|push 123:5678|push 1\xb5345678\
+        |push 018446744073709551617",
     ];
     let mut lines = 0usize;
     for row in rows {
@@ -336,7 +344,7 @@ fn names_a_line_that_is_no_command(rt: HostRuntime) {
             lines = lines.saturating_add(1);
         }
     }
-    assert_eq!(rt; lines, 52);
+    assert_eq!(rt; lines, 55);
 }
 
 #[test]
@@ -354,7 +362,7 @@ fn names_the_first_line_that_is_no_command(rt: HostRuntime) {
         ),
     ];
     for (script, want) in scripts {
-        let outcome = run_script(&rt, &["array", "3"], script);
+        let outcome = run_script(&rt, &["array", "2"], script);
         assert_ended(&rt, script, &outcome, fails(1, want));
     }
 }
@@ -391,6 +399,8 @@ fn refuses_arguments_before_it_reads(rt: HostRuntime) {
 fn reads_what_comes_in_pieces(rt: HostRuntime) {
     let outcome = run_on_three(&rt, Source::in_pieces(SCRIPT, 1), sink(&rt));
     assert_ended(&rt, "in pieces", &outcome, prints(ANSWER_WITH_ROOM));
+    let outcome = run_on_three(&rt, Source::ending_once(SCRIPT), sink(&rt));
+    assert_ended(&rt, "ending once", &outcome, prints(ANSWER_WITH_ROOM));
     for k in 0..=SCRIPT.len() {
         let input = Source::failing_between(SCRIPT.split_at(k), ErrorKind::Interrupted);
         let outcome = run_on_three(&rt, input, sink(&rt));
@@ -580,7 +590,7 @@ fn is_refused_an_extension(rt: HostRuntime) {
 // There is room for reading, and none for the ring.
 #[test]
 fn is_refused_a_ring(rt: HostRuntime) {
-    for arguments in [["heap", "100000"], ["grow", "100000"]] {
+    for arguments in [["heap", "100000"], ["grow", "100000"], ["grow", "1200"]] {
         let input = Source::failing_between((b"", SCRIPT), ErrorKind::BrokenPipe);
         let outcome = serve_in_drought(&rt, &arguments, input, 1 << 13);
         assert_ended_unread(&rt, &arguments, &outcome, fails(3, NO_MEMORY));

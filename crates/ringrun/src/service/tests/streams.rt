@@ -5,12 +5,14 @@ use std::io::{ErrorKind, Read, Write};
 use std::str::Utf8Error;
 use std::{io, str};
 
-/// Gives its first text, then fails once if it has a fault, and then gives the rest.
+/// Gives its first text, then fails once if it has a fault, and then gives the rest. It may fail where it is read again
+/// after its end.
 #[derive(Drop)]
 pub struct Source<'a> {
     first: &'a [u8],
     fault: Option<ErrorKind>,
     rest: &'a [u8],
+    after_end: Option<ErrorKind>,
     most: usize,
     calls: usize,
 }
@@ -27,6 +29,7 @@ impl<'a> Source<'a> {
             first: text,
             fault: None,
             rest: &[],
+            after_end: None,
             most,
             calls: 0,
         }
@@ -38,6 +41,19 @@ impl<'a> Source<'a> {
             first,
             fault: Some(fault),
             rest,
+            after_end: None,
+            most: usize::MAX,
+            calls: 0,
+        }
+    }
+
+    /// Gives the text, ends, and fails if it is read once more.
+    pub fn ending_once(text: &'a [u8]) -> Source<'a> {
+        Source {
+            first: text,
+            fault: None,
+            rest: &[],
+            after_end: Some(ErrorKind::BrokenPipe),
             most: usize::MAX,
             calls: 0,
         }
@@ -60,6 +76,9 @@ impl Read for Source<'_> {
             self.rest = &[];
         }
         let count = self.most.min(buf.len()).min(self.first.len());
+        if self.first.is_empty() {
+            self.fault = self.after_end.take();
+        }
         let (given, left) = self.first.split_at(count);
         buf[..count].copy_from_slice(given);
         self.first = left;
