@@ -4,7 +4,7 @@ use Rattle.ring_core.proofs.Words.{◌≡◌, ℕ, zero, suc, ◌+◌, ◌-◌, 
 use Rattle.ring_core.proofs.Items.{slice_get-append_left, slice_get-drop, slice_get-take}
 use Rattle.ring_core.proofs.Limits.{keep_last-keep_last, keep_last_within}
 use Rattle.ring_core.proofs.RunParts.{after_all-append}
-use Rattle.ring_core.proofs.HeldWindow.{IsRoom, IsWithin-drop, IsWindow-held, first, first_next, head-first, held_numbers-window, pushed-append, pushed-take_more, pushed_by, removed-first, window}
+use Rattle.ring_core.proofs.HeldRange.{IsRoom, IsWithin-drop, IsWindow-held, first, first_next, head-first, held_numbers-between, pushed-append, pushed-take_more, pushed_by, removed-first, between}
 
 -- The items from number f on, by induction on their count.
 items-from : {A : Type 0} (xs : List A) (f m : ℕ) → length xs ≡ f + m → filter_map (slice_get xs) (range_with_len f m) ≡ drop f xs
@@ -22,7 +22,7 @@ after_step limit l (pushes x) = keep_last limit (l ++ x ∷ [])
 after_step limit l takes = drop 1 l
 after_step limit l clears = []
 
--- The window's next beginning leaves what the step does.
+-- The range's next beginning leaves what the step does.
 drop-next : {T : Type 0} (limit : Option ℕ) (f n : ℕ) (xs : List T) (s : Step T) → length xs ≡ n → f ≤ n → IsRoom limit f n
     → drop (first_next limit n f (Some s)) (xs ++ pushed_by (Some s)) ≡ after_step limit (drop f xs) s
 drop-next None f n xs (pushes x) count order room = drop-append-le f xs (x ∷ []) (omega arith)
@@ -42,15 +42,15 @@ first-held f n xs ys count = rw (slice_get-drop, add-zero) (elim (cases_lt f n) 
 
 -- With a limit the next push overwrites the first of the held numbers, exactly where they are as many as the limit.
 overwritten-held : {T : Type 0} (c f n : ℕ) (xs ys : List T) → length xs ≡ n → f ≤ n → IsRoom (Some c) f n
-    → (if window f n (n - c) && overwrites (Some c) n (n - c) then slice_get (xs ++ ys) (n - c) else None) ≡ overwritten (Some c) (drop f xs)
+    → (if between f n (n - c) && overwrites (Some c) n (n - c) then slice_get (xs ++ ys) (n - c) else None) ≡ overwritten (Some c) (drop f xs)
 overwritten-held c f n xs ys count order room = elim (cases_lt (n - f) c) [
   | inl fewer ↦
-      let test : (window f n (n - c) && (n - c + c == n)) ≡ false = grind (arith, nat_tests) in
+      let test : (between f n (n - c) && (n - c + c == n)) ≡ false = grind (arith, nat_tests) in
       let room : length (drop f xs) + 1 - c ≡ 0 = rw (length-drop, count) (omega arith) in
       rw (test, room) refl
   | inr full ↦
       let first : n - c ≡ f = omega (arith, room.1) in
-      let test : (window f n f && (f + c == n)) ≡ true = grind (arith, nat_tests, room.0, room.1) in
+      let test : (between f n f && (f + c == n)) ≡ true = grind (arith, nat_tests, room.0, room.1) in
       let one : length (drop f xs) + 1 - c ≡ 1 = rw (length-drop, count) (omega (arith, room.1)) in
       rw (first, test, one, slice_get-take 1 0 (drop f xs) (omega arith), slice_get-drop, add-zero) (slice_get-append_left f xs ys (omega (arith, room.0)))
 ]
@@ -158,7 +158,7 @@ module _ {T : Type 0} (limit : Option ℕ) (start : List T) (cs : List (Command 
   unfolding left_by
   after_all-drop = rw all_steps at (after_all-left cs [] (append-nil cs))
 
-  -- A run leaves a list within the limit, as the window is.
+  -- A run leaves a list within the limit, as the range is.
   pub IsWithin-after_all : IsWithin (after_all limit start cs) limit
   IsWithin-after_all =
       let room = rw (← length-all_items) at (IsWindow-held limit start (steps cs) within (length (steps cs))).room in
@@ -171,7 +171,7 @@ module _ {T : Type 0} (limit : Option ℕ) (start : List T) (cs : List (Command 
       let f = first limit start ss (length ss) in
       let order = (IsWindow-held limit start ss within (length ss)).order in
       let kept = items-from (all_items start ss) f (number start ss (length ss) - f) (omega (arith, length-all_items)) in
-      rw (held_numbers-window limit start ss within (length ss), kept) (sym after_all-drop)
+      rw (held_numbers-between limit start ss within (length ss), kept) (sym after_all-drop)
 
   -- By induction on the commands that are left.
   replies-left : (done todo : List (Command T)) → done ++ todo ≡ cs

@@ -2,7 +2,7 @@
 use Rattle.ring_core.proofs.Words.{◌≡◌, ℕ, ◌+◌, ◌*◌, ◌<◌, ◌≤◌, List, [], ◌∷◌, ◌++◌, length, set, slice_get, take, Option, Some, IsSome, refl, ap, sym, ◌∙◌, append-nil, append_assoc, length-append, arith, flat_map-append, drop_all, length_push, take_at, Command, Refused, Reply, ChangesSlots, IsWithin, IsRefused, StopsAt, after_all, after_one, places, puts, replies_to, reply_to, ChangesFewSlots, all_items, contents_after, pushed, replies_of, steps, steps_of}
 use Rattle.ring_core.proofs.Items.{slice_get-at}
 use Rattle.ring_core.proofs.RunParts.{LeavesPart-refused, after_all-append, length-replies_to, places-more, replies_to-append}
-use Rattle.ring_core.proofs.HeldWindow.{pushed-append}
+use Rattle.ring_core.proofs.HeldRange.{pushed-append}
 use Rattle.ring_core.proofs.BothMeanings.{ChangesFewSlots-run, ChangesFewSlots-twice, contents_after-all, pushed-steps_of, replies_of-all}
 
 -- of all the commands some are done and the others to do, and the ring holds what those that are done leave

@@ -2,7 +2,7 @@ pub mod BothMeanings
 pub mod CommandLoop
 pub mod Drained
 pub mod Filling
-pub mod HeldWindow
+pub mod HeldRange
 pub mod Items
 pub mod Lending
 pub mod Limits

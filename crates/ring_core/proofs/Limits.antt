@@ -1,5 +1,5 @@
 -- What follows of a limit on a list.
-use Rattle.ring_core.proofs.Words.{◌≡◌, ℕ, zero, suc, ◌+◌, ◌-◌, ◌<◌, List, [], ◌∷◌, ◌++◌, length, map, drop, Option, None, Some, IfSome, IsSome, refl, slice_set, negsuc, ◌≤◌, take, slice_get, option_to_list, ◌∙◌, ap, sym, arith, length-append, length-drop, zero-mod, set-append_seam, drop-append-le, drop-drop, drop-map, drop_all, length-map, IsWithin, keep_last, overwritten, signed_place}
+use Rattle.ring_core.proofs.Words.{◌≡◌, ℕ, zero, suc, ◌+◌, ◌-◌, ◌<◌, List, [], ◌∷◌, ◌++◌, length, map, drop, Option, None, Some, IfSome, IsSome, refl, slice_set, negsuc, ◌≤◌, take, slice_get, option_to_list, ◌∙◌, ap, sym, arith, length-append, length-drop, zero-mod, set-append_seam, drop-append-le, drop-drop, drop-map, drop_all, length-map, IsWithin, keep_last, overwritten, signed_index_at}
 
 -- a list within its limit loses nothing
 pub keep_last_within : {A : Type 0} (limit : Option ℕ) (xs : List A) → IsWithin xs limit → keep_last limit xs ≡ xs
@@ -32,8 +32,8 @@ keep_last_before (Some n) xs above =
     (drop (length xs + 1 - n) xs, λ x. ap (λ k. drop (k - n) (xs ++ x ∷ [])) (length-append xs (x ∷ [])) ∙ drop-append-le (length xs + 1 - n) xs (x ∷ []) (omega arith))
 
 -- position -1 names the last of some items
-pub signed_place-newest : {A : Type 0} (before : List A) (x : A) → signed_place (length (before ++ x ∷ [])) (negsuc 0) ≡ length before
-signed_place-newest before x = rw (zero-mod (length (before ++ x ∷ []))) (omega (arith, length-append before (x ∷ [])))
+pub signed_index_at-newest : {A : Type 0} (before : List A) (x : A) → signed_index_at (length (before ++ x ∷ [])) (negsuc 0) ≡ length before
+signed_index_at-newest before x = rw (zero-mod (length (before ++ x ∷ []))) (omega (arith, length-append before (x ∷ [])))
 
 -- a limit that leaves an item is above zero
 above_zero : {A : Type 0} (limit : Option ℕ) (xs : List A) → (keep_last limit xs ≡ [] → ⊥) → IfSome limit (λ n. 0 < n)
@@ -43,11 +43,11 @@ above_zero (Some (suc n)) xs some = omega arith
 
 -- a write to the newest item after a push is as if the other item had been pushed
 pub newest_replaced : {A : Type 0} (limit : Option ℕ) (xs now : List A) (x y : A) → now ≡ keep_last limit (xs ++ x ∷ []) → (now ≡ [] → ⊥)
-    → slice_set now (signed_place (length now) (negsuc 0)) y ≡ keep_last limit (xs ++ y ∷ [])
+    → slice_set now (signed_index_at (length now) (negsuc 0)) y ≡ keep_last limit (xs ++ y ∷ [])
 newest_replaced limit xs now x y pushed some =
     let above : IfSome limit (λ n. 0 < n) = above_zero limit (xs ++ x ∷ []) (λ none. some (pushed ∙ none)) in
     let (before, ends) = keep_last_before limit xs above in
-    rw (pushed, ends x, signed_place-newest before x, ends y) (set-append_seam before x [] y)
+    rw (pushed, ends x, signed_index_at-newest before x, ends y) (set-append_seam before x [] y)
 
 -- what a push overwrites and what it leaves are the items and one more: with room nothing is overwritten, and else the first is
 pub overwritten-keep_last : {A : Type 0} (limit : Option ℕ) (xs : List A) (x : A) → IsWithin xs limit

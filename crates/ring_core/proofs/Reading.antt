@@ -1,16 +1,16 @@
 -- What a walk over a ring by position reads: at each index below the length, the item that the contents have there.
-use Rattle.ring_core.proofs.Words.{◌≡◌, ℕ, suc, ◌+◌, ◌<◌, List, [], ◌∷◌, ◌++◌, length, take, drop, Option, Some, sym, ap, ◌∙◌, Bor, add-one, slice_get, option_copied, option_to_list, get_or_from_slice_get, mod-eq_of_lt, drop-cons, place}
+use Rattle.ring_core.proofs.Words.{◌≡◌, ℕ, suc, ◌+◌, ◌<◌, List, [], ◌∷◌, ◌++◌, length, take, drop, Option, Some, sym, ap, ◌∙◌, Bor, add-one, slice_get, option_copied, option_to_list, get_or_from_slice_get, mod-eq_of_lt, drop-cons, index_at}
 use Rattle.ring_core.proofs.Items.{take-suc_get}
 
 -- a position below the length is the index itself
-pub slice_get-place : {A : Type 0} (xs : List A) (i : ℕ) → i < length xs → slice_get xs (place (length xs) i) ≡ slice_get xs i
-slice_get-place xs i below = ap (slice_get xs) (mod-eq_of_lt below)
+pub slice_get-index_at : {A : Type 0} (xs : List A) (i : ℕ) → i < length xs → slice_get xs (index_at (length xs) i) ≡ slice_get xs i
+slice_get-index_at xs i below = ap (slice_get xs) (mod-eq_of_lt below)
 
 module _ {A : Type 0} (xs : List A) (i : ℕ) (o : Option (Bor A)) (x : Bor A) (below : i < length xs)
-    (copied : option_copied o ≡ slice_get xs (place (length xs) i)) (is_some : o ≡ Some x) where
+    (copied : option_copied o ≡ slice_get xs (index_at (length xs) i)) (is_some : o ≡ Some x) where
   -- what `get` at an index below the length answers is the item there
   read_at : slice_get xs i ≡ Some x.now
-  read_at = sym (slice_get-place xs i below) ∙ sym copied ∙ ap option_copied is_some
+  read_at = sym (slice_get-index_at xs i below) ∙ sym copied ∙ ap option_copied is_some
 
   -- the items up to and with the one just read
   pub take_read : take (i + 1) xs ≡ take i xs ++ x.now ∷ []

@@ -1,7 +1,7 @@
 -- How a step of a walk shortens what is still to come.
-use Rattle.ring_core.proofs.Words.{append_assoc, ◌≡◌, ℕ, ◌+◌, ◌-◌, ◌<◌, ◌≤◌, ◌↔◌, min, List, [], ◌∷◌, ◌++◌, length, take, drop, get_or, Option, Some, None, MatchOption, map, refl, slice_set, suc, sym, ap, ◌∙◌, Bor, add-one, append-nil, arith, length-drop, slice_get, option_copied, option_to_list, drop-cons, take-length, take-suc-set, drop-append-le, drop-drop, drop-set-lt, length-take, length-take-le, take_min, slice_get_within, place, to_come}
+use Rattle.ring_core.proofs.Words.{append_assoc, ◌≡◌, ℕ, ◌+◌, ◌-◌, ◌<◌, ◌≤◌, ◌↔◌, min, List, [], ◌∷◌, ◌++◌, length, take, drop, get_or, Option, Some, None, MatchOption, map, refl, slice_set, suc, sym, ap, ◌∙◌, Bor, add-one, append-nil, arith, length-drop, slice_get, option_copied, option_to_list, drop-cons, take-length, take-suc-set, drop-append-le, drop-drop, drop-set-lt, length-take, length-take-le, take_min, slice_get_within, index_at, to_come}
 use Rattle.ring_core.proofs.Items.{slice_get-drop, slice_get-take, take-suc_get}
-use Rattle.ring_core.proofs.Reading.{slice_get-place}
+use Rattle.ring_core.proofs.Reading.{slice_get-index_at}
 
 -- the first item of a list, and then the others
 first_read : {A : Type 0} (xs : List A) (r : Option (Bor A)) → option_copied r ≡ slice_get xs 0
@@ -17,22 +17,22 @@ module _ {A : Type 0} (xs : List A) (front back : ℕ) where
   length-to_come = length-drop front (take back xs) ∙ ap (λ n. n - front) (length-take back xs)
 
   -- what a position before the end names is the item to come that is so far behind the front
-  pub slice_get-to_come : (i j : ℕ) (o : Option A) → front + i ≡ j → j < min back (length xs) → o ≡ slice_get xs (place (length xs) j)
+  pub slice_get-to_come : (i j : ℕ) (o : Option A) → front + i ≡ j → j < min back (length xs) → o ≡ slice_get xs (index_at (length xs) j)
       → o ≡ slice_get (to_come xs front back) i
   slice_get-to_come i j o at before read =
       let item : slice_get (take back xs) j ≡ slice_get xs j = slice_get-take back j xs (omega arith) in
-      rw (slice_get-drop, at, item) (read ∙ slice_get-place xs j (omega arith))
+      rw (slice_get-drop, at, item) (read ∙ slice_get-index_at xs j (omega arith))
 
   -- `next` by `get`
-  pub to_come-next : (r : Option (Bor A)) → front < min back (length xs) → option_copied r ≡ slice_get xs (place (length xs) front)
+  pub to_come-next : (r : Option (Bor A)) → front < min back (length xs) → option_copied r ≡ slice_get xs (index_at (length xs) front)
       → MatchOption r ((to_come xs front back ≡ []) × (to_come xs (front + 1) back ≡ [])) (λ x. to_come xs front back ≡ x.now ∷ to_come xs (front + 1) back)
   to_come-next r before read = rw drop-drop at (first_read (to_come xs front back) r (slice_get-to_come 0 front (option_copied r) (omega arith) before read))
 
   -- the last item to come, behind the others
-  to_come-last : (last : ℕ) (o : Option A) → last + 1 ≡ min back (length xs) → front ≤ last → o ≡ slice_get xs (place (length xs) last)
+  to_come-last : (last : ℕ) (o : Option A) → last + 1 ≡ min back (length xs) → front ≤ last → o ≡ slice_get xs (index_at (length xs) last)
       → to_come xs front back ≡ to_come xs front last ++ option_to_list o
   to_come-last last o ends before read =
-      let item : slice_get xs last ≡ o = sym (read ∙ slice_get-place xs last (omega arith)) in
+      let item : slice_get xs last ≡ o = sym (read ∙ slice_get-index_at xs last (omega arith)) in
       let cut : take back xs ≡ take last xs ++ option_to_list o = sym (take_min back xs) ∙ sym (ap (λ n. take n xs) ends) ∙ rw (add-one, ← item) (take-suc_get xs last) in
       let kept : front ≤ length (take last xs) = omega (arith, length-take-le last xs (omega arith)) in
       ap (drop front) cut ∙ drop-append-le front (take last xs) (option_to_list o) kept
@@ -43,7 +43,7 @@ module _ {A : Type 0} (xs : List A) (front back : ℕ) where
 
 -- `next_back` by `get`
 pub to_come-next_back : {A : Type 0} (xs : List A) (front back last : ℕ) (r : Option (Bor A)) → last + 1 ≡ min back (length xs) → front ≤ last
-    → option_copied r ≡ slice_get xs (place (length xs) last)
+    → option_copied r ≡ slice_get xs (index_at (length xs) last)
     → MatchOption r ((to_come xs front back ≡ []) × (to_come xs front last ≡ [])) (λ x. to_come xs front back ≡ to_come xs front last ++ x.now ∷ [])
 to_come-next_back xs front back last None ends before read =
     let same = rw append-nil at (to_come-last xs front back last None ends before read) in

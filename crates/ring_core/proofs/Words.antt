@@ -1,6 +1,6 @@
 -- What the proofs are written in: the words and lemmas of lists, options and numbers that several of them use, and the
 -- rings' own.
-pub use Rattle.ring_core.specs.Contents.{AppendsCut, ChangesSlots, IsCut, IsWithin, keep_last, overwritten, place, signed_place}
+pub use Rattle.ring_core.specs.Contents.{AppendsCut, ChangesSlots, IsCut, IsWithin, keep_last, overwritten, index_at, signed_index_at}
 pub use Rattle.ring_core.specs.Cursor.{stepped}
 pub use Rattle.ring_core.specs.History.{ChangesFewSlots, IsLeft, IsPush, KeepsToNumbers, Step, all_items, clears, contents_after, head, held, held_next, held_numbers, least, number, oldest, overwrites, overwritten_after, pushed, pushes, removed, removes, replies_of, reply_after, some_below, steps, steps_of, takes}
 pub use Rattle.ring_core.specs.Meaning.{IsRefused, LeavesPart, StopsAt, after_all, after_one, places, puts, replies_to, reply_to}

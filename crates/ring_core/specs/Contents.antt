@@ -1,7 +1,7 @@
--- What the contents of a ring are: a list, oldest item first, within a limit; and which place a position names.
+-- What the contents of a ring are: a list, oldest item first, within a limit; and which index a position names.
 use Rattle.std.specs.Prelude.{◌≡◌, ℕ, ◌+◌, ◌-◌, ◌%◌, ◌<◌, ◌≤◌, List, ◌++◌, length, take, drop, slice_get, ℤ, pos, negsuc, Option, None, Some, IsSome}
 
--- what a limit leaves of a list: its last items, at most so many
+-- what a limit leaves of a list: its last items, at most `limit` of them
 abbrev pub keep_last : {A : Type 0} → Option ℕ → List A → List A
 keep_last None xs = xs
 keep_last (Some limit) xs = drop (length xs - limit) xs
@@ -24,16 +24,16 @@ IsCut whole part = (length part < length whole) × (part ≡ take (length part) 
 abbrev pub AppendsCut : {A : Type 0} → List A → List A → List A → Type 0
 AppendsCut {A} old source new = (part : List A) × IsCut source part × (new ≡ old ++ part)
 
--- the place that position i names among n items: 0 is the oldest, and positions wrap by n
-abbrev pub place : ℕ → ℕ → ℕ
-place n i = i % n
+-- the index that position i names among n items: 0 is the oldest, and positions wrap by n
+abbrev pub index_at : ℕ → ℕ → ℕ
+index_at n i = i % n
 
--- the same for a position with a sign: -1 names the newest
-abbrev pub signed_place : ℕ → ℤ → ℕ
-signed_place n (pos i) = i % n
-signed_place n (negsuc i) = n - (1 + i % n)
+-- the index that a position with a sign names: -1 is the newest
+abbrev pub signed_index_at : ℕ → ℤ → ℕ
+signed_index_at n (pos i) = i % n
+signed_index_at n (negsuc i) = n - (1 + i % n)
 
--- a count of slot changes went from a to b where the items went from old to new and so many were put in:
+-- a count of slot changes went from a to b where the items went from old to new and `put` of them were put in:
 -- it never falls, and rises by at most the items put in plus those removed
 abbrev pub ChangesSlots : {A : Type 0} → ℕ → List A → ℕ → List A → ℕ → Type 0
 ChangesSlots a old b new put = (a ≤ b) × (b + length new ≤ a + length old + (put + put))

@@ -1,6 +1,6 @@
 -- What a run of commands means by item numbers. Items are numbered in the order of their pushes, and a rule says which
 -- numbers are held after each step. It rests on the items at the start, the limit and the commands alone.
-use Rattle.std.specs.Prelude.{◌≡◌, ℕ, zero, suc, ◌+◌, ◌-◌, ◌<◌, ◌≤◌, Bool, false, not, ◌&&◌, ◌||◌, ◌==◌, ◌↔◌, nat_lt, if◌then◌else◌, List, [], ◌∷◌, ◌++◌, length, take, map, filter, slice_get, Option, Some, None, IfSome, IsTrue}
+use Rattle.std.specs.Prelude.{◌≡◌, ℕ, zero, suc, ◌+◌, ◌-◌, ◌*◌, ◌<◌, ◌≤◌, Bool, false, not, ◌&&◌, ◌||◌, ◌==◌, ◌↔◌, nat_lt, if◌then◌else◌, List, [], ◌∷◌, ◌++◌, length, take, map, filter, slice_get, Option, Some, None, IfSome, IsSome, IsTrue}
 use Rattle.std.specs.List.{enumerate_from, filter_map, flat_map, range_with_len}
 use Rattle.ring_core.specs.declared.runs.Command.{Command}
 use Rattle.ring_core.specs.declared.runs.Command.TheVariants.{Push, Extend, Dequeue, Skip, Clear}
@@ -41,7 +41,7 @@ all_items start ss = start ++ pushed ss
 abbrev pub number : {T : Type 0} → List T → List (Step T) → ℕ → ℕ
 number start ss k = length start + length (pushed (take k ss))
 
--- the push of number n overwrites number i: with a limit, the one that came so many pushes before it
+-- the push of number n overwrites number i: with a limit, the one that came `capacity` pushes before it
 abbrev pub overwrites : Option ℕ → ℕ → ℕ → Bool
 overwrites None n i = false
 overwrites (Some capacity) n i = i + capacity == n
@@ -64,7 +64,7 @@ abbrev pub held : {T : Type 0} → Option ℕ → List T → List (Step T) → �
 held limit start ss zero i = nat_lt i (length start)
 held limit start ss (suc k) i = held_next limit (number start ss k) (held limit start ss k) (slice_get ss k) i
 
--- the same set as a list, in rising order
+-- the held numbers as a list, in rising order
 abbrev pub held_numbers : {T : Type 0} → Option ℕ → List T → List (Step T) → ℕ → List ℕ
 held_numbers limit start ss k = filter (held limit start ss k) (range_with_len 0 (number start ss k))
 
@@ -147,6 +147,15 @@ pub record KeepsToNumbers {T : Type 0} (limit : Option ℕ) (start : List T) (ss
 -- a count of slot changes never fell over the run, and rose by at most the items that it pushed and those that it removed
 abbrev pub ChangesFewSlots : {T : Type 0} → Option ℕ → List T → List (Step T) → ℕ → ℕ → Type 0
 ChangesFewSlots limit start ss before after = (before ≤ after) × (after ≤ before + (length (pushed ss) + removed limit start ss))
+
+module _ {T R : Type 0} (limit : R → Option ℕ) (contents : R → List T) (count : R → ℕ) where
+  -- a run on a ring with a limit changed its slots so
+  abbrev pub CountsFew : R → R → List (Command T) → Type 0
+  CountsFew old new cs = IsSome (limit old) → ChangesFewSlots (limit old) (contents old) (steps cs) (count old) (count new)
+
+  -- which is at most twice for each item that has a number
+  abbrev pub CountsTwice : R → R → List (Command T) → Type 0
+  CountsTwice old new cs = IsSome (limit old) → count new ≤ count old + 2 * length (all_items (contents old) (steps cs))
 
 -- on items within a limit, what a run leaves and answers by item numbers is what it leaves and answers as lists
 abbrev pub MeaningsAgree : Type 0 → Type 0

@@ -28,7 +28,7 @@ pub fn move_all<T: Drop, A: RingBuffer<T>, B: RingBuffer<T>>(
     ensures changes_to { Counts A.limit A.contents A.slot_changes to.old to.new (length (B.contents from.old)) }
     ensures changes_from { Counts B.limit B.contents B.slot_changes from.old from.new 0 }
 {
-    // Brings in that the contents of `to` are within its limit.
+    // For the proof: the contents of `to` are within the limit.
     let _ = to.len();
     while let Some(item) = from.dequeue() {
         let overwritten = to.push(item)?;

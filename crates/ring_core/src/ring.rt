@@ -5,7 +5,7 @@ ghost use Rattle.std.specs.Borrow.{LendsIf, sem};
 ghost use Rattle.std.specs.Iterator.{IsFiniteIterable};
 ghost use Rattle.std.specs.List.{AllZip, FoldsTo, list_any};
 ghost use Rattle.std.specs.Option.{option_copied, option_copied_mut};
-ghost use Rattle.ring_core.specs.Contents.{Counts, IsWithin, keep_last, overwritten, place, signed_place};
+ghost use Rattle.ring_core.specs.Contents.{Counts, IsWithin, keep_last, overwritten, index_at, signed_index_at};
 ghost use Rattle.ring_core.specs.Extension.{Extends};
 
 use std::alloc::{AllocError, Global};
@@ -198,29 +198,29 @@ pub trait RingBuffer<T: Drop>: Sized {
     /// Returns the item at a position, or `None` if the ring is empty.
     fn get(&self, index: usize) -> Option<&T>
         ensures { option_copied result
-            ≡ slice_get (contents self.now) (place (length (contents self.now)) index) };
+            ≡ slice_get (contents self.now) (index_at (length (contents self.now)) index) };
 
     /// Returns the item at a position that may be negative, or `None` if the ring is empty.
     fn get_signed(&self, index: isize) -> Option<&T>
         ensures { option_copied result
-            ≡ slice_get (contents self.now) (signed_place (length (contents self.now)) index) };
+            ≡ slice_get (contents self.now) (signed_index_at (length (contents self.now)) index) };
 
     /// Lends the item that `get` returns, for writing. A write changes that place alone.
     fn get_mut(&mut self, index: usize) -> Option<&mut T>
         ensures* writes_back { sem 𝓛
             (LendsIf Self.row T.row self.entry result
-            (with_item self.old (place (length (contents self.old)) index)) self.old) }
+            (with_item self.old (index_at (length (contents self.old)) index)) self.old) }
         ensures value { option_copied_mut result
-            ≡ slice_get (contents self.old) (place (length (contents self.old)) index) }
+            ≡ slice_get (contents self.old) (index_at (length (contents self.old)) index) }
         ensures none { IsNone result ↔ (contents self.old ≡ []) };
 
     /// Lends the item that `get_signed` returns, for writing. A write changes that place alone.
     fn get_mut_signed(&mut self, index: isize) -> Option<&mut T>
         ensures* writes_back { sem 𝓛
             (LendsIf Self.row T.row self.entry result
-            (with_item self.old (signed_place (length (contents self.old)) index)) self.old) }
+            (with_item self.old (signed_index_at (length (contents self.old)) index)) self.old) }
         ensures value { option_copied_mut result
-            ≡ slice_get (contents self.old) (signed_place (length (contents self.old)) index) }
+            ≡ slice_get (contents self.old) (signed_index_at (length (contents self.old)) index) }
         ensures none { IsNone result ↔ (contents self.old ≡ []) };
 
     /// Returns the oldest item. The next push overwrites it only if the ring is full and has a limit.

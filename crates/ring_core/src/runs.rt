@@ -2,7 +2,7 @@
 
 ghost use Rattle.std.specs.Prelude.{◌≡◌, [], ◌∷◌, ◌++◌, ◌+◌, ◌*◌, ◌<◌, ◌≤◌, IfErr, IfOk, IsOk, IsSome, OnOk, None, Some, length, map, replicate, slice_set, take, vec_capacity, vec_len};
 ghost use Rattle.ring_core.specs.Contents.{Counts};
-ghost use Rattle.ring_core.specs.History.{ChangesFewSlots, KeepsToNumbers, MeaningsAgree, RunsJoinByNumber, all_items, contents_after, pushed, replies_of, steps};
+ghost use Rattle.ring_core.specs.History.{CountsFew, CountsTwice, KeepsToNumbers, MeaningsAgree, RunsJoinByNumber, contents_after, pushed, replies_of, steps};
 ghost use Rattle.ring_core.specs.Meaning.{IfNoRoom, IfStopped, IsRefused, RunsJoin, StopsAt, after_all, after_one, places, puts, replies_to, reply_to};
 
 use crate::ring::RingBuffer;
@@ -153,13 +153,8 @@ pub fn run_into<T: Drop, R: RingBuffer<T>>(
     ensures numbers { KeepsToNumbers (R.limit ring.old) (R.contents ring.old)
         (steps commands.items) }
     ensures changes { Counts R.limit R.contents R.slot_changes ring.old ring.new (length (pushed (steps commands.items))) }
-    ensures few_changes { IsSome (R.limit ring.old)
-        → ChangesFewSlots (R.limit ring.old) (R.contents ring.old) (steps commands.items)
-        (R.slot_changes ring.old) (R.slot_changes ring.new) }
-    ensures twice { IsSome (R.limit ring.old)
-        → R.slot_changes ring.new
-        ≤ R.slot_changes ring.old + 2 * length
-        (all_items (R.contents ring.old) (steps commands.items)) }
+    ensures few_changes { CountsFew R.limit R.contents R.slot_changes ring.old ring.new commands.items }
+    ensures twice { CountsTwice R.limit R.contents R.slot_changes ring.old ring.new commands.items }
 
     // A run that stopped did the commands before, and part of the one that was refused.
     ensures stopped { IfErr result
@@ -169,7 +164,7 @@ pub fn run_into<T: Drop, R: RingBuffer<T>>(
         (λ s. replies.new ≡ places (length commands.items)
         (replies_to (R.limit ring.old) (R.contents ring.old) (take s.at commands.items))) }
 {
-    // Brings in that the contents are within the limit.
+    // For the proof: the contents are within the limit.
     let _ = ring.len();
     empty(replies);
     let mut at = 0;
@@ -220,13 +215,8 @@ pub fn run<T: Drop, R: RingBuffer<T>>(
     ensures numbers { KeepsToNumbers (R.limit ring.old) (R.contents ring.old)
         (steps commands.items) }
     ensures changes { Counts R.limit R.contents R.slot_changes ring.old ring.new (length (pushed (steps commands.items))) }
-    ensures few_changes { IsSome (R.limit ring.old)
-        → ChangesFewSlots (R.limit ring.old) (R.contents ring.old) (steps commands.items)
-        (R.slot_changes ring.old) (R.slot_changes ring.new) }
-    ensures twice { IsSome (R.limit ring.old)
-        → R.slot_changes ring.new
-        ≤ R.slot_changes ring.old + 2 * length
-        (all_items (R.contents ring.old) (steps commands.items)) }
+    ensures few_changes { CountsFew R.limit R.contents R.slot_changes ring.old ring.new commands.items }
+    ensures twice { CountsTwice R.limit R.contents R.slot_changes ring.old ring.new commands.items }
 
     // A run that found no room did nothing.
     ensures no_room { IfErr result
@@ -240,7 +230,7 @@ pub fn run<T: Drop, R: RingBuffer<T>>(
         (λ f. IfStopped f (λ at r. r
         ≡ replies_to (R.limit ring.old) (R.contents ring.old) (take at commands.items))) }
 {
-    // Brings in that the contents are within the limit.
+    // For the proof: the contents are within the limit.
     let _ = ring.len();
     let Ok(mut replies) = Vec::with_capacity(alloc, commands.len()) else {
         return Err(RunFault::NoRoom(commands));

@@ -2,7 +2,7 @@
 use Rattle.ring_fixed.proofs.Words.{◌≡◌, ℕ, ◌+◌, ◌%◌, ◌<◌, length, Some, sym, ap, ◌∙◌, length-set, slice_get, Slots, changed, View, after_write, items_from, view_from, IsLaidOut, LaysOut}
 use Rattle.ring_fixed.proofs.LaysOut.{LaysOut-write}
 
--- a ring of so many items in these slots shows this, and the item at an index among them is lent
+-- a ring of `len` items in these slots shows this, and the item at an index among them is lent
 pub record LendsItem {X : Type 0} (P : ℕ → Type 0) (s : Slots X) (start len capacity index : ℕ) (now : View X) : Type 0 where
   pub sound : IsLaidOut P s start × (len ≡ length (items_from s.slots start))
   pub shows : record (view_from s start) { capacity = capacity } ≡ now

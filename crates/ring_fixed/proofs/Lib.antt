@@ -1,9 +1,9 @@
-pub mod EmptiedRuns
+pub mod EmptiedStretches
 pub mod LaysOut
 pub mod LentItem
 pub mod PutOver
 pub mod RepeatedSteps
-pub mod Runs
+pub mod Stretches
 pub mod SlotsHold
 pub mod SomesTaken
 pub mod Sources

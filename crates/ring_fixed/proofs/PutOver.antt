@@ -11,7 +11,7 @@ module _ {X : Type 0} {P : ℕ → Type 0} {s taken : Slots X} {start next place
   room : length (items_from taken.slots next) < length taken.slots
   room = let fit = laid_out.fit in let same = after.same_size in omega (arith, count)
 
-  -- the place after the last is the same from the next start
+  -- counted from the next start, the place after the last has not moved
   found_again : place ≡ (next + length (items_from taken.slots next)) % length taken.slots
   found_again = rw (after.same_size, count, turned) (found ∙ same_place s start laid_out len some (rw counted laid_out.fit))
 

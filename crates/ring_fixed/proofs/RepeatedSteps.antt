@@ -59,7 +59,7 @@ module _ {X : Type 0} where
       let back : length ys - n ≡ cut - length xs = omega (arith, length-append xs ys) in
       rw (front, back, drop_min) (drop-append cut xs ys)
 
-  -- a slice pushed: so many items kept that what the limit leaves of it fits, and then that put
+  -- a slice pushed: the newest items kept that leave room for what the limit leaves of it, and then that put
   pub after_extend_from_slice-by : (limit : ℕ) (v : View X) (xs newest : List X) → newest ≡ keep_last (Some limit) xs
       → after_puts newest (after_keep_newest (limit - length newest) v) ≡ after_extend_from_slice limit v xs
   after_extend_from_slice-by limit v xs newest is =
@@ -69,7 +69,7 @@ module _ {X : Type 0} where
       let items : keep_last (Some (limit - length newest)) v.items ++ newest ≡ keep_last (Some limit) (v.items ++ xs) = rw (room, is) (keep_last-append limit v.items xs) in
       λ i. record { items = items i; changes = changes i; capacity = v.capacity }
 
-  -- so many items moved from the front to the back, one by one
+  -- n items moved from the front to the back, one by one
   abbrev pub after_turns : ℕ → View X → View X
   after_turns n v = record v { items = turned n v.items; changes = v.changes + 2 * n }
 

@@ -10,15 +10,15 @@ wrap start k size within low =
           inr (reaches, mod-eq-sub-mod reaches ∙ mod-eq_of_lt (omega arith))
     ]
 
--- two counts below the size that reach the same place are the same
+-- two counts below the size that reach one place are equal
 same_count : (start j k size : ℕ) → start < size → j < size → k < size → (start + j) % size ≡ (start + k) % size → j ≡ k
 same_count start j k size within low low' same = grind (arith, wrap start j size within, wrap start k size within)
 
--- a count from a later place is so many more from this one
+-- a count from a place that lies k further on is k more from this one
 pub count_on : (start k j n size : ℕ) → k + j ≡ n → ((start + k) % size + j) % size ≡ (start + n) % size
 count_on start k j n size sum = mod-add-mod (start + k) size j ∙ ap (λ p. p % size) {x = start + k + j} {y = start + n} (omega arith)
 
--- a straight way on from the place after so many items
+-- a straight way on from the place after len items
 pub straight_on : (start len place size i : ℕ) → place ≡ (start + len) % size → place + i < size → place + i ≡ (start + (len + i)) % size
 straight_on start len place size i found low = sym (mod-eq_of_lt low) ∙ ap (λ p. (p + i) % size) found ∙ count_on start len i (len + i) size refl
 
@@ -34,7 +34,7 @@ module _ {X : Type 0} (slots : List (Option X)) (start : ℕ) (within : start < 
   pub SlotsHold-none : SlotsHold slots start [] → (other : ℕ) → SlotsHold slots other []
   SlotsHold-none lie other k low = SlotsHold-at [] lie ((other + k) % length slots) (mod-lt (other + k) (omega arith))
 
-  -- a change of the slot at a count, to what another list has there that is the same elsewhere
+  -- a change of the slot at a count, to what another list has there, if the lists agree elsewhere
   SlotsHold-set : (xs ys : List X) (k : ℕ) (slot : Option X) → SlotsHold slots start xs → k < length slots → slice_get ys k ≡ slot → ((j : ℕ) → j ≢ k → slice_get ys j ≡ slice_get xs j)
       → SlotsHold (set slots ((start + k) % length slots) slot) start ys
   SlotsHold-set xs ys k slot hold low here others j within' =
@@ -65,7 +65,7 @@ module _ {X : Type 0} (slots : List (Option X)) (start : ℕ) (within : start < 
       let held = lie (suc k) in let round = wrap start (suc k) (length slots) within low' in
       rw (length-set slots start None) (turned ∙ grind (arith, held, round, get_or-set_other, get_or-set_same, slice_get-drop 1 k xs, slice_get_past))
 
--- as many slots that hold the same from the same start are the same
+-- rows of one size that hold the same items from one start are equal
 pub SlotsHold-same : {X : Type 0} (slots : List (Option X)) (start : ℕ) → start < length slots → (others : List (Option X)) (xs : List X) → SlotsHold slots start xs → SlotsHold others start xs → length others ≡ length slots → slots ≡ others
 SlotsHold-same slots start within others xs lie lie' same =
     ext_get_or None slots others (sym same) (λ j low. SlotsHold-at slots start within xs lie j low ∙ sym (rw same at (SlotsHold-at others start (rw same within) xs lie' j (rw same low))))

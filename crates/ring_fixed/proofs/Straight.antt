@@ -1,8 +1,8 @@
 -- Items that lie side by side in the slots of a ring.
-use Rattle.ring_fixed.proofs.Words.{◌≡◌, ℕ, ◌+◌, ◌-◌, ◌<◌, ◌≤◌, List, ◌++◌, length, map, take, drop, Option, None, Some, inl, inr, refl, sym, ap, ◌∙◌, arith, length-append, replicate, nat_le, if◌then◌else◌, length_refill, refill, common_steps, drop-drop, drop-map, get_or_append_left, get_or-append_right, get_or-replicate, get_or_past, length-map, length-replicate, take-map, slice_get_cases, slice_get_past, Slots, HoldsRun, refilled, View, after_rewrite, SlotsHold, items_from, LaysOut, view_of, IsSound, beside, straight_start, straightened}
+use Rattle.ring_fixed.proofs.Words.{◌≡◌, ℕ, ◌+◌, ◌-◌, ◌<◌, ◌≤◌, List, ◌++◌, length, map, take, drop, Option, None, Some, inl, inr, refl, sym, ap, ◌∙◌, arith, length-append, replicate, nat_le, if◌then◌else◌, length_refill, refill, common_steps, drop-drop, drop-map, get_or_append_left, get_or-append_right, get_or-replicate, get_or_past, length-map, length-replicate, take-map, slice_get_cases, slice_get_past, Slots, HoldsStretch, refilled, View, after_rewrite, SlotsHold, items_from, LaysOut, view_of, IsSound, beside, straight_start, straightened}
 use Rattle.ring_fixed.specs.declared.fixed.Fixed.{Fixed}
 use Rattle.ring_fixed.proofs.LaysOut.{LaysOut-items}
-use Rattle.ring_fixed.proofs.Runs.{get_or-map_some}
+use Rattle.ring_fixed.proofs.Stretches.{get_or-map_some}
 use Rattle.ring_fixed.proofs.SlotsHold.{SlotsHold-same, wrap}
 
 module _ {X : Type 0} (size start : ℕ) (xs : List X) (fit : start + length xs ≤ size) where
@@ -26,9 +26,9 @@ module _ {X : Type 0} (size start : ℕ) (xs : List X) (fit : start + length xs 
   from_start : drop start row ≡ map Some xs ++ behind
   from_start = grind (arith, common_steps)
 
-  -- they are a run
-  pub beside-run : HoldsRun row start (length xs) xs
-  beside-run = rw from_start (grind (arith, common_steps))
+  -- they are a stretch
+  pub beside-stretch : HoldsStretch row start (length xs) xs
+  beside-stretch = rw from_start (grind (arith, common_steps))
 
   -- and with others in their place, as many, they are these side by side
   pub beside-refilled : (ys : List X) → refilled row start (length xs) ys ≡ beside size start (refill (length xs) xs ys)
@@ -37,7 +37,7 @@ module _ {X : Type 0} (size start : ℕ) (xs : List X) (fit : start + length xs 
       let first : take start row ≡ replicate start None = grind (arith, common_steps) in
       let last : drop (start + n) row ≡ behind = rw (← drop-drop, from_start) (grind (arith, common_steps)) in
       let middle : refill n (map Some xs) (map Some ys) ≡ map Some zs = grind (arith, common_steps, drop-map, take-map) in
-      rw (first, beside-run, last, middle, sym (length_refill n xs ys refl)) refl
+      rw (first, beside-stretch, last, middle, sym (length_refill n xs ys refl)) refl
 
 -- items that reach no further than the last slot lie side by side
 pub straight_is : {X : Type 0} (slots : List (Option X)) (start : ℕ) (xs : List X) → start < length slots → start + length xs ≤ length slots → SlotsHold slots start xs → slots ≡ beside (length slots) start xs

@@ -11,7 +11,7 @@ pub use Rattle.ring_fixed.specs.View.{View, after_clear, after_extend, after_ext
 pub use Rattle.ring_fixed.specs.declared.fixed.Span.{Span}
 pub use Rattle.ring_fixed.specs.fixed.Sound.{IsSound, view_of}
 pub use Rattle.ring_fixed.specs.slices.Straight.{beside, straight_start, straightened, turned}
-pub use Rattle.ring_slots.specs.Slots.{HoldsRun, IsEmptyAt, IsFullAt, IsFullRun, Slots, changed, refilled, slot_at}
+pub use Rattle.ring_slots.specs.Slots.{HoldsStretch, IsEmptyAt, IsFullAt, IsFullStretch, Slots, changed, refilled, slot_at}
 pub use Rattle.std.proofs.Common.{All, Bool, Bor, IfSome, List, MatchOption, None, Option, Some, [], add-one, ap, append-nil, append_assoc, arith, drop, ext_get_or, false, get_or, get_or-set_other, get_or-set_same, if◌then◌else◌, inl, inr, length, length-append, length-drop, length-set, length-take, length-take-le, map, nat_eq, of_calls, refl, rules, replicate, subst, suc, sym, take, take-append-drop, true, zero, ℕ, ◌%◌, ◌&&◌, ◌*◌, ◌++◌, ◌+◌, ◌-◌, ◌/◌, ◌<◌, ◌^◌, ◌∙◌, ◌∷◌, ◌≡◌, ◌≢◌, ◌≤◌, ◌⊎◌}
 pub use Rattle.std.proofs.Math.Decide.{dec_lt, ℕ_discrete}
 pub use Rattle.std.proofs.Math.ListN.{set}

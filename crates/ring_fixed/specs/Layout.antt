@@ -54,7 +54,7 @@ module _ {X : Type 0} (is_size : ℕ → Type 0) where
     pub within : span.len ≤ capacity
     pub room : capacity ≤ length s.slots
 
-  -- the same of the slots after a call, from a start of their own, where they are as many as before and show this
+  -- after a call the slots are laid out from a start of their own, are as many as before, and show this
   pub record LaysOut (old new : Slots X) (start : ℕ) (v : View X) : Type 0 where
     pub laid_out : IsLaidOut new start
     pub same_size : length new.slots ≡ length old.slots

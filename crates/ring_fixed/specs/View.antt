@@ -42,15 +42,15 @@ module _ {X : Type 0} where
       let put = min (length xs) limit in
       record v { items = keep_last (Some limit) (v.items ++ xs); changes = v.changes + put + (length v.items + put - limit) }
 
-  -- so many items taken, from the first on, each of which changes its slot
+  -- the first k items taken, each of which changes its slot
   abbrev pub after_takes : ℕ → View X → View X
   after_takes k v = record v { items = drop k v.items; changes = v.changes + k }
 
-  -- so many items kept, from the first on, where each of the others is taken, which changes its slot
+  -- the first k items kept, and each of the others taken, which changes its slot
   abbrev pub after_truncate : ℕ → View X → View X
   after_truncate k v = record v { items = take k v.items; changes = v.changes + (length v.items - k) }
 
-  -- the same, where the last items are kept
+  -- the last k items kept, and each of the others taken, which changes its slot
   abbrev pub after_keep_newest : ℕ → View X → View X
   after_keep_newest k v = record v { items = keep_last (Some k) v.items; changes = v.changes + (length v.items - k) }
 

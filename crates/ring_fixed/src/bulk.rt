@@ -11,7 +11,7 @@ use ring_slots::RingSlots;
 use std::alloc::AllocError;
 
 impl<T: Drop, S: RingSlots<T>> Fixed<T, S> {
-    ghost use Rattle.ring_fixed.specs.fixed.Sound.{view_of, IsSound, ChangesTo};
+    ghost use Rattle.ring_fixed.specs.fixed.Sound.{room_of, view_of, IsSound, ChangesTo};
 
     /// Drops the first items, as many as `count` says.
     pub fn drop_first(&mut self, count: usize)
@@ -67,7 +67,7 @@ impl<T: Drop, S: RingSlots<T>> Fixed<T, S> {
         requires sound { IsSound S.seen S.is_size self.old }
         requires some { 0 < capacity }
         requires within { length (view_of S.seen self.old).items ≤ capacity }
-        requires room { capacity ≤ (view_of S.seen self.old).capacity }
+        requires room { capacity ≤ room_of S.seen self.old }
         ensures { (it : I.IntoIter) × (xs : List T) × I.into_iter_gives items it
             × Drains I.IntoIter.next_gives it xs
             × ChangesTo S.seen S.is_size self.old self.new
@@ -87,7 +87,7 @@ impl<T: Drop, S: RingSlots<T>> Fixed<T, S> {
     pub fn fill_with<F: FnMut() -> T + Drop>(&mut self, mut make: F, capacity: usize)
         requires callable { F.IsAlwaysCallable make }
         requires sound { IsSound S.seen S.is_size self.old }
-        requires room { capacity ≤ (view_of S.seen self.old).capacity }
+        requires room { capacity ≤ room_of S.seen self.old }
         ensures { (xs : List T) × (last : F) × FoldsTo F.step make xs last × (length xs ≡ capacity)
             × ChangesTo S.seen S.is_size self.old self.new
             (after_fill (view_of S.seen self.old) xs) }
@@ -105,7 +105,7 @@ impl<T: Drop, S: RingSlots<T>> Fixed<T, S> {
     where
         T: Clone,
         requires sound { IsSound S.seen S.is_size self.old }
-        requires room { capacity ≤ (view_of S.seen self.old).capacity }
+        requires room { capacity ≤ room_of S.seen self.old }
         ensures { (xs : List T) × All (T.is_clone value) xs
             × MatchResult result (λ _. length xs ≡ capacity)
             (λ _. (length xs < capacity) × ¬ (T.is_infallible value))
@@ -138,8 +138,8 @@ impl<T: Drop, S: RingSlots<T>> Fixed<T, S> {
             × LaysOut S.is_size (S.seen slots.old) (S.seen slots.new) 0
             (after_puts ys (view_from (S.seen slots.old) 0)) }
     {
-        // A number of slots is a word, and so is each place.
-        let _size = slots.size();
+        // For the proof: the number of slots fits a word.
+        let _ = slots.size();
         for i in 0..items.len() {
             let Ok(item) = items[i].clone() else {
                 return (len + i, Err(AllocError));
@@ -163,8 +163,8 @@ impl<T: Drop, S: RingSlots<T>> Fixed<T, S> {
         ensures { LaysOut S.is_size (S.seen slots.old) (S.seen slots.new) span.start
             (after_puts items.now (view_from (S.seen slots.old) span.start)) }
     {
-        // A number of slots is a word, and so is each place.
-        let _size = slots.size();
+        // For the proof: the number of slots fits a word.
+        let _ = slots.size();
         let Span { start, len } = span;
         for i in 0..items.len() {
             let len = len + i;
@@ -172,7 +172,7 @@ impl<T: Drop, S: RingSlots<T>> Fixed<T, S> {
         }
     }
 
-    // Drops the items from an index up to another, in two runs of slots: up to the last slot, and on from the first.
+    // Drops the items from an index up to another, in two stretches of slots: up to the last slot, and on from the first.
     #[inline]
     fn drop_items(slots: &mut S, start: usize, from: usize, to: usize)
         requires laid_out { IsLaidOut S.is_size (S.seen slots.old) start }
@@ -186,14 +186,14 @@ impl<T: Drop, S: RingSlots<T>> Fixed<T, S> {
             → LaysOut S.is_size (S.seen slots.old) (S.seen slots.new) start
             (after_truncate from (view_from (S.seen slots.old) start)) }
     {
-        let room = slots.size() - start;
-        Self::empty_run(slots, start + from.min(room), start + to.min(room));
-        Self::empty_run(slots, from.saturating_sub(room), to.saturating_sub(room));
+        let to_end = slots.size() - start;
+        Self::empty_stretch(slots, start + from.min(to_end), start + to.min(to_end));
+        Self::empty_stretch(slots, from.saturating_sub(to_end), to.saturating_sub(to_end));
     }
 
     // Drops the items of slots side by side.
     #[inline]
-    fn empty_run(slots: &mut S, from: usize, to: usize)
+    fn empty_stretch(slots: &mut S, from: usize, to: usize)
         requires places { from ≤ to }
         requires full { AreFull (S.seen slots.old) from to }
         ensures { Empties (S.seen slots.old) (S.seen slots.new) from to }
@@ -215,8 +215,8 @@ impl<T: Drop, S: RingSlots<T>> Fixed<T, S> {
         Self::put_at(slots, Span { start: 0, len }, len, item);
     }
 
-    // Pushes the items of a source that ends, in order. Returns where the items lie then. The slots are written run by
-    // run, which the compiler makes a loop with neither a mask nor a comparison of the length.
+    // Pushes the items of a source that ends, in order. Returns where the items lie then. The slots are written stretch by
+    // stretch, which the compiler makes a loop with neither a mask nor a comparison of the length.
     #[inline]
     fn push_all<I: Iterator<Item = T> + Drop>(
         slots: &mut S,
@@ -238,7 +238,7 @@ impl<T: Drop, S: RingSlots<T>> Fixed<T, S> {
             let (next, old) = Self::push_from(slots, span, item, capacity);
             drop(old);
             let more;
-            (span, more) = Self::push_run(slots, next, &mut items, capacity);
+            (span, more) = Self::push_stretch(slots, next, &mut items, capacity);
             if !more {
                 return span;
             }
@@ -249,7 +249,7 @@ impl<T: Drop, S: RingSlots<T>> Fixed<T, S> {
     // Pushes the next items of a source up to the last slot, or to the capacity where the ring isn't full. Returns where
     // the items lie then, and whether more may come.
     #[inline]
-    fn push_run<I: Iterator<Item = T>>(
+    fn push_stretch<I: Iterator<Item = T>>(
         slots: &mut S,
         span: Span,
         items: &mut I,
@@ -339,10 +339,10 @@ impl<T: Drop, S: RingSlots<T>> Fixed<T, S> {
 
 // These calls own the ring, in the form that `replace_with` takes, so that their loops keep its fields in registers.
 impl<T: Drop, S: RingSlots<T>> Fixed<T, S> {
-    ghost use Rattle.ring_fixed.specs.fixed.Sound.{view_of, IsSound, ChangesTo};
+    ghost use Rattle.ring_fixed.specs.fixed.Sound.{room_of, view_of, IsSound, ChangesTo};
 
-    /// Does what `extend` does, run by run. A ring in an array does better with `extend`.
-    pub fn extended<I: IntoIterator<Item = T>>(mut self, given: (I, usize)) -> (Self, ())
+    /// Does what `extend` does, stretch by stretch. A ring in an array does better with `extend`.
+    pub fn extend_owned<I: IntoIterator<Item = T>>(mut self, given: (I, usize)) -> (Self, ())
     where
         I::IntoIter: Drop,
         requires ends { IsFiniteIterable I.into_iter_gives I.IntoIter.can_next I.IntoIter.remaining
@@ -350,7 +350,7 @@ impl<T: Drop, S: RingSlots<T>> Fixed<T, S> {
         requires sound { IsSound S.seen S.is_size self }
         requires some { 0 < given.1 }
         requires within { length (view_of S.seen self).items ≤ given.1 }
-        requires room { given.1 ≤ (view_of S.seen self).capacity }
+        requires room { given.1 ≤ room_of S.seen self }
         ensures { (it : I.IntoIter) × (xs : List T) × I.into_iter_gives given.0 it
             × Drains I.IntoIter.next_gives it xs
             × ChangesTo S.seen S.is_size self result.0
@@ -364,13 +364,13 @@ impl<T: Drop, S: RingSlots<T>> Fixed<T, S> {
         (self, ())
     }
 
-    /// Pushes copies of the items of a slice, in order, but for those that would be overwritten by later ones.
-    pub fn extended_from_slice(mut self, given: (&[T], usize)) -> (Self, ())
+    /// Pushes copies of the items of a slice, in order. Those that later ones would overwrite are left out.
+    pub fn extend_from_slice_owned(mut self, given: (&[T], usize)) -> (Self, ())
     where
         T: Copy,
         requires sound { IsSound S.seen S.is_size self }
         requires within { length (view_of S.seen self).items ≤ given.1 }
-        requires room { given.1 ≤ (view_of S.seen self).capacity }
+        requires room { given.1 ≤ room_of S.seen self }
         ensures { ChangesTo S.seen S.is_size self result.0
             (after_extend_from_slice given.entry.1 (view_of S.seen self) given.entry.0.now) }
     {
@@ -388,10 +388,10 @@ impl<T: Drop, S: RingSlots<T>> Fixed<T, S> {
     }
 
     /// Does what `fill_with` does.
-    pub fn filled_with<F: FnMut() -> T + Drop>(mut self, given: (F, usize)) -> (Self, ())
+    pub fn fill_with_owned<F: FnMut() -> T + Drop>(mut self, given: (F, usize)) -> (Self, ())
         requires callable { F.IsAlwaysCallable given.0 }
         requires sound { IsSound S.seen S.is_size self }
-        requires room { given.1 ≤ (view_of S.seen self).capacity }
+        requires room { given.1 ≤ room_of S.seen self }
         ensures { (xs : List T) × (last : F) × FoldsTo F.step given.0 xs last
             × (length xs ≡ given.1)
             × ChangesTo S.seen S.is_size self result.0 (after_fill (view_of S.seen self) xs) }
@@ -402,11 +402,11 @@ impl<T: Drop, S: RingSlots<T>> Fixed<T, S> {
     }
 
     /// Does what `fill` does.
-    pub fn filled(mut self, given: (T, usize)) -> (Self, Result<(), AllocError>)
+    pub fn fill_owned(mut self, given: (T, usize)) -> (Self, Result<(), AllocError>)
     where
         T: Clone,
         requires sound { IsSound S.seen S.is_size self }
-        requires room { given.1 ≤ (view_of S.seen self).capacity }
+        requires room { given.1 ≤ room_of S.seen self }
         ensures { (xs : List T) × All (T.is_clone given.0) xs
             × MatchResult result.1 (λ _. length xs ≡ given.1)
             (λ _. (length xs < given.1) × ¬ (T.is_infallible given.0))
@@ -419,12 +419,12 @@ impl<T: Drop, S: RingSlots<T>> Fixed<T, S> {
 
     /// Pushes clones of the items of two slices onto an empty ring, in order. Where a clone is refused, those before it
     /// stay.
-    pub fn cloned_from(mut self, items: (&[T], &[T])) -> (Self, Result<(), AllocError>)
+    pub fn clone_from_owned(mut self, items: (&[T], &[T])) -> (Self, Result<(), AllocError>)
     where
         T: Clone,
         requires sound { IsSound S.seen S.is_size self }
         requires empty { (view_of S.seen self).items ≡ [] }
-        requires room { length items.0.now + length items.1.now ≤ (view_of S.seen self).capacity }
+        requires room { length items.0.now + length items.1.now ≤ room_of S.seen self }
         ensures { (ys : List T)
             × (IsOk result.1 → AllZip T.is_clone (items.entry.0.now ++ items.entry.1.now) ys)
             × (length ys ≤ length items.entry.0.now + length items.entry.1.now)

@@ -29,7 +29,7 @@ pub struct Fixed<T, S> {
 
 impl<T: Drop, S: RingSlots<T>> Fixed<T, S> {
     ghost use Rattle.ring_fixed.specs.contracts.fixed.Fixed.{the_row};
-    ghost use Rattle.ring_fixed.specs.fixed.Sound.{view_of, with_item, IsSound, ChangesTo};
+    ghost use Rattle.ring_fixed.specs.fixed.Sound.{room_of, view_of, with_item, IsSound, ChangesTo};
 
     /// Makes an empty ring over empty slots.
     pub fn over(slots: S) -> Self
@@ -75,7 +75,7 @@ impl<T: Drop, S: RingSlots<T>> Fixed<T, S> {
     /// Returns the number of slots.
     #[inline]
     pub fn size(&self) -> usize
-        ensures { result ≡ (view_of S.seen self.now).capacity }
+        ensures { result ≡ room_of S.seen self.now }
     {
         self.slots.size()
     }
@@ -86,7 +86,7 @@ impl<T: Drop, S: RingSlots<T>> Fixed<T, S> {
         requires sound { IsSound S.seen S.is_size self.old }
         requires some { 0 < capacity }
         requires within { length (view_of S.seen self.old).items ≤ capacity }
-        requires room { capacity ≤ (view_of S.seen self.old).capacity }
+        requires room { capacity ≤ room_of S.seen self.old }
         ensures value { result ≡ overwritten (Some capacity) (view_of S.seen self.old).items }
         ensures after { ChangesTo S.seen S.is_size self.old self.new
             (after_push capacity (view_of S.seen self.old) item) }

@@ -1,8 +1,13 @@
-//! What the ring types share: the inner ring of both fixed rings, positions, comparing two rings, and pushing clones.
+//! The inner ring of both fixed rings, and the parts that growable rings are made of too.
 #![tactic(auto)]
 
 mod bulk;
-pub mod fixed;
-pub mod position;
-pub mod shared;
-pub mod slices;
+mod fixed;
+mod parts;
+mod slices;
+
+pub use fixed::Fixed;
+pub use parts::{
+    clone_slices, copy_slices, extend_cloned, extend_somes, index_at, same_in_slices, same_items,
+    signed_index_at,
+};

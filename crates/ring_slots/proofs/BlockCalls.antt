@@ -1,5 +1,5 @@
 -- The heap is asked for a block, and is given it back, by a handle that lies in a local.
-use Rattle.ring_slots.proofs.Walk.{◌≡◌, refl, ap, ◌∙◌, Bool, true, false, List, [], ◌∷◌, ◌++◌, ℕ, ◌*◌, ◌<◌, ◌^◌, Ura, full_share, SProp, ent, sep, emp, guard, wand, apply∗, id⊢, fst∗, never, Lft, Share, ftrue, fsep, fat, froom, flft, Ty, ty_array, w64, Val, vunit, vptr, vint, of_list, Fun, fact, fact_i, Memory, align, capped, capped_is, part_in, part_out, Logic, sem, live, Item, Goal, Soaks, Seq, Step, step, ‵, raw, ◌⊛◌, some, later, ◌$◌, ◌∵◌, !, qed, move, keep, drop, use0, use1, use2, pick, split, split3, join, rewrite, fsplit, fjoin, fpick, feq_i, feq_l, flt_i, check, show, await, updating, now, done, unit, Is, shows, part_at, hidden_shr, layout, param, RattleType, Ptr, block_ptr, null_ptr, ptr_val, room_for, in_a_block, only, nothing, facts, Ok, Err, type_size, Global, Al, Answer, answer_val, got, Answered, lends, no_methods}
+use Rattle.ring_slots.proofs.Words.{◌≡◌, refl, ap, ◌∙◌, Bool, true, false, List, [], ◌∷◌, ◌++◌, ℕ, ◌*◌, ◌<◌, ◌^◌, Ura, full_share, SProp, ent, sep, emp, guard, wand, apply∗, id⊢, fst∗, never, Lft, Share, ftrue, fsep, fat, froom, flft, Ty, ty_array, w64, Val, vunit, vptr, vint, of_list, Fun, fact, fact_i, Memory, align, capped, capped_is, part_in, part_out, Logic, sem, live, Item, Goal, Soaks, Seq, Step, step, ‵, raw, ◌⊛◌, some, later, ◌$◌, ◌∵◌, !, qed, move, keep, drop, use0, use1, use2, pick, split, split3, join, rewrite, fsplit, fjoin, fpick, feq_i, feq_l, flt_i, check, show, await, updating, now, done, unit, Is, shows, part_at, hidden_shr, layout, param, RattleType, Ptr, block_ptr, null_ptr, ptr_val, room_for, in_a_block, only, nothing, facts, Ok, Err, type_size, Global, Al, Answer, answer_val, got, Answered, lends, no_methods}
 use mir.Raw.{raw as bare}
 use prog.RawLaws.{size-raw, align-raw}
 use prog.Routine.{Routine}

@@ -2,4 +2,4 @@ mod BlockCalls
 mod Parts
 mod SharedSlots
 mod SlotsInMemory
-mod Walk
+mod Words

@@ -1,5 +1,5 @@
--- A run of slots of a row is taken out and put back, and a row is made of memory and gives it back.
-use Rattle.ring_slots.proofs.Walk.{◌≡◌, refl, sym, ap, ◌∙◌, Bool, true, false, List, [], ◌∷◌, ℕ, zero, suc, ◌+◌, ◌*◌, ◌^◌, ◌<◌, ◌≤◌, zero-mul, one-mul, suc-mul, mul-le-mul_right, arith, T, eqb, eqb→eq, length, get_or, set, replicate, Ura, full_share, SProp, ent, sep, emp, id⊢, assoc∗, Fml, Lft, fsep, fat, froom, Ty, ty_array, Val, has_ty, WT, Logic, sem, fact, Item, Step, step, prop, suffices, ‵, ◌⊛◌, some, ◌$◌, ◌∵◌, !, qed, by, move, keep, drop, use1, use2, pick, split, rewrite, fsplit, fjoin, frame, done, Typed, mem, cells, part_at, layout, param, RattleType, nothing, says, capped_is, capped, part_out, Option, Some, None, IsSome, type_size, ◌++◌, cut, take, take-append-drop, length-take, length-drop, drop-cons, drop-drop, set_split, map, elements_shared, length-map, HoldsRun, IsFullRun, slot, row, row_shown}
+-- A stretch of slots of a row is taken out and put back, and a row is made of memory and gives it back.
+use Rattle.ring_slots.proofs.Words.{◌≡◌, refl, sym, ap, ◌∙◌, Bool, true, false, List, [], ◌∷◌, ℕ, zero, suc, ◌+◌, ◌*◌, ◌^◌, ◌<◌, ◌≤◌, zero-mul, one-mul, suc-mul, mul-le-mul_right, arith, T, eqb, eqb→eq, length, get_or, set, replicate, Ura, full_share, SProp, ent, sep, emp, id⊢, assoc∗, Fml, Lft, fsep, fat, froom, Ty, ty_array, Val, has_ty, WT, Logic, sem, fact, Item, Step, step, prop, suffices, ‵, ◌⊛◌, some, ◌$◌, ◌∵◌, !, qed, by, move, keep, drop, use1, use2, pick, split, rewrite, fsplit, fjoin, frame, done, Typed, mem, cells, part_at, layout, param, RattleType, nothing, says, capped_is, capped, part_out, Option, Some, None, IsSome, type_size, ◌++◌, cut, take, take-append-drop, length-take, length-drop, drop-cons, drop-drop, set_split, map, elements_shared, length-map, HoldsStretch, IsFullStretch, slot, row, row_shown}
 use base.Logic.{mono_r}
 
 -- the item of a full slot
@@ -13,12 +13,12 @@ full_within [] i x holds = cc
 full_within (c ∷ cs) zero x holds = omega arith
 full_within (c ∷ cs) (suc i) x holds = omega (arith, full_within cs i x holds)
 
--- a full slot is a run of one
-pub full_run : {A : Type 0} (cs : List (Option A)) (i : ℕ) → IsSome (get_or cs i None) → IsFullRun cs i 1
-full_run [] i full = cc
-full_run (None ∷ cs) zero full = cc
-full_run (Some x ∷ cs) zero full = (omega arith, (x ∷ [], refl))
-full_run (c ∷ cs) (suc i) full = let rest = full_run cs i full in (omega (arith, rest.0), rest.1)
+-- a full slot is a stretch of one
+pub full_stretch : {A : Type 0} (cs : List (Option A)) (i : ℕ) → IsSome (get_or cs i None) → IsFullStretch cs i 1
+full_stretch [] i full = cc
+full_stretch (None ∷ cs) zero full = cc
+full_stretch (Some x ∷ cs) zero full = (omega arith, (x ∷ [], refl))
+full_stretch (c ∷ cs) (suc i) full = let rest = full_stretch cs i full in (omega (arith, rest.0), rest.1)
 
 -- where n sizes fit a block, so do one size, and the way to a slot
 pub place_fits : (i n bytes : ℕ) → i < n → n * bytes < 2 ^ 63 → (bytes < 2 ^ 64) × (i * bytes < 2 ^ 64)
@@ -27,19 +27,19 @@ place_fits i n bytes within fit =
     let before : i * bytes ≤ n * bytes = mul-le-mul_right bytes (omega arith) in
     (omega (arith, one-mul bytes), omega arith)
 
--- and so do a run of slots, and the way to it
-pub run_fits : (from len n bytes : ℕ) → from + len ≤ n → n * bytes < 2 ^ 63 → (from * bytes < 2 ^ 64) × (len * bytes < 2 ^ 63)
-run_fits from len n bytes within fit =
+-- and so do a stretch of slots, and the way to it
+pub stretch_fits : (from len n bytes : ℕ) → from + len ≤ n → n * bytes < 2 ^ 63 → (from * bytes < 2 ^ 64) × (len * bytes < 2 ^ 63)
+stretch_fits from len n bytes within fit =
     let before : from * bytes ≤ n * bytes = mul-le-mul_right bytes (omega arith) in
     let all : len * bytes ≤ n * bytes = mul-le-mul_right bytes (omega arith) in
     (omega arith, omega arith)
 
--- a run has as many items as slots
-pub run_long : {A : Type 0} (cs : List (Option A)) (from len : ℕ) (xs : List A) → from + len ≤ length cs → HoldsRun cs from len xs → length xs ≡ len
-run_long cs from len xs within holds =
+-- a stretch has as many items as slots
+pub stretch_long : {A : Type 0} (cs : List (Option A)) (from len : ℕ) (xs : List A) → from + len ≤ length cs → HoldsStretch cs from len xs → length xs ≡ len
+stretch_long cs from len xs within holds =
     omega (arith, ap (λ (l : List (Option _)). length l) holds, length-map xs Some, length-take len (cut from cs), length-drop from cs)
 
--- a size that is capped at what a word holds makes the same product, where that product fits a word
+-- capping a size at the greatest word leaves its product, where that product fits a word
 pub product_is : (k bytes : ℕ) → k * bytes < 2 ^ 64 → k * capped bytes ≡ k * bytes
 product_is zero bytes fits = zero-mul (capped bytes) ∙ sym (zero-mul bytes)
 product_is (suc k) bytes fits =
@@ -73,11 +73,11 @@ module _ (X : RattleType) where
   next_at i o = omega (arith, suc-mul i bytes)
 
   module _ (b : ℕ) where
-    -- the slots but for a run of them
+    -- the slots outside a stretch of them
     abbrev pub around : ℕ → List (Option X.Denot) → ℕ → ℕ → Fml
     around o cs from len = fsep (row R b o (take from cs)) (row R b (len * bytes + (from * bytes + o)) (cut (from + len) cs))
 
-    -- the slots but for the one at a place
+    -- the slots other than the one at a place
     abbrev pub others : ℕ → List (Option X.Denot) → ℕ → Fml
     others o cs i = around o cs i 1
 
@@ -102,19 +102,19 @@ module _ (X : RattleType) where
           rewrite ! 0 (λ (k : ℕ). ‵ (row R b k cs)) (sym (next_at (length new) o)) refl $ move ! (1 ∷ []) $ fsplit ! $ move ! (1 ∷ 2 ∷ []) $
           use2 𝓛 (‵ (row R b (o + bytes) (new ++ cs))) (join_row new cs (o + bytes)) $ move ! (1 ∷ 0 ∷ []) $ fjoin ! $ done !
 
-      -- a run of slots is taken out and put back
-      pub run_out : (cs : List (Option X.Denot)) (from len o : ℕ) → from + len ≤ length cs
+      -- a stretch of slots is taken out and put back
+      pub stretch_out : (cs : List (Option X.Denot)) (from len o : ℕ) → from + len ≤ length cs
           → ent 𝓤 (sem 𝓛 (row R b o cs)) (sep 𝓤 (sem 𝓛 (row R b (from * bytes + o) (take len (cut from cs)))) (sem 𝓛 (around o cs from len)))
-      run_out cs from len o within =
+      stretch_out cs from len o within =
           let at = from * bytes + o in
           let behind : len ≤ length (cut from cs) = omega (arith, length-drop from cs) in
           qed 𝓛 (‵ (row R b o cs) ∷ []) ∵ use1 𝓛 (‵ (row R b o (take from cs)) ⊛ ‵ (row R b at (cut from cs))) (cut_row from cs o (omega arith)) $ split ! $ move ! (1 ∷ []) $
           use1 𝓛 (‵ (row R b at (take len (cut from cs))) ⊛ ‵ (row R b (len * bytes + at) (cut len (cut from cs)))) (cut_row len (cut from cs) at behind) $ split ! $ move ! (1 ∷ []) $
           rewrite ! 0 (λ (l : List (Option X.Denot)). ‵ (row R b (len * bytes + at) l)) (drop-drop len from cs) refl $ move ! (2 ∷ 0 ∷ []) $ fjoin ! $ move ! (1 ∷ 0 ∷ []) $ done !
 
-      pub run_in : (cs : List (Option X.Denot)) (from len o : ℕ) (new : List (Option X.Denot)) → from ≤ length cs → length new ≡ len
+      pub stretch_in : (cs : List (Option X.Denot)) (from len o : ℕ) (new : List (Option X.Denot)) → from ≤ length cs → length new ≡ len
           → ent 𝓤 (sep 𝓤 (sem 𝓛 (row R b (from * bytes + o) new)) (sem 𝓛 (around o cs from len))) (sem 𝓛 (row R b o (take from cs ++ (new ++ cut (from + len) cs))))
-      run_in cs from len o new within long =
+      stretch_in cs from len o new within long =
           let at = from * bytes + o in let behind = cut (from + len) cs in
           qed 𝓛 (‵ (row R b at new) ∷ ‵ (around o cs from len) ∷ []) ∵ move ! (1 ∷ []) $ fsplit ! $ move ! (1 ∷ []) $
           rewrite ! 0 (λ (k : ℕ). ‵ (row R b (k * bytes + at) behind)) (sym long) refl $ move ! (2 ∷ 0 ∷ []) $
@@ -125,7 +125,7 @@ module _ (X : RattleType) where
       pub slot_out : (cs : List (Option X.Denot)) (i o : ℕ) → i < length cs
           → ent 𝓤 (sem 𝓛 (row R b o cs)) (sep 𝓤 (sem 𝓛 (slot R b (i * bytes + o) (get_or cs i None))) (sem 𝓛 (others o cs i)))
       slot_out cs i o within = qed 𝓛 (‵ (row R b o cs) ∷ []) ∵
-          use1 𝓛 (‵ (row R b (i * bytes + o) (take 1 (cut i cs))) ⊛ ‵ (others o cs i)) (run_out cs i 1 o (omega arith)) $ split ! $
+          use1 𝓛 (‵ (row R b (i * bytes + o) (take 1 (cut i cs))) ⊛ ‵ (others o cs i)) (stretch_out cs i 1 o (omega arith)) $ split ! $
           rewrite ! 0 (λ (l : List (Option X.Denot)). ‵ (row R b (i * bytes + o) (take 1 l))) (drop-cons cs i None within) refl $ fsplit ! $ keep ! (0 ∷ 2 ∷ []) $ done !
 
       pub slot_in : (cs : List (Option X.Denot)) (i o : ℕ) (new : Option X.Denot) → i < length cs
@@ -133,7 +133,7 @@ module _ (X : RattleType) where
       slot_in cs i o new within =
           let next : i + 1 ≡ suc i = omega arith in
           qed 𝓛 (‵ (slot R b (i * bytes + o) new) ∷ ‵ (others o cs i) ∷ []) ∵ nothing ! $ move ! (1 ∷ 0 ∷ []) $ fjoin ! $
-          use2 𝓛 (‵ (row R b o (take i cs ++ new ∷ cut (i + 1) cs))) (run_in cs i 1 o (new ∷ []) (omega arith) refl) $
+          use2 𝓛 (‵ (row R b o (take i cs ++ new ∷ cut (i + 1) cs))) (stretch_in cs i 1 o (new ∷ []) (omega arith) refl) $
           rewrite ! 0 (λ (k : ℕ). ‵ (row R b o (take i cs ++ new ∷ cut k cs))) next refl $
           rewrite ! 0 (λ (l : List (Option X.Denot)). ‵ (row R b o l)) (sym (set_split cs i new within)) refl $ done !
 
@@ -175,18 +175,18 @@ module _ (X : RattleType) where
       items_seen κ (x ∷ xs) after o = qed 𝓛 (‵ (row_shown R b o (map Some (x ∷ xs) ++ after) κ) ∷ []) ∵ fsplit ! $ move ! (1 ∷ []) $
           use1 𝓛 (‵ (elements_shared R xs b (o + bytes) κ)) (items_seen κ xs after (o + bytes)) $ move ! (1 ∷ 0 ∷ []) $ fjoin ! $ done !
 
-      -- and so does a run of them anywhere in a row
-      pub run_seen : (κ : Lft) (cs : List (Option X.Denot)) (from len o : ℕ) (xs : List X.Denot) → from + len ≤ length cs → HoldsRun cs from len xs
+      -- and so does a stretch of them anywhere in a row
+      pub stretch_seen : (κ : Lft) (cs : List (Option X.Denot)) (from len o : ℕ) (xs : List X.Denot) → from + len ≤ length cs → HoldsStretch cs from len xs
           → ent 𝓤 (sem 𝓛 (row_shown R b o cs κ)) (sem 𝓛 (elements_shared R xs b (from * bytes + o) κ))
-      run_seen κ cs zero len o xs within holds = qed 𝓛 (‵ (row_shown R b o cs κ) ∷ []) ∵
+      stretch_seen κ cs zero len o xs within holds = qed 𝓛 (‵ (row_shown R b o cs κ) ∷ []) ∵
           rewrite ! 0 (λ (l : List (Option X.Denot)). ‵ (row_shown R b o l κ)) (sym (take-append-drop len cs) ∙ ap (λ (l : List (Option X.Denot)). l ++ cut len cs) holds) refl $
           use1 𝓛 (‵ (elements_shared R xs b o κ)) (items_seen κ xs (cut len cs) o) $
           rewrite ! 0 (λ (k : ℕ). ‵ (elements_shared R xs b k κ)) (first_at o) refl $ done !
-      run_seen κ [] (suc from) len o xs within holds = absurd (omega arith)
-      run_seen κ (c ∷ cs) (suc from) len o xs within holds =
+      stretch_seen κ [] (suc from) len o xs within holds = absurd (omega arith)
+      stretch_seen κ (c ∷ cs) (suc from) len o xs within holds =
           let inner : from + len ≤ length cs = omega arith in
           qed 𝓛 (‵ (row_shown R b o (c ∷ cs) κ) ∷ []) ∵ fsplit ! $ keep ! (1 ∷ []) $
-          use1 𝓛 (‵ (elements_shared R xs b (from * bytes + (o + bytes)) κ)) (run_seen κ cs from len (o + bytes) xs inner holds) $
+          use1 𝓛 (‵ (elements_shared R xs b (from * bytes + (o + bytes)) κ)) (stretch_seen κ cs from len (o + bytes) xs inner holds) $
           rewrite ! 0 (λ (k : ℕ). ‵ (elements_shared R xs b k κ)) (next_at from o) refl $ done !
 
 module _ {M : Type 1} {𝓤 : Ura M} {𝓛 : Logic 𝓤} {K : Type 0} {Γ : List (Item 𝓤)} where

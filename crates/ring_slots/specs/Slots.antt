@@ -20,15 +20,15 @@ module _ {X : Type 0} where
   abbrev pub IsFullAt : Slots X → ℕ → Type 0
   IsFullAt s place = IsSome (slot_at s place)
 
-  -- so many slots from a place on hold these items
-  abbrev pub HoldsRun : List (Option X) → ℕ → ℕ → List X → Type 0
-  HoldsRun slots from len xs = take len (drop from slots) ≡ map Some xs
+  -- the `len` slots from a place on hold these items
+  abbrev pub HoldsStretch : List (Option X) → ℕ → ℕ → List X → Type 0
+  HoldsStretch slots from len xs = take len (drop from slots) ≡ map Some xs
 
-  -- there are so many slots from a place on, and each of them holds an item
-  abbrev pub IsFullRun : List (Option X) → ℕ → ℕ → Type 0
-  IsFullRun slots from len = (from + len ≤ length slots) × ((xs : List X) × HoldsRun slots from len xs)
+  -- there are `len` slots from a place on, and each of them holds an item
+  abbrev pub IsFullStretch : List (Option X) → ℕ → ℕ → Type 0
+  IsFullStretch slots from len = (from + len ≤ length slots) × ((xs : List X) × HoldsStretch slots from len xs)
 
-  -- the slots, with these items in so many of them from a place on
+  -- the slots, with these items in the `len` of them from a place on
   abbrev pub refilled : List (Option X) → ℕ → ℕ → List X → List (Option X)
   refilled slots from len xs = take from slots ++ (refill len (take len (drop from slots)) (map Some xs) ++ drop (from + len) slots)
 

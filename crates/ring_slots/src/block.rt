@@ -6,7 +6,7 @@ ghost use Rattle.std.specs.Vec.Ownership.{FitsInBlock};
 ghost use base.Fml.{ftrue};
 ghost use denote.RawPtr.{Ptr};
 ghost use Rattle.std.specs.declared.alloc.Global as heap;
-ghost use Rattle.ring_slots.specs.Slots.{HoldsRun, IsFullRun};
+ghost use Rattle.ring_slots.specs.Slots.{HoldsStretch, IsFullStretch};
 ghost use Rattle.ring_slots.specs.block.Memory.{owned, lent, right};
 
 use std::alloc::{AllocError, Allocator, Global};
@@ -28,7 +28,7 @@ impl<T> Model for Owner<T> {
     ghost also_shares = { λ s _ κ. lent T.row s.at s.slots κ };
 }
 
-/// The right to give back the block of so many slots. It takes no bytes, and ends in no other way than with its block.
+/// The right to give back the block of `len` slots. It takes no bytes, and ends only with its block.
 pub(crate) struct Deed<T> {
     mark: PhantomData<*const T>,
     pub(crate) ghost at: { Ptr },
@@ -44,7 +44,7 @@ impl<T> Model for Deed<T> {
 
 impl<T> Owner<T> {
     ghost use Rattle.ring_slots.specs.block.Block.{IsDeedOf, IsNewBlock};
-    ghost use Rattle.ring_slots.specs.block.Lends.{lends_run, lends_slot, with_slot};
+    ghost use Rattle.ring_slots.specs.block.Lends.{owner_lends_stretch, owner_lends, owner_with};
 
     /// Allocates a block of `size` empty slots.
     pub(crate) fn allocate(
@@ -112,7 +112,7 @@ impl<T> Owner<T> {
         requires at { ptr ≡ self.old.at }
         requires place { place < length self.old.slots }
         requires empty { slice_index_or self.old.slots place None ≡ None }
-        ensures { self.new ≡ with_slot self.old place (Some item) }
+        ensures { self.new ≡ owner_with self.old place (Some item) }
     {
         unsafe { ptr.add(place).write(item) }
     }
@@ -123,27 +123,27 @@ impl<T> Owner<T> {
         requires at { ptr ≡ self.old.at }
         requires full { IsSome (slice_index_or self.old.slots place None) }
         ensures value { slice_index_or self.old.slots place None ≡ Some result }
-        ensures after { self.new ≡ with_slot self.old place None }
+        ensures after { self.new ≡ owner_with self.old place None }
     {
         unsafe { ptr.add(place).read() }
     }
 
     /// Returns the items of `len` full slots that lie side by side from the place `from` on.
     #[inline]
-    pub(crate) fn run(&self, ptr: *mut T, from: usize, len: usize) -> &[T]
+    pub(crate) fn slice(&self, ptr: *mut T, from: usize, len: usize) -> &[T]
         requires at { ptr ≡ self.now.at }
-        requires full { IsFullRun self.now.slots from len }
-        ensures { HoldsRun self.now.slots from len result.now }
+        requires full { IsFullStretch self.now.slots from len }
+        ensures { HoldsStretch self.now.slots from len result.now }
     {
         unsafe { slice::from_raw_parts(ptr.add(from), len) }
     }
 
     /// Lends the items of `len` full slots that lie side by side from the place `from` on, for writing.
-    pub(crate) fn run_mut(&mut self, ptr: *mut T, from: usize, len: usize) -> &mut [T]
+    pub(crate) fn slice_mut(&mut self, ptr: *mut T, from: usize, len: usize) -> &mut [T]
         requires at { ptr ≡ self.old.at }
-        requires full { IsFullRun self.old.slots from len }
-        ensures* writes_back { sem 𝓛 (lends_run T.row self.entry from len result) }
-        ensures value { HoldsRun self.old.slots from len result.now }
+        requires full { IsFullStretch self.old.slots from len }
+        ensures* writes_back { sem 𝓛 (owner_lends_stretch T.row self.entry from len result) }
+        ensures value { HoldsStretch self.old.slots from len result.now }
     {
         unsafe { slice::from_raw_parts_mut(ptr.add(from), len) }
     }
@@ -153,7 +153,7 @@ impl<T> Owner<T> {
     pub(crate) fn get_mut(&mut self, ptr: *mut T, place: usize) -> &mut T
         requires at { ptr ≡ self.old.at }
         requires full { IsSome (slice_index_or self.old.slots place None) }
-        ensures* writes_back { sem 𝓛 (lends_slot T.row self.entry place result) }
+        ensures* writes_back { sem 𝓛 (owner_lends T.row self.entry place result) }
         ensures value { slice_index_or self.old.slots place None ≡ Some result.now }
     {
         unsafe { &mut *ptr.add(place) }

@@ -4,7 +4,7 @@ ghost use Rattle.std.specs.Borrow.{sem};
 ghost use Rattle.std.specs.Int.{IsPowerOfTwo};
 ghost use Rattle.std.specs.Mem.{type_size};
 ghost use Rattle.std.specs.Vec.Ownership.{FitsInBlock};
-ghost use Rattle.ring_slots.specs.Slots.{HoldsRun, IsFullRun, changed};
+ghost use Rattle.ring_slots.specs.Slots.{HoldsStretch, IsFullStretch, changed};
 
 use crate::block::{Deed, Owner};
 use crate::change_count::ChangeCount;
@@ -22,7 +22,7 @@ use std::mem::size_of;
 /// They aren't dropped: slots end by `free`, which asks that all of them are empty, and in no other way.
 ///
 /// A contract sees what each slot holds, and how many changes the slots have had. That count takes no bytes, begins at
-/// 0, and rises by the calls of `RingSlots` and by `run_mut` alone.
+/// 0, and rises by the calls of `RingSlots` and by `slice_mut` alone.
 pub struct HeapSlots<T> {
     ptr: *mut T,
     // The number of slots less one, which is the mask of their places where that number is a power of two. It wraps
@@ -48,7 +48,7 @@ impl<T> Model for HeapSlots<T> {
 }
 
 impl<T: Drop> HeapSlots<T> {
-    ghost use Rattle.ring_slots.specs.heap.Lends.{lends_run};
+    ghost use Rattle.ring_slots.specs.heap.Lends.{lends_stretch};
 
     /// Makes `size` empty slots. An error says that the memory for them was refused.
     pub fn new(alloc: Global, size: usize) -> Result<HeapSlots<T>, AllocError>
@@ -74,25 +74,25 @@ impl<T: Drop> HeapSlots<T> {
 
     /// Returns the items of `len` full slots that lie side by side from the place `from` on.
     #[inline]
-    pub fn run(&self, from: usize, len: usize) -> &[T]
-        requires { IsFullRun self.now.slots from len }
-        ensures { HoldsRun self.now.slots from len result.now }
+    pub fn slice(&self, from: usize, len: usize) -> &[T]
+        requires { IsFullStretch self.now.slots from len }
+        ensures { HoldsStretch self.now.slots from len result.now }
     {
-        self.owner.run(self.ptr, from, len)
+        self.owner.slice(self.ptr, from, len)
     }
 
     /// Lends the items of `len` full slots that lie side by side from the place `from` on, for writing. Sets the count
     /// of changes to `changes`, which must be at least `len` more than it was.
     #[inline]
-    pub fn run_mut(&mut self, from: usize, len: usize, changes: ChangeCount) -> &mut [T]
-        requires full { IsFullRun self.old.slots from len }
+    pub fn slice_mut(&mut self, from: usize, len: usize, changes: ChangeCount) -> &mut [T]
+        requires full { IsFullStretch self.old.slots from len }
         requires counted { self.old.changes + len ≤ changes.count }
-        ensures* writes_back { sem 𝓛 (lends_run T.row self.entry from len changes.count result) }
-        ensures value { HoldsRun self.old.slots from len result.now }
+        ensures* writes_back { sem 𝓛 (lends_stretch T.row self.entry from len changes.count result) }
+        ensures value { HoldsStretch self.old.slots from len result.now }
     {
         self.changes = changes;
         let ptr = self.ptr;
-        self.owner.run_mut(ptr, from, len)
+        self.owner.slice_mut(ptr, from, len)
     }
 
     /// Returns the count of changes of the slots.
@@ -188,7 +188,7 @@ impl<T: Drop> RingSlots<T> for HeapSlots<T> {
 
     #[inline]
     fn get(&self, place: usize) -> &T {
-        &self.owner.run(self.ptr, place, 1)[0]
+        &self.owner.slice(self.ptr, place, 1)[0]
     }
 
     #[inline]

@@ -12,7 +12,7 @@ pub(crate) fn wrapped(start: usize, k: usize, size: usize) -> usize
     if is_power_of_two(size) {
         return masked(start, k, size - 1);
     }
-    // Twice a smaller size fits a word. Of a constant size no such test is left in the program.
+    // If twice the size fits in a word, so does the sum. The compiler removes this test where the size is a constant.
     if size <= usize::MAX / 2 {
         let sum = start + k;
         return if sum < size { sum } else { sum - size };

@@ -1,7 +1,7 @@
 -- What the proofs are written in: the words and lemmas of lists, options and numbers that several of them use, and the
 -- rings' own.
 pub use Rattle.ring_core.proofs.Drained.{YieldsList-unpacked, shown_drained}
-pub use Rattle.ring_core.specs.Contents.{keep_last, place, signed_place}
+pub use Rattle.ring_core.specs.Contents.{keep_last, index_at, signed_index_at}
 pub use Rattle.ring_fixed.proofs.LentItem.{LendsItem, item_is, same_length, same_size, shows_written, stays_sound}
 pub use Rattle.ring_fixed.specs.View.{View, after_rewrite}
 pub use Rattle.ringbuffer.specs.Conversion.{ClonesMeet, HoldsAll}

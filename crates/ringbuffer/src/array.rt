@@ -5,7 +5,7 @@ ghost use Rattle.std.specs.Cmp.{on_per};
 ghost use Rattle.std.specs.Cmp.Lexicographic.{lists_per, pointwise};
 ghost use Rattle.std.specs.List.{AllZip};
 ghost use Rattle.std.proofs.lemmas.Cmp.{lists_equiv, on_equiv};
-ghost use Rattle.ring_core.specs.Contents.{ChangesSlots, IsWithin, keep_last, overwritten, place};
+ghost use Rattle.ring_core.specs.Contents.{ChangesSlots, IsWithin, keep_last, overwritten, index_at};
 ghost use Rattle.ring_core.specs.Walk.{DrainsInOrder, ReadsInOrder, ReadsInReverse, StartsOver, UnpacksInOrder, into_iter_to_come, iterator_to_come};
 ghost use Rattle.ring_fixed.specs.View.{after_keep_newest, after_pop, after_push, after_truncate, after_write};
 
@@ -15,9 +15,7 @@ use ring_core::{
     RingBuffer, RingBufferDrainingIterator, RingBufferIntoIterator, RingBufferIterator,
     RingBufferMutIterator,
 };
-use ring_fixed::fixed::Fixed;
-use ring_fixed::position::{position, signed_position};
-use ring_fixed::shared::{extend_cloned, same_items};
+use ring_fixed::{Fixed, extend_cloned, index_at, same_items, signed_index_at};
 use ring_slots::{ArraySlots, RingSlots};
 use std::alloc::AllocError;
 use std::fmt::{self, Debug, Formatter, Write};
@@ -34,14 +32,14 @@ pub struct ConstGenericRingBuffer<T, const CAP: usize> {
 impl<T, const CAP: usize> Model for ConstGenericRingBuffer<T, CAP> {
     ghost use Rattle.std.specs.Prelude.{◌≡◌};
     ghost use Rattle.ring_fixed.specs.View.{View};
-    ghost use Rattle.ring_fixed.specs.fixed.Sound.{view_of, IsSound};
+    ghost use Rattle.ring_fixed.specs.fixed.Sound.{room_of, view_of, IsSound};
 
     ghost Value = { View T };
 
     ghost view = { λ r. record (view_of (λ s. s) r.ring) { capacity = CAP } };
 
     ghost invariant = { λ r. IsSound (λ s. s) (λ _. Unit {0}) r.ring
-        × ((view_of (λ s. s) r.ring).capacity ≡ CAP) };
+        × (room_of (λ s. s) r.ring ≡ CAP) };
 }
 
 impl<T: Drop, const CAP: usize> ConstGenericRingBuffer<T, CAP> {
@@ -155,25 +153,25 @@ impl<T: Drop, const CAP: usize> RingBuffer<T> for ConstGenericRingBuffer<T, CAP>
 
     #[inline]
     fn get(&self, index: usize) -> Option<&T> {
-        let index = position(index, self.ring.len())?;
+        let index = index_at(index, self.ring.len())?;
         Some(self.ring.at(index))
     }
 
     #[inline]
     fn get_signed(&self, index: isize) -> Option<&T> {
-        let index = signed_position(index, self.ring.len())?;
+        let index = signed_index_at(index, self.ring.len())?;
         Some(self.ring.at(index))
     }
 
     #[inline]
     fn get_mut(&mut self, index: usize) -> Option<&mut T> {
-        let index = position(index, self.ring.len())?;
+        let index = index_at(index, self.ring.len())?;
         Some(self.at_mut(index))
     }
 
     #[inline]
     fn get_mut_signed(&mut self, index: isize) -> Option<&mut T> {
-        let index = signed_position(index, self.ring.len())?;
+        let index = signed_index_at(index, self.ring.len())?;
         Some(self.at_mut(index))
     }
 }
@@ -223,7 +221,7 @@ impl<T: Drop, const CAP: usize> Index<usize> for ConstGenericRingBuffer<T, CAP> 
 
     ghost can_index = { λ s _. 0 < length s.items };
 
-    ghost index_gives = { λ s i x. slice_get s.items (place (length s.items) i) ≡ Some x };
+    ghost index_gives = { λ s i x. slice_get s.items (index_at (length s.items) i) ≡ Some x };
 
     #[inline]
     fn index(&self, index: usize) -> &T {
@@ -239,8 +237,8 @@ impl<T: Drop, const CAP: usize> IndexMut<usize> for ConstGenericRingBuffer<T, CA
         requires { 0 < length self.old.items }
         ensures* writes_back { sem 𝓛
             (Lends (the_row T.row CAP.row) T.row self.entry result
-            (after_write self.old (place (length self.old.items) index))) }
-        ensures value { slice_get self.old.items (place (length self.old.items) index)
+            (after_write self.old (index_at (length self.old.items) index))) }
+        ensures value { slice_get self.old.items (index_at (length self.old.items) index)
             ≡ Some result.now }
     {
         self.get_mut(index).unwrap()
@@ -340,7 +338,8 @@ impl<T: Clone + Drop, const CAP: usize> ConstGenericRingBuffer<T, CAP> {
         ensures succeeds { ((x : T) → T.is_infallible x) → IsOk result }
         ensures nothing { self.now.items ≡ [] → IsOk result }
     {
-        let _held = self.len();
+        // For the proof: the contents are within the limit.
+        let _ = self.len();
         let mut ring = Self::new();
         extend_cloned(&mut ring, self.iter())?;
         Ok(ring)

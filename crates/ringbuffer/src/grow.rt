@@ -15,8 +15,7 @@ use ring_core::{
     RingBuffer, RingBufferDrainingIterator, RingBufferIntoIterator, RingBufferIterator,
     RingBufferMutIterator,
 };
-use ring_fixed::position::{position, signed_position};
-use ring_fixed::slices::{clone_slices, copy_slices, same_in_slices};
+use ring_fixed::{clone_slices, copy_slices, index_at, same_in_slices, signed_index_at};
 use std::alloc::{AllocError, Global};
 use std::collections::VecDeque;
 use std::fmt::{self, Debug, Formatter, Write};
@@ -153,6 +152,7 @@ fn clones<T: Clone + Drop>(items: Vec<T>, value: T) -> (Vec<T>, Result<(), Alloc
 {
     let mut items = items;
     for _ in 0..items.capacity() {
+        // For the proof: there is room for one more. The loop's bound is this test's too.
         if items.len() == items.capacity() {
             break;
         }
@@ -260,20 +260,20 @@ impl<T: Drop> RingBuffer<T> for GrowableAllocRingBuffer<T> {
     }
 
     fn get(&self, index: usize) -> Option<&T> {
-        self.deque.get(position(index, self.deque.len())?)
+        self.deque.get(index_at(index, self.deque.len())?)
     }
 
     fn get_signed(&self, index: isize) -> Option<&T> {
-        self.deque.get(signed_position(index, self.deque.len())?)
+        self.deque.get(signed_index_at(index, self.deque.len())?)
     }
 
     fn get_mut(&mut self, index: usize) -> Option<&mut T> {
-        let index = position(index, self.deque.len())?;
+        let index = index_at(index, self.deque.len())?;
         self.deque.get_mut(index)
     }
 
     fn get_mut_signed(&mut self, index: isize) -> Option<&mut T> {
-        let index = signed_position(index, self.deque.len())?;
+        let index = signed_index_at(index, self.deque.len())?;
         self.deque.get_mut(index)
     }
 }

@@ -6,7 +6,7 @@ ghost use Rattle.std.specs.Cmp.{and_per, on_per, partial_equiv_from_equiv};
 ghost use Rattle.std.specs.Cmp.Lexicographic.{lists_per, pointwise};
 ghost use Rattle.std.specs.List.{AllZip};
 ghost use Rattle.std.proofs.lemmas.Cmp.{and_equiv, lists_equiv, nat_eq_equiv, on_equiv};
-ghost use Rattle.ring_core.specs.Contents.{IsWithin, overwritten, place};
+ghost use Rattle.ring_core.specs.Contents.{IsWithin, overwritten, index_at};
 ghost use Rattle.ring_core.specs.Walk.{DrainsInOrder, ReadsInOrder, ReadsInReverse, StartsOver, UnpacksInOrder, into_iter_to_come, iterator_to_come};
 ghost use Rattle.ring_fixed.specs.View.{after_extend_from_slice, after_keep_newest, after_pop, after_push, after_takes, after_truncate, after_write};
 
@@ -17,9 +17,9 @@ use ring_core::{
     RingBuffer, RingBufferDrainingIterator, RingBufferIntoIterator, RingBufferIterator,
     RingBufferMutIterator,
 };
-use ring_fixed::fixed::Fixed;
-use ring_fixed::position::{position, signed_position};
-use ring_fixed::slices::{clone_slices, copy_slices, same_in_slices};
+use ring_fixed::{
+    Fixed, clone_slices, copy_slices, index_at, same_in_slices, signed_index_at,
+};
 use ring_slots::{HeapSlots, RingSlots};
 use std::alloc::{AllocError, Global};
 use std::fmt::{self, Debug, Formatter, Write};
@@ -42,7 +42,7 @@ impl<T> Model for AllocRingBuffer<T> {
     ghost use Rattle.std.specs.Prelude.{◌<◌, ◌≤◌, length};
     ghost use Rattle.std.specs.Int.{IsNextPowerOfTwo, IsPowerOfTwo};
     ghost use Rattle.ring_fixed.specs.View.{View};
-    ghost use Rattle.ring_fixed.specs.fixed.Sound.{view_of, IsSound};
+    ghost use Rattle.ring_fixed.specs.fixed.Sound.{room_of, view_of, IsSound};
 
     ghost Value = { View T };
 
@@ -51,7 +51,7 @@ impl<T> Model for AllocRingBuffer<T> {
     ghost invariant = { λ r. IsSound (λ s. s) IsPowerOfTwo r.ring
         × (0 < r.capacity)
         × (length (view_of (λ s. s) r.ring).items ≤ r.capacity)
-        × IsNextPowerOfTwo r.capacity (view_of (λ s. s) r.ring).capacity };
+        × IsNextPowerOfTwo r.capacity (room_of (λ s. s) r.ring) };
 }
 
 impl<T: Drop> AllocRingBuffer<T> {
@@ -174,7 +174,7 @@ impl<T: Drop> RingBuffer<T> for AllocRingBuffer<T> {
     where
         I::IntoIter: Drop,
     {
-        replace_with(&mut self.ring, (items, self.capacity), Fixed::extended);
+        replace_with(&mut self.ring, (items, self.capacity), Fixed::extend_owned);
         Ok(())
     }
 
@@ -188,7 +188,7 @@ impl<T: Drop> RingBuffer<T> for AllocRingBuffer<T> {
     }
 
     fn fill_with<F: FnMut() -> T + Drop>(&mut self, make: F) -> Result<(), AllocError> {
-        replace_with(&mut self.ring, (make, self.capacity), Fixed::filled_with);
+        replace_with(&mut self.ring, (make, self.capacity), Fixed::fill_with_owned);
         Ok(())
     }
 
@@ -196,7 +196,7 @@ impl<T: Drop> RingBuffer<T> for AllocRingBuffer<T> {
     where
         T: Clone,
     {
-        replace_with(&mut self.ring, (value, self.capacity), Fixed::filled)
+        replace_with(&mut self.ring, (value, self.capacity), Fixed::fill_owned)
     }
 
     fn to_vec(&self, alloc: Global) -> Result<Vec<T>, AllocError>
@@ -216,25 +216,25 @@ impl<T: Drop> RingBuffer<T> for AllocRingBuffer<T> {
 
     #[inline]
     fn get(&self, index: usize) -> Option<&T> {
-        let index = position(index, self.ring.len())?;
+        let index = index_at(index, self.ring.len())?;
         Some(self.ring.at(index))
     }
 
     #[inline]
     fn get_signed(&self, index: isize) -> Option<&T> {
-        let index = signed_position(index, self.ring.len())?;
+        let index = signed_index_at(index, self.ring.len())?;
         Some(self.ring.at(index))
     }
 
     #[inline]
     fn get_mut(&mut self, index: usize) -> Option<&mut T> {
-        let index = position(index, self.ring.len())?;
+        let index = index_at(index, self.ring.len())?;
         Some(self.at_mut(index))
     }
 
     #[inline]
     fn get_mut_signed(&mut self, index: isize) -> Option<&mut T> {
-        let index = signed_position(index, self.ring.len())?;
+        let index = signed_index_at(index, self.ring.len())?;
         Some(self.at_mut(index))
     }
 }
@@ -288,7 +288,7 @@ impl<T: Copy + Drop> AllocRingBuffer<T> {
         replace_with(
             &mut self.ring,
             (items, self.capacity),
-            Fixed::extended_from_slice,
+            Fixed::extend_from_slice_owned,
         );
     }
 
@@ -329,7 +329,7 @@ impl<T: Drop> Index<usize> for AllocRingBuffer<T> {
 
     ghost can_index = { λ s _. 0 < length s.items };
 
-    ghost index_gives = { λ s i x. slice_get s.items (place (length s.items) i) ≡ Some x };
+    ghost index_gives = { λ s i x. slice_get s.items (index_at (length s.items) i) ≡ Some x };
 
     /// Returns the item at a position. The ring must hold one.
     #[inline]
@@ -347,8 +347,8 @@ impl<T: Drop> IndexMut<usize> for AllocRingBuffer<T> {
         requires { 0 < length self.old.items }
         ensures* writes_back { sem 𝓛
             (Lends (the_row T.row) T.row self.entry result
-            (after_write self.old (place (length self.old.items) index))) }
-        ensures value { slice_get self.old.items (place (length self.old.items) index)
+            (after_write self.old (index_at (length self.old.items) index))) }
+        ensures value { slice_get self.old.items (index_at (length self.old.items) index)
             ≡ Some result.now }
     {
         self.get_mut(index).unwrap()
@@ -467,7 +467,8 @@ impl<T: Clone + Drop> AllocRingBuffer<T> {
         ensures items { IfOk result (λ ring. AllZip T.is_clone self.now.items ring.items) }
         ensures capacity { IfOk result (λ ring. ring.capacity ≡ self.now.capacity) }
     {
-        let _held = self.len();
+        // For the proof: the contents are within the limit.
+        let _ = self.len();
         Self::of_clones(self.alloc, self.capacity, self.as_slices())
     }
 
@@ -480,7 +481,7 @@ impl<T: Clone + Drop> AllocRingBuffer<T> {
         ensures capacity { IfOk result (λ ring. ring.capacity ≡ capacity) }
     {
         let mut ring = Self::new(alloc, capacity)?;
-        replace_with(&mut ring.ring, items, Fixed::cloned_from)?;
+        replace_with(&mut ring.ring, items, Fixed::clone_from_owned)?;
         Ok(ring)
     }
 }

@@ -41,5 +41,5 @@ some_read (x ∷ xs) zero below = (x, refl)
 some_read (x ∷ xs) (suc i) below = some_read xs i (omega arith)
 
 -- What is read at a place below the length stands there.
-pub read_here : {A : Type 0} (xs : List A) (i : ℕ) (o : Option (Bor A)) (x : Bor A) → i < length xs → option_copied o ≡ slice_get xs (place (length xs) i) → o ≡ Some x → slice_get xs i ≡ Some x.now
+pub read_here : {A : Type 0} (xs : List A) (i : ℕ) (o : Option (Bor A)) (x : Bor A) → i < length xs → option_copied o ≡ slice_get xs (index_at (length xs) i) → o ≡ Some x → slice_get xs i ≡ Some x.now
 read_here xs i o x below copied is = rw (mod-eq_of_lt below) at (sym copied) ∙ ap option_copied is

@@ -10,6 +10,10 @@ module _ {T S : Type 0} (seen : S → Slots T) where
   abbrev pub view_of : Fixed T S → View T
   view_of f = view_from (seen f.slots) f.start
 
+  -- how many slots it has
+  abbrev pub room_of : Fixed T S → ℕ
+  room_of f = length (seen f.slots).slots
+
   -- the ring with the item at an index written, given how a slot is written
   abbrev pub with_item : (S → ℕ → T → S) → Fixed T S → ℕ → T → Fixed T S
   with_item with_slot f index x = record f { slots = with_slot f.slots ((f.start + index) % length (seen f.slots).slots) x }

@@ -9,11 +9,11 @@ use Rattle.ring_fixed.specs.contracts.fixed.Fixed.{the_row}
 use Rattle.ring_fixed.specs.fixed.Sound.{view_of}
 
 module _ {X : Type 0} where
-  -- the items after so many of them went from the front to the back, one by one
+  -- the items after n of them went from the front to the back, one by one
   abbrev pub turned : ℕ → List X → List X
   turned n xs = drop n xs ++ take n xs
 
-  -- so many slots, where those from a place on hold these items, and all others nothing
+  -- `size` slots, where those from a place on hold these items, and all others nothing
   abbrev pub beside : ℕ → ℕ → List X → List (Option X)
   beside size start items = replicate start None ++ (map Some items ++ replicate (size - (start + length items)) None)
 
@@ -28,5 +28,5 @@ module _ {X : Type 0} where
       record f { slots = record { slots = items; changes = f.slots.changes + 4 * f.len }; start = straight_start f }
 
 -- once the borrow r ends, the ring holds the last items written through r, side by side
-abbrev pub lends_items : (T : RattleType) → MutBor (Fixed T.Denot (Slots T.Denot)) → MutBor (List T.Denot) → Fml
-lends_items T ring r = Lends (the_row T (heap.the_row T)) (Array T 0) ring r (straightened ring.now)
+abbrev pub lends_straight : (T : RattleType) → MutBor (Fixed T.Denot (Slots T.Denot)) → MutBor (List T.Denot) → Fml
+lends_straight T ring r = Lends (the_row T (heap.the_row T)) (Array T 0) ring r (straightened ring.now)

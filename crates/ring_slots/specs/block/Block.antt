@@ -10,7 +10,7 @@ module _ {X : Type 0} (alloc : Global) where
   abbrev pub IsDeedOf : Ptr → Owner X → Deed X → Type 0
   IsDeedOf ptr owner deed = (owner.at ≡ ptr) × (deed.at ≡ ptr) × (deed.len ≡ length owner.slots) × (deed.alloc ≡ alloc)
 
-  -- so many slots at the pointer, all empty, with the right to give their memory back
+  -- `size` slots at the pointer, all empty, with the right to give their memory back
   abbrev pub IsNewBlock : ℕ → Ptr → Owner X → Deed X → Type 0
   IsNewBlock size ptr owner deed =
       (owner.at ≡ ptr) × (owner.slots ≡ replicate size None) × (deed.at ≡ ptr) × (deed.len ≡ size) × (deed.alloc ≡ alloc)

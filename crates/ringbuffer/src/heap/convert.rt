@@ -9,7 +9,7 @@ use crate::array::ConstGenericRingBuffer;
 use crate::grow::GrowableAllocRingBuffer;
 use crate::heap::AllocRingBuffer;
 use ring_core::RingBuffer;
-use ring_fixed::shared::extend_somes;
+use ring_fixed::extend_somes;
 use std::alloc::{AllocError, Global};
 use std::collections::{LinkedList, VecDeque};
 

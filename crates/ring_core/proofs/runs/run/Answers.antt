@@ -1,6 +1,6 @@
 -- One turn of the loop, its end, its stop at a refusal, and what holds where no command was done.
 use Rattle.ring_core.proofs.Words.{◌<◌, length, arith, rules, steps}
-use Rattle.ring_core.proofs.HeldWindow.{KeepsToNumbers-held}
+use Rattle.ring_core.proofs.HeldRange.{KeepsToNumbers-held}
 use Rattle.ring_core.proofs.CommandLoop.{HasDone-end, HasDone-first, HasDone-next, HasDone-stops, HasDone-turn, length-replies_so_far, replies_to-turn}
 use Rattle.ring_core.proofs.runs.run.Goals as goal
 

@@ -1,7 +1,7 @@
 -- One turn of the loop, its end, and its stop at a refusal.
 use Rattle.ring_core.proofs.Words.{arith, rules, steps}
 use Rattle.ring_core.proofs.RunParts.{places_all}
-use Rattle.ring_core.proofs.HeldWindow.{KeepsToNumbers-held}
+use Rattle.ring_core.proofs.HeldRange.{KeepsToNumbers-held}
 use Rattle.ring_core.proofs.CommandLoop.{HasDone-end, HasDone-first, HasDone-next, HasDone-stops, HasDone-turn, places-turn}
 use Rattle.ring_core.proofs.runs.run_into.Goals as goal
 

@@ -1,6 +1,6 @@
 -- By item numbers a run of both lists is what it is as lists, and there it is the two runs in turn.
 use Rattle.ring_core.proofs.Words.{◌++◌, ◌∙◌, ap, flat_map-append, pushed, steps, steps_of, after_all}
-use Rattle.ring_core.proofs.HeldWindow.{pushed-append}
+use Rattle.ring_core.proofs.HeldRange.{pushed-append}
 use Rattle.ring_core.proofs.BothMeanings.{IsWithin-after_all, contents_after-all, replies_of-all}
 use Rattle.ring_core.proofs.RunParts.{after_all-append, replies_to-append}
 use Rattle.ring_core.proofs.runs.runs_join.Goals as goal

@@ -17,10 +17,10 @@ loop-at-preserved-in-Some g c =
     let k = c.in-Some.kept.now in
     let v = c.loop-at.after in
     let below : i < length ks = omega (arith, so_far.within, c.loop-at-test.true) in
-    let at : place (length ks) i ≡ i = mod-eq_of_lt below in
+    let at : index_at (length ks) i ≡ i = mod-eq_of_lt below in
     let read : slice_get ks i ≡ Some k = rw at at (sym c.in-Some.ensures.value) in
     let next : suc i ≡ c.loop-at.at = omega (arith, c.loop-at-test.true) in
-    let written = rw at at (g.met.R.RingBuffer.sets_item c.loop-at.ring (place (length ks) i) (record k { after = v })) in
+    let written = rw at at (g.met.R.RingBuffer.sets_item c.loop-at.ring (index_at (length ks) i) (record k { after = v })) in
     let left = rw next at (drop_written ks i k v read) in
     record {
       within = rw (at, written, length-set) (omega (arith, below));

@@ -1,4 +1,4 @@
-use Rattle.ring_core.proofs.Words.{◌≡◌, ◌-◌, ◌<◌, IsNone, length, min, ap, arith, option_copied_mut, mod-eq_of_lt, place, stepped}
+use Rattle.ring_core.proofs.Words.{◌≡◌, ◌-◌, ◌<◌, IsNone, length, min, ap, arith, option_copied_mut, mod-eq_of_lt, index_at, stepped}
 use Rattle.ring_core.proofs.Lending.{lent_as}
 use Rattle.ring_core.proofs.Walks.{length-to_come, none-to_come, slice_get-to_come}
 use Rattle.ring_core.proofs.iter.RingBufferMutIterator.next_back.Goals as goal
@@ -13,7 +13,7 @@ returns g c =
     let within : last < n = omega arith in
     let lent : IsNone c.get_mut.result → ⊥ = λ none. absurd (omega (arith, ap length (c.get_mut.ensures.none.0 none))) in
     rw end_is (
-      lent_as c.get_mut.result (stepped R.with_item s s.front last (place n last)) (stepped R.with_item s s.front last last) (record s { back = last }) s
+      lent_as c.get_mut.result (stepped R.with_item s s.front last (index_at n last)) (stepped R.with_item s s.front last last) (record s { back = last }) s
           lent (λ w. ap (λ i. stepped R.with_item s s.front last i w) (mod-eq_of_lt within)),
       record {
         writes_back = tt;

@@ -1,6 +1,6 @@
-use Rattle.ring_fixed.proofs.Words.{◌≡◌, ◌+◌, ◌*◌, ◌≤◌, List, arith, ap, length, sym, ◌∙◌, refl, refill, refilled, HoldsRun, items_from, beside}
-use Rattle.ring_fixed.proofs.Runs.{run_is}
-use Rattle.ring_fixed.proofs.Straight.{beside-refilled, beside-run, straight_fits}
+use Rattle.ring_fixed.proofs.Words.{◌≡◌, ◌+◌, ◌*◌, ◌≤◌, List, arith, ap, length, sym, ◌∙◌, refl, refill, refilled, HoldsStretch, items_from, beside}
+use Rattle.ring_fixed.proofs.Stretches.{stretch_is}
+use Rattle.ring_fixed.proofs.Straight.{beside-refilled, beside-stretch, straight_fits}
 use Rattle.ring_fixed.proofs.slices.Fixed+T+HeapSlots+T.make_contiguous.Goals as goal
 
 -- The ring ends as the slots that were lent say, which its items filled side by side.
@@ -12,8 +12,8 @@ returns g c =
     let count : c.after-changes.result.count ≡ f.slots.changes + 4 * f.len = omega (arith, c.after-changes.ensures, c.after-3.ensures, c.after-2.ensures, c.after.ensures, c.changes.ensures) in
     let filled : (w : List _) → refilled c.straighten.new.self.slots.slots c.straighten.new.self.start f.len w ≡ beside size c.straighten.new.self.start (refill f.len items w) =
     λ w. rw (after.straight, c.requires.1) (beside-refilled size c.straighten.new.self.start items fit w) in
-    let held : HoldsRun c.straighten.new.self.slots.slots c.straighten.new.self.start f.len items = rw (after.straight, c.requires.1) (beside-run size c.straighten.new.self.start items fit) in
+    let held : HoldsStretch c.straighten.new.self.slots.slots c.straighten.new.self.start f.len items = rw (after.straight, c.requires.1) (beside-stretch size c.straighten.new.self.start items fit) in
     let slots = λ (w : List _). filled w ∙ ap (λ start. beside size start (refill f.len items w)) after.start in (
       (refl, λ w i. record { slots = record { slots = slots w i; changes = count i }; start = after.start i; len = after.len i; item = f.item }),
-      record { writes_back = tt; value = run_is c.straighten.new.self.slots.slots c.straighten.new.self.start f.len c.run_mut.result.now items c.run_mut.ensures.value held },
+      record { writes_back = tt; value = stretch_is c.straighten.new.self.slots.slots c.straighten.new.self.start f.len c.slice_mut.result.now items c.slice_mut.ensures.value held },
     )

@@ -1,7 +1,7 @@
 use Rattle.ring_fixed.proofs.Words.{◌≡◌, ◌+◌, ◌≤◌, ◌∙◌, ap, arith, beside, drop, items_from, length, sym, take_at, turned}
 use Rattle.ring_fixed.proofs.RepeatedSteps.{length-turned, turned_back}
-use Rattle.ring_fixed.proofs.Runs.{run_is}
-use Rattle.ring_fixed.proofs.Straight.{beside-refilled, beside-run, straight_fits}
+use Rattle.ring_fixed.proofs.Stretches.{stretch_is}
+use Rattle.ring_fixed.proofs.Straight.{beside-refilled, beside-stretch, straight_fits}
 use Rattle.ring_fixed.proofs.slices.Fixed+T+HeapSlots+T.straighten.Goals as goal
 
 -- The items that were turned are turned back.
@@ -13,6 +13,6 @@ returns-clause-straight g c =
     let long = length-turned n items low in let enough = c.requires.0.fit in
     let fit : start + length xs ≤ size = rw after.start (omega (arith, long, (straight_fits f.start f.len size c.requires.0.start_within (omega (arith, c.requires.1))).1, c.requires.1)) in
     let len : c.gather-moved.new.self.len ≡ length xs = omega (arith, after.len, c.requires.1, long) in
-    let held = run_is _ start _ _ xs c.run_mut.ensures.value (rw (after.straight, len) (beside-run size start xs fit)) in
+    let held = stretch_is _ start _ _ xs c.slice_mut.ensures.value (rw (after.straight, len) (beside-stretch size start xs fit)) in
     let back : c.rotate_right.new.self ≡ items = c.rotate_right.ensures.after ∙ turned_back n items _ low held in
     rw (back, after.straight, len) (beside-refilled size start xs fit items ∙ ap (beside size start) (take_at items (drop (length items) xs) (length xs) (sym long)))

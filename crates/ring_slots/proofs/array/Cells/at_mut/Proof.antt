@@ -1,6 +1,6 @@
 -- An element of the array is lent to the caller, which the borrow checker does not follow through an array. The struct
 -- lies where its one field does, so the element is taken out of memory with a way back at any value, and then lent.
-use Rattle.ring_slots.proofs.Walk.{◌≡◌, refl, sym, ap, ◌∙◌, List, [], ◌∷◌, ℕ, zero, ◌+◌, ◌*◌, ◌^◌, ◌<◌, ◌≤◌, mul-le-mul_right, arith, length, get_or, set, length-set, Ura, Args, a_type, a_number, ty_array, named, w64, inst_fn, vptr, vint, SProp, ent, sep, ex, guard, all, wand, all_e, apply∗, full_share, Fml, GName, ftrue, fsep, feq, flft, size, align, up, Logic, sem, cells, ‵, raw, ◌⊛◌, some, given, later, ◌$◌, ◌∵◌, !, qed, move, keep, drop, split, split3, join, learn, check, fsplit, fsplit3, fjoin, feq_l, feq_i, use1, use2, await, pick, suffices, frame, group, rewrite, show, done, ◌⊑◌, stop, fld, addr, bin, size_word, returns, enter, alloc_all, pass_all, free_all, look_at, get, through, sets, is, RefMutOf, usize, yes, no, follows, lends_Part, mem, part_at, param, number, layout, layouts, ArrayAt, Laws, param_laws, number_array_laws, uint_vals, uint_Tells, RattleType, MutRef, mut_vals, mut_Tells, plain, nothing, Struct, says, Stays, stay_dropped, Goes-dropped, Goes-spent_ref, ends_at, proved, get_or_default, Array}
+use Rattle.ring_slots.proofs.Words.{◌≡◌, refl, sym, ap, ◌∙◌, List, [], ◌∷◌, ℕ, zero, ◌+◌, ◌*◌, ◌^◌, ◌<◌, ◌≤◌, mul-le-mul_right, arith, length, get_or, set, length-set, Ura, Args, a_type, a_number, ty_array, named, w64, inst_fn, vptr, vint, SProp, ent, sep, ex, guard, all, wand, all_e, apply∗, full_share, Fml, GName, ftrue, fsep, feq, flft, size, align, up, Logic, sem, cells, ‵, raw, ◌⊛◌, some, given, later, ◌$◌, ◌∵◌, !, qed, move, keep, drop, split, split3, join, learn, check, fsplit, fsplit3, fjoin, feq_l, feq_i, use1, use2, await, pick, suffices, frame, group, rewrite, show, done, ◌⊑◌, stop, fld, addr, bin, size_word, returns, enter, alloc_all, pass_all, free_all, look_at, get, through, sets, is, RefMutOf, usize, yes, no, follows, lends_Part, mem, part_at, param, number, layout, layouts, ArrayAt, Laws, param_laws, number_array_laws, uint_vals, uint_Tells, RattleType, MutRef, mut_vals, mut_Tells, plain, nothing, Struct, says, Stays, stay_dropped, Goes-dropped, Goes-spent_ref, ends_at, proved, get_or_default, Array}
 use types.Mut.{open_ref}
 use denote.ArrayMemory.{Array-apart, Array-whole}
 use denote.Index.{row, whole_in, whole_out}
@@ -63,7 +63,7 @@ module _ (X : RattleType) (n : ℕ) where
     abbrev array_back : X.Denot → SProp 𝓤
     array_back x = wand 𝓤 (sem 𝓛 ((mem Element).own_at x b spot)) (sem 𝓛 (cells (mem Element) (set d.xs m x) b o))
 
-    -- the struct in memory, but for the element
+    -- the struct in memory without the element
     abbrev Rest : SProp 𝓤
     Rest = sep 𝓤 (all 𝓤 array_back) (BackTo 𝓛 name [] [] field To b o)
 

@@ -1,5 +1,5 @@
 -- A `&` to the right to free a block shows nothing.
-use Rattle.ring_slots.proofs.Walk.{RattleType, RawPtr, Laws, of_Lends, Lends-nothing}
+use Rattle.ring_slots.proofs.Words.{RattleType, RawPtr, Laws, of_Lends, Lends-nothing}
 use denote.Param.Shared.{copy_shared}
 use denote.SharingLaws.{nothing_shr_laws}
 use denote.Struct.Laws.{field_copy}

@@ -1,5 +1,5 @@
 -- A `&` to the slots reaches each item.
-use Rattle.ring_slots.proofs.Walk.{[], ◌++◌, Incl-trans, RattleType, RawPtr, Laws, of_Lends}
+use Rattle.ring_slots.proofs.Words.{[], ◌++◌, Incl-trans, RattleType, RawPtr, Laws, of_Lends}
 use contract.BorrowLft.{meet_⊑_left}
 use denote.Param.Shared.{copy_shared}
 use denote.Struct.Laws.{field_copy}

@@ -1,5 +1,5 @@
 -- The row of empty slots is memory again, which goes back to the heap with the right to free it.
-use Rattle.ring_slots.proofs.Walk.{◌≡◌, refl, sym, ap, subst, ◌∙◌, Bool, List, [], ◌∷◌, ◌++◌, ℕ, ◌*◌, ◌<◌, ◌^◌, arith, T, length, replicate, length-replicate, Fn, a_type, w64, ty_array, ty_unit, inst_fn, Val, vint, vunit, has_ty, WT, SProp, never, id⊢, ftrue, froom, flft, capped_fits, align, capped, WpFn, ‵, raw, ◌⊛◌, later, given, prop, at_ret, ◌$◌, ◌∵◌, !, qed, move, keep, drop, use1, learn, await, split, join, split3, fsplit, feq_l, flt_l, rewrite, regoal, suffices, group, fjoin, feq_i, done, stop, from, addr, of_opd, bin, size_word, align_word, unit_lit, no_more, and_then, first, blocks, exec, returns, enter, alloc_all, pass_all, free_all, look_at, get, is, sets, take_at, give_at, lands_last, env, ◌⊑◌, fact, tables, usize, yes, no, layout, layouts, Is, shows, Ptr, RawPtr, block_ptr, ptr_val, in_a_block, plain, nothing, heard, peeks, calls_at_last, framed, Stays, stay_dropped, Goes-dropped, walk_of, ends_at, Option, None, type_size, Global, as_raw, after, Goes-blank, proved_at, right, right_if}
+use Rattle.ring_slots.proofs.Words.{◌≡◌, refl, sym, ap, subst, ◌∙◌, Bool, List, [], ◌∷◌, ◌++◌, ℕ, ◌*◌, ◌<◌, ◌^◌, arith, T, length, replicate, length-replicate, Fn, a_type, w64, ty_array, ty_unit, inst_fn, Val, vint, vunit, has_ty, WT, SProp, never, id⊢, ftrue, froom, flft, capped_fits, align, capped, WpFn, ‵, raw, ◌⊛◌, later, given, prop, at_ret, ◌$◌, ◌∵◌, !, qed, move, keep, drop, use1, learn, await, split, join, split3, fsplit, feq_l, flt_l, rewrite, regoal, suffices, group, fjoin, feq_i, done, stop, from, addr, of_opd, bin, size_word, align_word, unit_lit, no_more, and_then, first, blocks, exec, returns, enter, alloc_all, pass_all, free_all, look_at, get, is, sets, take_at, give_at, lands_last, env, ◌⊑◌, fact, tables, usize, yes, no, layout, layouts, Is, shows, Ptr, RawPtr, block_ptr, ptr_val, in_a_block, plain, nothing, heard, peeks, calls_at_last, framed, Stays, stay_dropped, Goes-dropped, walk_of, ends_at, Option, None, type_size, Global, as_raw, after, Goes-blank, proved_at, right, right_if}
 use Rattle.std.specs.contracts.alloc.Global as heap
 use Rattle.std.proofs.alloc.Global.TheLaws as heap_laws
 use Rattle.std.proofs.impls.GlobalAllocator.deallocate.Met.{met}

@@ -1,5 +1,5 @@
 -- The item is lent apart from the rest, which closes round any item that is written.
-use Rattle.ring_slots.proofs.Walk.{◌≡◌, refl, sym, subst, ◌∙◌, List, [], ◌∷◌, ◌++◌, ℕ, ◌+◌, ◌*◌, ◌^◌, ◌<◌, length, get_or, length-set, Fn, a_type, named, inst_fn, Val, vptr, Ura, full_share, SProp, ent, sep, Fml, GName, ftrue, fsep, fat, flft, WpFn, Logic, sem, ‵, raw, ◌⊛◌, some, later, prop, at_ret, ◌$◌, ◌∵◌, !, qed, move, keep, drop, use1, use2, pick, split, split3, join, fsplit, fsplit3, fjoin, fjoin3, fpack, feq_l, flt_i, flt_l, rewrite, regoal, suffices, frame, group, await, done, stop, addr, of_opd, bin, size_lit, first, blocks, exec, returns, enter, alloc_all, pass_all, free_all, look_at, get, through, sets, sets_last, take_at, give_at, env, ◌⊑◌, fact, tables, usize, yes, no, follows, lends_Part, mem, cell_at, part_of, layouts, RattleType, Ptr, RawPtr, block_ptr, ptr_val, MutRef, plain, mut_ref_to, nothing, heard, says, Stays, stay_dropped, Goes-dropped, Goes-spent_ref, walk_of, ends_at, Option, Some, None, IsSome, type_size, after, proved_at, ty_ptr, with_slot, slot, row}
+use Rattle.ring_slots.proofs.Words.{◌≡◌, refl, sym, subst, ◌∙◌, List, [], ◌∷◌, ◌++◌, ℕ, ◌+◌, ◌*◌, ◌^◌, ◌<◌, length, get_or, length-set, Fn, a_type, named, inst_fn, Val, vptr, Ura, full_share, SProp, ent, sep, Fml, GName, ftrue, fsep, fat, flft, WpFn, Logic, sem, ‵, raw, ◌⊛◌, some, later, prop, at_ret, ◌$◌, ◌∵◌, !, qed, move, keep, drop, use1, use2, pick, split, split3, join, fsplit, fsplit3, fjoin, fjoin3, fpack, feq_l, flt_i, flt_l, rewrite, regoal, suffices, frame, group, await, done, stop, addr, of_opd, bin, size_lit, first, blocks, exec, returns, enter, alloc_all, pass_all, free_all, look_at, get, through, sets, sets_last, take_at, give_at, env, ◌⊑◌, fact, tables, usize, yes, no, follows, lends_Part, mem, cell_at, part_of, layouts, RattleType, Ptr, RawPtr, block_ptr, ptr_val, MutRef, plain, mut_ref_to, nothing, heard, says, Stays, stay_dropped, Goes-dropped, Goes-spent_ref, walk_of, ends_at, Option, Some, None, IsSome, type_size, after, proved_at, ty_ptr, owner_with, slot, row}
 use Rattle.ring_slots.specs.block.Memory.{owned}
 use Rattle.ring_slots.proofs.SlotsInMemory.{item_of, full_within, place_fits, others, slot_out, slot_in}
 use Rattle.ring_slots.proofs.Parts.{R, Seen, Mark, AreSmall, pointer_good, slots_opened}
@@ -16,10 +16,10 @@ module _ (X : RattleType) {M : Type 1} {𝓤 : Ura M} (𝓛 : Logic 𝓤) (d : (
   Rest = fsep (others X b o d.slots place) (fsep ((Mark X).own_val (tt, tt) us) (cell_at full_share (Seen X).mir us rb ro))
 
   back : d.at ≡ block_ptr b o → AreSmall X d → place < length d.slots
-      → (w : X.Denot) → ent 𝓤 (sep 𝓤 (sem 𝓛 ((mem (R X)).own_at w b (place * type_size (R X) + o))) (sem 𝓛 Rest)) (sem 𝓛 ((mem (Seen X)).own_at (with_slot d place (Some w)) rb ro))
+      → (w : X.Denot) → ent 𝓤 (sep 𝓤 (sem 𝓛 ((mem (R X)).own_at w b (place * type_size (R X) + o))) (sem 𝓛 Rest)) (sem 𝓛 ((mem (Seen X)).own_at (owner_with d place (Some w)) rb ro))
   unfolding part_of
   back lies fit within w =
-      let new = with_slot d place (Some w) in
+      let new = owner_with d place (Some w) in
       qed 𝓛 (‵ (slot (R X) b (place * type_size (R X) + o) (Some w)) ∷ ‵ Rest ∷ []) ∵ move ! (1 ∷ []) $ fsplit3 ! $ move ! (3 ∷ 0 ∷ []) $
       use2 𝓛 (‵ (row (R X) b o new.slots)) (slot_in X b 𝓛 d.slots place o (Some w) within) $
       flt_i ! (length new.slots * type_size (R X)) (2 ^ 63) (subst (λ (k : ℕ). k * type_size (R X) < 2 ^ 63) (sym (length-set d.slots place (Some w))) fit) $ fjoin ! $
@@ -52,7 +52,7 @@ get_mut_spec 𝓤 𝓛 𝓜 𝓡 wired X L =
     let near = place_fits place (length d.slots) bytes within fit in
     let at : ℕ = place * bytes + o in
     let rest = Rest X 𝓛 d us b o rb ro place in let way = back X 𝓛 d us b o rb ro place lies fit within in
-    let new = λ (w : X.Denot). with_slot d place (Some w) in let was = (Seen X).coded.code d in
+    let new = λ (w : X.Denot). owner_with d place (Some w) in let was = (Seen X).coded.code d in
     take_at ! 2 $ rewrite ! 0 (λ (p : Ptr). ‵ (fat full_share ty_ptr (l 2) 0 (ptr_val p))) (same ∙ lies) refl $ give_at ! 2 $
     first ! $ blocks ! $
     sets ! (bin ! (get ! refl) (size_lit ! (record { fits = near.0 })) (record { fits = near.1 })) refl (tt, record { fits = near.1 }) $

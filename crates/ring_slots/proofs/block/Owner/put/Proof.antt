@@ -1,5 +1,5 @@
 -- The item is written into the room of its slot, and the slots are closed round it.
-use Rattle.ring_slots.proofs.Walk.{◌≡◌, refl, sym, subst, ◌∙◌, List, [], ◌∷◌, ◌++◌, ℕ, ◌+◌, ◌*◌, ◌^◌, ◌<◌, length, get_or, length-set, Fn, a_type, named, inst_fn, Val, vptr, vunit, full_share, SProp, ftrue, fat, flft, WpFn, ‵, raw, ◌⊛◌, prop, at_ret, ◌$◌, ◌∵◌, !, qed, move, keep, drop, use1, use2, split, split3, join, fsplit, fsplit3, fjoin, fjoin3, feq_i, feq_l, flt_l, rewrite, regoal, suffices, frame, done, init, stop, unit_lit, of_opd, bin, size_lit, assigns_last, first, blocks, exec, returns, enter, alloc_all, pass_all, free_all, look_at, get, through, sets, take_at, give_at, env, ◌⊑◌, fact, tables, part_in, usize, yes, no, Is, shows, layout, layouts, param_laws, RattleType, Ptr, RawPtr, ptr_val, MutRef, plain, nothing, heard, peeks, says, Stays, stay_dropped, stay_ref, Goes-dropped, Goes-ref, walk_of, ends_at, Option, Some, None, type_size, as_written, after, proved_at, ty_ptr, with_slot, slot, row}
+use Rattle.ring_slots.proofs.Words.{◌≡◌, refl, sym, subst, ◌∙◌, List, [], ◌∷◌, ◌++◌, ℕ, ◌+◌, ◌*◌, ◌^◌, ◌<◌, length, get_or, length-set, Fn, a_type, named, inst_fn, Val, vptr, vunit, full_share, SProp, ftrue, fat, flft, WpFn, ‵, raw, ◌⊛◌, prop, at_ret, ◌$◌, ◌∵◌, !, qed, move, keep, drop, use1, use2, split, split3, join, fsplit, fsplit3, fjoin, fjoin3, feq_i, feq_l, flt_l, rewrite, regoal, suffices, frame, done, init, stop, unit_lit, of_opd, bin, size_lit, assigns_last, first, blocks, exec, returns, enter, alloc_all, pass_all, free_all, look_at, get, through, sets, take_at, give_at, env, ◌⊑◌, fact, tables, part_in, usize, yes, no, Is, shows, layout, layouts, param_laws, RattleType, Ptr, RawPtr, ptr_val, MutRef, plain, nothing, heard, peeks, says, Stays, stay_dropped, stay_ref, Goes-dropped, Goes-ref, walk_of, ends_at, Option, Some, None, type_size, as_written, after, proved_at, ty_ptr, owner_with, slot, row}
 use Rattle.ring_slots.proofs.SlotsInMemory.{place_fits, one_value, others, slot_out, slot_in}
 use Rattle.ring_slots.proofs.Parts.{R, Seen, pointer_good, slots_opened, slots_closed}
 use Rattle.ring_slots.specs.contracts.block.Owner.put as contract
@@ -35,7 +35,7 @@ put_spec 𝓤 𝓛 𝓜 𝓡 wired X L =
     slots_opened X ! tt d rb ro (λ us b o lies fit.
     let near = place_fits place (length d.slots) bytes within fit in
     let at : ℕ = place * bytes + o in
-    let new : (Seen X).Denot = with_slot d place (Some item) in
+    let new : (Seen X).Denot = owner_with d place (Some item) in
     take_at ! 2 $ rewrite ! 0 (λ (p : Ptr). ‵ (fat full_share ty_ptr (l 2) 0 (ptr_val p))) (same ∙ lies) refl $ give_at ! 2 $
     first ! $ blocks ! $
     sets ! (bin ! (get ! refl) (size_lit ! (record { fits = near.0 })) (record { fits = near.1 })) refl (tt, record { fits = near.1 }) $

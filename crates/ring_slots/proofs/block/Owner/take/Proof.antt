@@ -1,5 +1,5 @@
 -- The item is read out of its slot, whose memory is room from then on.
-use Rattle.ring_slots.proofs.Walk.{◌≡◌, refl, sym, subst, ◌∙◌, List, [], ◌∷◌, ◌++◌, ℕ, ◌+◌, ◌*◌, ◌^◌, ◌<◌, length, get_or, length-set, Fn, a_type, named, inst_fn, Val, vptr, full_share, SProp, ftrue, fat, froom, flft, WpFn, ‵, raw, ◌⊛◌, some, prop, at_ret, ◌$◌, ◌∵◌, !, qed, move, keep, drop, use1, use2, pick, split, split3, join, fsplit, fsplit3, fjoin, fjoin3, feq_i, feq_l, flt_l, rewrite, regoal, suffices, frame, done, stop, load, look, of_opd, bin, size_lit, first, blocks, exec, returns, enter, alloc_all, pass_all, free_all, look_at, get, through, sets, sets_last, take_at, give_at, env, ◌⊑◌, fact, tables, part_out, usize, yes, Is, shows, layout, layouts, param_laws, RattleType, Ptr, RawPtr, ptr_val, MutRef, plain, nothing, heard, peeks, Stays, stay_dropped, stay_ref, Goes-dropped, Goes-ref, walk_of, ends_at, Option, None, IsSome, type_size, after, proved_at, ty_ptr, with_slot, slot, row}
+use Rattle.ring_slots.proofs.Words.{◌≡◌, refl, sym, subst, ◌∙◌, List, [], ◌∷◌, ◌++◌, ℕ, ◌+◌, ◌*◌, ◌^◌, ◌<◌, length, get_or, length-set, Fn, a_type, named, inst_fn, Val, vptr, full_share, SProp, ftrue, fat, froom, flft, WpFn, ‵, raw, ◌⊛◌, some, prop, at_ret, ◌$◌, ◌∵◌, !, qed, move, keep, drop, use1, use2, pick, split, split3, join, fsplit, fsplit3, fjoin, fjoin3, feq_i, feq_l, flt_l, rewrite, regoal, suffices, frame, done, stop, load, look, of_opd, bin, size_lit, first, blocks, exec, returns, enter, alloc_all, pass_all, free_all, look_at, get, through, sets, sets_last, take_at, give_at, env, ◌⊑◌, fact, tables, part_out, usize, yes, Is, shows, layout, layouts, param_laws, RattleType, Ptr, RawPtr, ptr_val, MutRef, plain, nothing, heard, peeks, Stays, stay_dropped, stay_ref, Goes-dropped, Goes-ref, walk_of, ends_at, Option, None, IsSome, type_size, after, proved_at, ty_ptr, owner_with, slot, row}
 use Rattle.ring_slots.proofs.SlotsInMemory.{item_of, full_within, place_fits, says_both, others, slot_out, slot_in}
 use Rattle.ring_slots.proofs.Parts.{R, Seen, pointer_good, slots_opened, slots_closed}
 use Rattle.ring_slots.specs.contracts.block.Owner.take as contract
@@ -34,7 +34,7 @@ take_spec 𝓤 𝓛 𝓜 𝓡 wired X L =
     let within = full_within d.slots place x held.1 in
     let near = place_fits place (length d.slots) bytes within fit in
     let at : ℕ = place * bytes + o in
-    let new : (Seen X).Denot = with_slot d place None in
+    let new : (Seen X).Denot = owner_with d place None in
     take_at ! 2 $ rewrite ! 0 (λ (p : Ptr). ‵ (fat full_share ty_ptr (l 2) 0 (ptr_val p))) (same ∙ lies) refl $ give_at ! 2 $
     first ! $ blocks ! $
     sets ! (bin ! (get ! refl) (size_lit ! (record { fits = near.0 })) (record { fits = near.1 })) refl (tt, record { fits = near.1 }) $

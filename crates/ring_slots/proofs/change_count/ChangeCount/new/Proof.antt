@@ -1,5 +1,5 @@
 -- The count that a proof gives the new struct is 0. The struct has no bytes and owns nothing.
-use Rattle.ring_slots.proofs.Walk.{refl, [], ◌∷◌, vstruct, vnil, ftrue, ‵, raw, ◌$◌, ◌∵◌, !, qed, drop, suffices, done, no_more, returns, enter, agg, alloc_all, pass_all, free_all, look_at, sets, pure_i, nothing, on_entry, says, ends_at, proved}
+use Rattle.ring_slots.proofs.Words.{refl, [], ◌∷◌, vstruct, vnil, ftrue, ‵, raw, ◌$◌, ◌∵◌, !, qed, drop, suffices, done, no_more, returns, enter, agg, alloc_all, pass_all, free_all, look_at, sets, pure_i, nothing, on_entry, says, ends_at, proved}
 use Rattle.ring_slots.specs.contracts.change_count.ChangeCount.{the_row}
 use Rattle.ring_slots.specs.contracts.change_count.ChangeCount.new as contract
 use Rattle.ring_slots.proofs.change_count.ChangeCount.new.Statement.{statement}

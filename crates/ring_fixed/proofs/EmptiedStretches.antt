@@ -1,0 +1,80 @@
+-- Items dropped from an index up to another: their slots are two stretches that become empty.
+use Rattle.ring_fixed.proofs.Words.{◌≡◌, ℕ, ◌+◌, ◌-◌, ◌%◌, ◌<◌, ◌≤◌, ◌⊎◌, inl, inr, List, None, length, take, drop, get_or, refl, sym, ap, ◌∙◌, arith, length-take, length-drop, dec_lt, add-mod_right, mod-eq_of_lt, mod-lt, slice_get_past, min, slice_get, slice_get-drop, slice_get-take, Slots, IsFullAt, slot_at, after_takes, after_truncate, AreFull, Empties, SlotsHold, items_from, view_from, IsLaidOut, LaysOut}
+use Rattle.ring_fixed.proofs.LaysOut.{LaysOut-items, slice_get_some}
+use Rattle.ring_fixed.proofs.SlotsHold.{count_on, wrap}
+
+module _ {X : Type 0} {P : ℕ → Type 0} (s : Slots X) (start : ℕ) (laid_out : IsLaidOut P s start) (from to room : ℕ)
+    (order : from ≤ to) (within : to ≤ length (items_from s.slots start)) (left : room ≡ length s.slots - start) where
+  abbrev size : ℕ
+  size = length s.slots
+
+  abbrev items : List X
+  items = items_from s.slots start
+
+  -- a place is full if it lies j places after the start and item j is there
+  full : (place j : ℕ) → j < to → (start + j) % size ≡ place → IsFullAt s place
+  full place j low found =
+      let fit = laid_out.fit in
+      rw (ap (λ p. get_or s.slots p None) (sym found) ∙ laid_out.layout j (omega arith)) (slice_get_some items j (omega arith))
+
+  -- the items lie in two stretches
+  pub first_emptied : AreFull s (start + min from room) (start + min to room)
+  first_emptied place after low =
+      let starts = laid_out.start_within in
+      full place (place - start) (omega arith) (elim (wrap start (place - start) size starts (omega arith)) [ inl a ↦ omega arith | inr a ↦ omega arith ])
+
+  module _ (mid : Slots X) (first : Empties s mid (start + min from room) (start + min to room)) where
+    pub second_emptied : AreFull mid (from - room) (to - room)
+    second_emptied place after low =
+        let starts = laid_out.start_within in let fit = laid_out.fit in
+        rw (first.before place (omega arith)) (full place (room + place) (omega arith) (elim (wrap start (room + place) size starts (omega arith)) [ inl a ↦ omega arith | inr a ↦ omega arith ]))
+
+    module _ (new : Slots X) (second : Empties mid new (from - room) (to - room)) where
+      same_size : length new.slots ≡ size
+      same_size = second.same_size ∙ first.same_size
+
+      counted : new.changes ≡ s.changes + (to - from)
+      counted = let one = first.counted in let two = second.counted in omega arith
+
+      -- the slot of each item in the range is empty
+      emptied_at : (j : ℕ) → j < size → from ≤ j → j < to → slot_at new ((start + j) % size) ≡ None
+      emptied_at j low late early =
+          let starts = laid_out.start_within in let place = (start + j) % size in
+          elim (wrap start j size starts (omega arith)) [ inl a ↦ second.behind place (omega arith) ∙ first.emptied place (omega arith) (omega arith) | inr a ↦ second.emptied place (omega arith) (omega arith) ]
+
+      -- and every other slot is as it was
+      kept_at : (j : ℕ) → j < size → (j < from) ⊎ (to ≤ j) → slot_at new ((start + j) % size) ≡ slice_get items j
+      kept_at j low other =
+          let starts = laid_out.start_within in let place = (start + j) % size in
+          let same : slot_at new place ≡ slot_at s place = elim (wrap start j size starts (omega arith)) [ inl a ↦ grind (arith, first.before, first.behind, second.behind) | inr a ↦ grind (arith, first.before, second.before, second.behind) ] in
+          same ∙ laid_out.layout j low
+
+      -- the items before the index stay, where those up to the last are dropped
+      kept : to ≡ length items → SlotsHold new.slots start (take from items)
+      kept all j low =
+          let low' : j < size = rw same_size at low in
+          let early = λ (low : j < from). kept_at j low' (inl low) in let late = λ (above : to ≤ j). kept_at j low' (inr above) in
+          rw same_size (grind (arith, early, late, emptied_at j, slice_get-take, slice_get_past, length-take))
+
+      pub LaysOut-truncate : to ≡ length items → LaysOut P s new start (after_truncate from (view_from s start))
+      LaysOut-truncate all =
+          let changes : s.changes + (length items - from) ≡ new.changes = omega (counted, all, arith) in
+          rw changes (LaysOut-items s start laid_out new start (take from items) same_size laid_out.start_within (let fit = laid_out.fit in omega (arith, length-take from items)) (kept all))
+
+      -- the items behind stay, where those from the first on are dropped
+      behind : from ≡ 0 → SlotsHold new.slots ((start + to) % size) (drop to items)
+      behind none j low =
+          let low' : j < size = rw same_size at low in
+          let fit = laid_out.fit in
+          let here = ap (λ p. slot_at new p) (count_on start to j (to + j) size refl) in
+          rw same_size (here ∙ elim (dec_lt (to + j) size) [
+            | yes more ↦ kept_at (to + j) more (inr (omega arith)) ∙ sym (slice_get-drop to j items)
+            | no round ↦ let far = count_on start size (to + j - size) (to + j) size (omega arith) in let once = ap (λ n. (n + (to + j - size)) % size) (add-mod_right start size) in
+                grind (arith, far, once, mod-eq_of_lt, emptied_at (to + j - size), slice_get_past, length-drop)
+          ])
+
+      pub LaysOut-takes : from ≡ 0 → LaysOut P s new ((start + to) % size) (after_takes to (view_from s start))
+      LaysOut-takes none =
+          let changes : s.changes + to ≡ new.changes = omega (counted, none, arith) in
+          let starts = laid_out.start_within in
+          rw changes (LaysOut-items s start laid_out new ((start + to) % size) (drop to items) same_size (mod-lt (start + to) (omega arith)) (let fit = laid_out.fit in omega (arith, length-drop to items)) (behind none))

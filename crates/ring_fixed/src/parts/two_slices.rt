@@ -1,0 +1,65 @@
+//! Lists that lie in two slices: copied, cloned and compared.
+ghost use Rattle.std.specs.Prelude.{◌≡◌, ◌+◌, ◌++◌, IfOk, drop, length, min, take};
+ghost use Rattle.std.specs.Cmp.Lexicographic.{pointwise};
+ghost use Rattle.std.specs.List.{AllZip};
+
+use std::alloc::{AllocError, Global};
+use std::vec::{Vec, VecCloneMethods};
+
+/// Copies the items of two slices, in order, to the first places of a third, as many as it has. Returns how many.
+pub fn copy_slices<T: Copy>(items: (&[T], &[T]), output: &mut [T]) -> usize
+    ensures count { result
+        ≡ min (length output.old) (length items.entry.0.now + length items.entry.1.now) }
+    ensures copied { output.new
+        ≡ take result (items.entry.0.now ++ items.entry.1.now) ++ drop result output.old }
+{
+    let (first, second) = items;
+    let before = first.len().min(output.len());
+    let (front, back) = output.split_at_mut(before);
+    front.copy_from_slice(&first[..before]);
+    before + copy_slice(second, back)
+}
+
+// Copies the items of a slice to the first places of another, as many as it has. Returns how many.
+fn copy_slice<T: Copy>(items: &[T], output: &mut [T]) -> usize
+    ensures count { result ≡ min (length output.old) (length items.now) }
+    ensures copied { output.new ≡ take result items.now ++ drop result output.old }
+{
+    let count = items.len().min(output.len());
+    output[..count].copy_from_slice(&items[..count]);
+    count
+}
+
+/// Returns clones of the items of two slices, in order.
+///
+/// # Errors
+///
+/// Where a clone or memory was refused.
+pub fn clone_slices<T: Clone + Drop>(
+    items: (&[T], &[T]),
+    alloc: Global,
+) -> Result<Vec<T>, AllocError>
+    ensures { IfOk result
+        (λ v. AllZip T.is_clone (items.entry.0.now ++ items.entry.1.now) v.items) }
+{
+    let (first, second) = items;
+    let mut clones = Vec::with_capacity(alloc, first.len().saturating_add(second.len()))?;
+    VecCloneMethods::extend_from_slice(&mut clones, first)?;
+    VecCloneMethods::extend_from_slice(&mut clones, second)?;
+    Ok(clones)
+}
+
+/// Returns whether the items of two slices and the items of two others are equal, place by place.
+pub fn same_in_slices<T: PartialEq>(a: (&[T], &[T]), b: (&[T], &[T])) -> bool
+    requires { length a.0.now + length a.1.now ≡ length b.0.now + length b.1.now }
+    ensures { result ≡ pointwise T.eq (a.entry.0.now ++ a.entry.1.now)
+        (b.entry.0.now ++ b.entry.1.now) }
+{
+    let in_both = a.0.len().min(b.0.len());
+    let (a_first, a_middle) = a.0.split_at(in_both);
+    let (b_first, b_middle) = b.0.split_at(in_both);
+    // One of the two middles is empty at least. The other lies beside the beginning of a second slice.
+    let (a_beside, a_last) = a.1.split_at(b_middle.len());
+    let (b_beside, b_last) = b.1.split_at(a_middle.len());
+    a_first == b_first && a_middle == b_beside && a_beside == b_middle && a_last == b_last
+}

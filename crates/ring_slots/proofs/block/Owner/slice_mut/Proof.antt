@@ -1,0 +1,92 @@
+-- The stretch is lent apart from the rest, which closes round any items that are written.
+use Rattle.ring_slots.proofs.Words.{◌≡◌, refl, sym, ap, subst, ◌∙◌, List, [], ◌∷◌, ◌++◌, ℕ, ◌+◌, ◌*◌, ◌^◌, ◌<◌, ◌≤◌, length, arith, Fn, a_type, named, inst_fn, Val, vint, w64, Ura, full_share, SProp, ent, sep, Fml, GName, ftrue, fsep, fat, flft, WpFn, Logic, sem, ‵, raw, ◌⊛◌, some, later, prop, at_ret, ◌$◌, ◌∵◌, !, qed, move, keep, drop, use1, use2, pick, split, split3, join, fsplit, fsplit3, fjoin, fjoin3, fpack, feq_l, flt_i, flt_l, rewrite, regoal, suffices, frame, group, await, done, of_opd, bin, agg, and_then, no_more, is, size_word, first, blocks, exec, returns, enter, alloc_all, pass_all, free_all, look_at, get, sets, sets_last, take_at, give_at, env, ◌⊑◌, fact, tables, usize, yes, no, follows, mem, cell_at, cells, part_of, layouts, RattleType, Ptr, RawPtr, block_ptr, ptr_val, MutRef, plain, mut_ref_to, nothing, heard, says, Stays, stay_dropped, Goes-dropped, Goes-spent_ref, walk_of, ends_at, Some, type_size, after, proved_at, ty_ptr, take, cut, length-append, length-take, length-drop, take_front, map, Array, MutSlice, slice_val, refill, length-map, IsFullStretch, refilled, row}
+use denote.FollowSlice.{lends_Elements}
+use Rattle.ring_slots.specs.block.Memory.{owned}
+use Rattle.ring_slots.proofs.SlotsInMemory.{around, of_cells, product_is, stretch_fits, stretch_in, stretch_long, stretch_out, to_cells}
+use Rattle.ring_slots.proofs.Parts.{R, Seen, Mark, AreSmall, pointer_good, slots_opened}
+use Rattle.ring_slots.specs.contracts.block.Owner.slice_mut as contract
+use Rattle.ring_slots.proofs.block.Owner.slice_mut.Statement.{statement}
+use Rattle.ring_slots.proofs.block.Owner.slice_mut.Code as code
+
+abbrev stayed : (X : RattleType) → Stays (contract.ended X).signature.params (contract.ended X).kept
+stayed X = (stay_dropped (mut_ref_to (0 ∷ []) tt (plain (λ _. Seen X))) no, (stay_dropped (plain (λ _. RawPtr)) yes, (stay_dropped (plain (λ _. usize)) yes, (stay_dropped (plain (λ _. usize)) yes, tt))))
+
+module _ (X : RattleType) {M : Type 1} {𝓤 : Ura M} (𝓛 : Logic 𝓤) (d : (Seen X).Denot) (us : List Val) (b o rb ro from len : ℕ) where
+  abbrev new : List X.Denot → (Seen X).Denot
+  new xs = record d { slots = refilled d.slots from len xs }
+
+  -- all but the stretch
+  abbrev Rest : Fml
+  Rest = fsep (around X b o d.slots from len) (fsep ((Mark X).own_val (tt, tt) us) (cell_at full_share (Seen X).mir us rb ro))
+
+  back : d.at ≡ block_ptr b o → AreSmall X d → from + len ≤ length d.slots
+      → (ws : List X.Denot) → length ws ≡ len → ent 𝓤 (sep 𝓤 (sem 𝓛 (cells (mem (R X)) ws b (from * type_size (R X) + o))) (sem 𝓛 Rest)) (sem 𝓛 ((mem (Seen X)).own_at (new ws) rb ro))
+  unfolding part_of
+  back lies fit within ws long =
+      let held = take len (cut from d.slots) in let behind = cut (from + len) d.slots in let at = from * type_size (R X) + o in
+      let many : length (map Some ws) ≡ len = length-map ws Some ∙ long in
+      let all : refill len held (map Some ws) ≡ map Some ws = take_front (map Some ws) (cut (length (map Some ws)) held) len many in
+      let same : length (new ws).slots ≡ length d.slots =
+      ap (λ l. length (take from d.slots ++ (l ++ behind))) all ∙ omega (arith, many, length-append (take from d.slots) (map Some ws ++ behind), length-append (map Some ws) behind, length-take from d.slots, length-drop (from + len) d.slots) in
+      qed 𝓛 (‵ (cells (mem (R X)) ws b at) ∷ ‵ Rest ∷ []) ∵ use1 𝓛 (‵ (row (R X) b at (map Some ws))) (of_cells X b 𝓛 ws at) $ move ! (1 ∷ []) $ fsplit3 ! $ move ! (3 ∷ 0 ∷ []) $
+      use2 𝓛 (‵ (row (R X) b o (take from d.slots ++ (map Some ws ++ behind)))) (stretch_in X b 𝓛 d.slots from len o (map Some ws) (omega arith) many) $
+      rewrite ! 0 (λ (l : List _). ‵ (row (R X) b o (take from d.slots ++ (l ++ behind)))) (sym all) refl $
+      flt_i ! (length (new ws).slots * type_size (R X)) (2 ^ 63) (subst (λ (k : ℕ). k * type_size (R X) < 2 ^ 63) (sym same) fit) $ fjoin ! $
+      rewrite ! 0 (λ (p : Ptr). ‵ (owned (R X) p (new ws).slots)) (sym lies) refl $ move ! (1 ∷ 0 ∷ []) $ fjoin ! $
+      move ! (1 ∷ 0 ∷ []) $ fjoin ! $ fpack ! (List Val) (λ vs. fsep (cell_at full_share (Seen X).mir vs rb ro) ((Seen X).own_val (new ws) vs)) us $ done !
+
+pub slice_mut_spec : {M : Type 1} → statement M
+slice_mut_spec 𝓤 𝓛 𝓜 𝓡 wired X L =
+    let clauses = contract.clauses X 𝓛 𝓜.mem 𝓡.returns in
+    let given = layouts (a_type ∷ []) (X, tt) in let fn : Fn = inst_fn given code.function in
+    let 𝓣 = tables 𝓤 𝓛.H 𝓜 𝓡 𝓡.env in
+    proved_at 𝓛 (contract.ended X) (stayed X) clauses 𝓜 𝓡 (
+      Goes-spent_ref 𝓛 2 (0 ∷ []) tt (plain (λ _. Seen X)),
+      (
+        Goes-dropped 𝓛 2 (plain (λ _. RawPtr)) yes (λ κs x w. refl),
+        (
+          Goes-dropped 𝓛 2 (plain (λ _. usize)) yes (λ κs x w. refl),
+          (Goes-dropped 𝓛 2 (plain (λ _. usize)) yes (λ κs x w. refl), tt),
+        ),
+      ),
+    )
+    (contract.Key.name given) fn (code.unfolded 𝓤 𝓛.H 𝓜 𝓡 wired (X, tt)) (λ y _.
+    let κs = y.0.0 in let qs = y.0.1 in let a = y.0.3 in let vss = y.0.4 in let κ = κs.0 in let q = qs.0 in let γ = a.0.ghost_name in
+    let rb = a.0.ref_ptr.0 in let ro = a.0.ref_ptr.1 in let d = a.0.now in let ptr = a.1.0 in let from = a.1.1.0 in let len = a.1.1.1.0 in let bytes = type_size (R X) in
+    let Post : Val → SProp 𝓤 = (walk_of 𝓛 (contract.ended X) (stayed X) clauses).post y in
+    qed 𝓛 (((‵ (flft κ q) ⊛ ‵ (flft κs.1.0 qs.1.0) ⊛ ‵ ftrue)
+    ⊛ ‵ ((MutRef (named 0) κ (Seen X)).own_val a.0 vss.0) ⊛ ‵ (RawPtr.own_val ptr vss.1.0) ⊛ ‵ (usize.own_val from vss.1.1.0) ⊛ ‵ (usize.own_val len vss.1.1.1.0) ⊛ ‵ ftrue)
+    ∷ (raw (fact 𝓤 (κs.1.0 ⊑ X.lives)) ⊛ raw (fact 𝓤 (ptr ≡ d.at)) ⊛ raw (fact 𝓤 (IsFullStretch d.slots from len))) ∷ []) ∵
+    move ! (1 ∷ []) $ split ! $ drop ! $ split ! $ heard ! _ (λ same. heard ! _ (λ full.
+    split ! $ split ! $ move ! (2 ∷ []) $ split3 ! $ fsplit3 ! $ feq_l ! (λ refers.
+    move ! (2 ∷ []) $ feq_l ! (λ pointed. move ! (2 ∷ []) $ split3 ! $ fsplit ! $ feq_l ! (λ from_is. flt_l ! (λ fits_from. fsplit ! $ feq_l ! (λ len_is. flt_l ! (λ fits_len.
+    regoal ! (λ (ws : List Val × List Val × List Val × List Val). prop (WpFn 𝓤 𝓛.H 𝓣.C 𝓣.Λ fn (ws.0 ++ (ws.1 ++ (ws.2 ++ (ws.3 ++ [])))) Post)) (λ i. (refers i, pointed i, from_is i, len_is i)) refl $
+    keep ! (1 ∷ 2 ∷ 3 ∷ 4 ∷ []) $
+    enter ! _ _ _ _ _ $ alloc_all ! (λ l. pass_all ! refl ((tt, tt), (pointer_good ptr, ((tt, record { fits = fits_from }), ((tt, record { fits = fits_len }), tt)))) $
+    slots_opened X ! tt d rb ro (λ us b o lies fit.
+    let xs : List X.Denot = full.1.0 in let holds = full.1.1 in
+    let long = stretch_long d.slots from len xs full.0 holds in
+    let fits = stretch_fits from len (length d.slots) bytes full.0 fit in
+    let at : ℕ = from * bytes + o in
+    let rest = Rest X 𝓛 d us b o rb ro from len in let out = new X 𝓛 d us b o rb ro from len in
+    let roomy : length xs < 2 ^ 64 = rw long fits_len in let fitting : length xs * bytes < 2 ^ 63 = rw long fits.1 in
+    let way : (ws : List X.Denot) → length ws ≡ length xs → ent 𝓤 (sep 𝓤 (sem 𝓛 (cells (mem (R X)) ws b at)) (sem 𝓛 rest)) (sem 𝓛 ((mem (Seen X)).own_at (out ws) rb ro)) =
+    λ ws e. back X 𝓛 d us b o rb ro from len lies fit full.0 ws (e ∙ long) in
+    let was = (Seen X).coded.code d in
+    take_at ! 2 $ rewrite ! 0 (λ (p : Ptr). ‵ (fat full_share ty_ptr (l 2) 0 (ptr_val p))) (same ∙ lies) refl $ give_at ! 2 $
+    first ! $ blocks ! $
+    sets ! (is ! (bin ! (get ! refl) (size_word !) (record { fits = rw (product_is from bytes fits.0) fits.0 })) (ap (vint w64) (product_is from bytes fits.0))) refl (tt, record { fits = fits.0 }) $
+    sets ! (bin ! (get ! refl) (get ! refl) tt) refl (tt, tt) $
+    sets_last ! (agg ! (and_then ! (get ! refl) (and_then ! (get ! refl) (no_more !)))) refl (tt, (tt, (record { fits = fits_len }, tt))) $
+    exec ! 𝓣.C 𝓣.Λ (env fn.locals l) (after 1 fn.body) (at_ret _ Post) $ sets ! (of_opd ! (get ! refl)) refl (tt, (tt, (record { fits = fits_len }, tt))) $
+    use1 𝓛 (‵ (row (R X) b at (take len (cut from d.slots))) ⊛ ‵ (around X b o d.slots from len)) (stretch_out X b 𝓛 d.slots from len o full.0) $ split ! $
+    rewrite ! 0 (λ (cs : List _). ‵ (row (R X) b at cs)) holds refl $ use1 𝓛 (‵ (cells (mem (R X)) xs b at)) (to_cells X b 𝓛 xs at) $
+    -- [the items; the other slots; the mark; its cell; the open borrow, in three entries; the other tokens]
+    move ! (1 ∷ 2 ∷ 3 ∷ []) $ fjoin3 ! $ move ! (2 ∷ 3 ∷ 4 ∷ 1 ∷ 0 ∷ []) $ group ! 5 $
+    use1 𝓛 (later (some (λ (δ : GName). ‵ ((MutSlice (named 0) κ (R X)).own_val (record { ref_ptr = (b, at); ghost_name = δ; now = xs }) (slice_val (b, at) (length xs) ∷ [])) ⊛ ‵ (flft κ q) ⊛ ‵ (follows (Seen X) (Array (R X) 0) γ δ out))))
+    (lends_Elements 𝓛 (Seen X) (R X) out (named 0) κ q rb ro b at γ xs (roomy, fitting) (sem 𝓛 rest) way was was) $ await ! tt $ pick ! (λ δ. split3 ! $
+    rewrite ! 0 (λ (k : ℕ). ‵ ((MutSlice (named 0) κ (R X)).own_val (record { ref_ptr = (b, at); ghost_name = δ; now = xs }) (slice_val (b, at) k ∷ []))) long refl $
+    returns ! (look_at ! 0 refl) $ free_all ! refl $
+    suffices ! _ (ends_at 𝓛 (contract.ended X) (stayed X) clauses y (slice_val (b, at) len) (record { ref_ptr = (b, at); ghost_name = δ; now = xs }) (tt, (tt, (tt, (tt, tt)))) (tt, (tt, (tt, (tt, tt))))) $
+    -- [the reference; its token; what the slots end as; the other tokens]
+    move ! (1 ∷ 3 ∷ []) $ join ! $ nothing ! $ nothing ! $ join ! $ nothing ! $ join ! $ nothing ! $ join ! $ nothing ! $ join ! $ move ! (1 ∷ 0 ∷ 2 ∷ []) $ group ! 3 $ frame ! $ says ! holds $ done !))))))))))))
