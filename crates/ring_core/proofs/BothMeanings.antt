@@ -4,7 +4,7 @@ use Rattle.ring_core.proofs.Words.{◌≡◌, ℕ, zero, suc, ◌+◌, ◌-◌, 
 use Rattle.ring_core.proofs.Items.{slice_get-append_left, slice_get-drop, slice_get-take}
 use Rattle.ring_core.proofs.Limits.{keep_last-keep_last, keep_last_within}
 use Rattle.ring_core.proofs.RunParts.{after_all-append}
-use Rattle.ring_core.proofs.HeldRange.{IsRoom, IsWithin-drop, IsWindow-held, first, first_next, head-first, held_numbers-between, pushed-append, pushed-take_more, pushed_by, removed-first, between}
+use Rattle.ring_core.proofs.HeldRange.{IsRoom, IsWithin-drop, IsRange-held, first, first_next, head-first, held_numbers-between, pushed-append, pushed-take_more, pushed_by, removed-first, between}
 
 -- The items from number f on, by induction on their count.
 items-from : {A : Type 0} (xs : List A) (f m : ℕ) → length xs ≡ f + m → filter_map (slice_get xs) (range_with_len f m) ≡ drop f xs
@@ -81,7 +81,7 @@ module _ {T : Type 0} (limit : Option ℕ) (start : List T) (ss : List (Step T))
   left_by-more : (k : ℕ) (s : Step T) (rest : List (Step T)) → drop k ss ≡ s ∷ rest → left_by (k + 1) ≡ after_step limit (left_by k) s
   unfolding left_by
   left_by-more k s rest at =
-      let w = IsWindow-held limit start ss within k in
+      let w = IsRange-held limit start ss within k in
       let so_far = all_items start (take k ss) in
       let is : slice_get ss k ≡ Some s = sym (rw add-zero at (slice_get-drop k 0 ss)) ∙ ap (λ l. slice_get l 0) at in
       let count : length so_far ≡ number start ss k = length-append start (pushed (take k ss)) in
@@ -92,7 +92,7 @@ module _ {T : Type 0} (limit : Option ℕ) (start : List T) (ss : List (Step T))
   left_by-pushes : (k : ℕ) (xs : List T) (rest : List (Step T)) → drop k ss ≡ map pushes xs ++ rest → left_by (k + length xs) ≡ keep_last limit (left_by k ++ xs)
   unfolding left_by
   left_by-pushes k [] rest at =
-      let room = rw (← length-append start (pushed (take k ss))) at (IsWindow-held limit start ss within k).room in
+      let room = rw (← length-append start (pushed (take k ss))) at (IsRange-held limit start ss within k).room in
       rw (add-zero, append-nil) (sym (keep_last_within limit (left_by k) ((IsWithin-drop limit _ _).1 room)))
   left_by-pushes k (x ∷ xs) rest at =
       let after : drop (k + 1) ss ≡ map pushes xs ++ rest = sym (drop-drop 1 k ss) ∙ ap (drop 1) at in
@@ -130,7 +130,7 @@ overwritten-left : {T : Type 0} (limit : Option ℕ) (start : List T) (ss : List
 unfolding left_by
 overwritten-left None start ss within k = refl
 overwritten-left (Some c) start ss within k =
-    let w = IsWindow-held (Some c) start ss within k in
+    let w = IsRange-held (Some c) start ss within k in
     let n = number start ss k in
     let so_far = all_items start (take k ss) in
     rw (w.is (n - c), items_so_far start ss k) (overwritten-held c (first (Some c) start ss k) n so_far (pushed (drop k ss)) (length-append start (pushed (take k ss))) w.order w.room)
@@ -161,7 +161,7 @@ module _ {T : Type 0} (limit : Option ℕ) (start : List T) (cs : List (Command 
   -- A run leaves a list within the limit, as the range is.
   pub IsWithin-after_all : IsWithin (after_all limit start cs) limit
   IsWithin-after_all =
-      let room = rw (← length-all_items) at (IsWindow-held limit start (steps cs) within (length (steps cs))).room in
+      let room = rw (← length-all_items) at (IsRange-held limit start (steps cs) within (length (steps cs))).room in
       rw after_all-drop ((IsWithin-drop limit _ _).1 room)
 
   -- The items with held numbers are what the commands leave in turn.
@@ -169,7 +169,7 @@ module _ {T : Type 0} (limit : Option ℕ) (start : List T) (cs : List (Command 
   contents_after-all =
       let ss = steps cs in
       let f = first limit start ss (length ss) in
-      let order = (IsWindow-held limit start ss within (length ss)).order in
+      let order = (IsRange-held limit start ss within (length ss)).order in
       let kept = items-from (all_items start ss) f (number start ss (length ss) - f) (omega (arith, length-all_items)) in
       rw (held_numbers-between limit start ss within (length ss), kept) (sym after_all-drop)
 
@@ -200,7 +200,7 @@ module _ {T : Type 0} (limit : Option ℕ) (start : List T) (cs : List (Command 
   -- No more items were pushed or removed than there are.
   pub ChangesFewSlots-twice : (before after : ℕ) → ChangesFewSlots limit start (steps cs) before after → after ≤ before + 2 * length (all_items start (steps cs))
   ChangesFewSlots-twice before after (grows, most) =
-      let order = (IsWindow-held limit start (steps cs) within (length (steps cs))).order in
+      let order = (IsRange-held limit start (steps cs) within (length (steps cs))).order in
       let few = removed-first limit start (steps cs) within in
       let sum = length-append start (pushed (steps cs)) in
       omega (arith, length-all_items)

@@ -29,7 +29,7 @@ Took {S} {A} steps it xs r = MatchResult r (λ _. Drains steps it xs) (λ _. (x 
 
 module _ {S A : Type 0} {steps : S → Option A → S → Type 0} {all : List A} where
   -- what a source gave before one item more is a cut beginning of the list that it shows
-  pub IsCut-given : {s : S} (xs : List A) (x : A) (u : S) → YieldsThen steps s xs (Some x) u → YieldsList steps (λ x. x) s all → IsCut all xs
+  IsCut-given : {s : S} (xs : List A) (x : A) (u : S) → YieldsThen steps s xs (Some x) u → YieldsList steps (λ x. x) s all → IsCut all xs
   IsCut-given xs x u (t, given, more) yields = ((YieldsList-turn yields xs t given (Some x) u x refl more).0, sym (map-id xs) ∙ YieldsList-so_far yields xs t given)
 
   module _ {E : Type 0} {s : S} (xs : List A) (limit : Option ℕ) (old new : List A) where

@@ -59,24 +59,24 @@ abbrev pub IsRoom : Option ℕ → ℕ → ℕ → Type 0
 IsRoom limit f n = IfSome limit (λ capacity. (0 < capacity) × (n ≤ f + capacity))
 
 -- the set is the range from f to n
-pub record IsWindow (limit : Option ℕ) (set : ℕ → Bool) (f n : ℕ) : Type 0 where
+pub record IsRange (limit : Option ℕ) (set : ℕ → Bool) (f n : ℕ) : Type 0 where
   pub order : f ≤ n
   pub room : IsRoom limit f n
   pub is : (i : ℕ) → set i ≡ between f n i
 
 -- One more step makes a range of a range.
-IsWindow-next : {T : Type 0} (limit : Option ℕ) (set : ℕ → Bool) (f n : ℕ) (step : Option (Step T)) → IsWindow limit set f n
-    → IsWindow limit (held_next limit n set step) (first_next limit n f step) (n + length (pushed_by step))
-IsWindow-next limit set f n None w = rw add-zero w
-IsWindow-next None set f n (Some (pushes x)) w = record { order = omega arith; room = tt; is = λ i. rw (w.is i) (grind (arith, nat_tests)) }
-IsWindow-next (Some capacity) set f n (Some (pushes x)) w =
+IsRange-next : {T : Type 0} (limit : Option ℕ) (set : ℕ → Bool) (f n : ℕ) (step : Option (Step T)) → IsRange limit set f n
+    → IsRange limit (held_next limit n set step) (first_next limit n f step) (n + length (pushed_by step))
+IsRange-next limit set f n None w = rw add-zero w
+IsRange-next None set f n (Some (pushes x)) w = record { order = omega arith; room = tt; is = λ i. rw (w.is i) (grind (arith, nat_tests)) }
+IsRange-next (Some capacity) set f n (Some (pushes x)) w =
     record { order = omega arith; room = (w.room.0, omega (arith, w.room.1)); is = λ i. rw (w.is i) (grind (arith, nat_tests)) }
-IsWindow-next limit set f n (Some takes) w = record {
+IsRange-next limit set f n (Some takes) w = record {
   order = omega arith;
   room = IfSome_then limit w.room (λ c r. (r.0, omega (arith, r.1)));
   is = λ i. rw (add-zero, some_below-between set f n w.is i, w.is i) (grind (arith, nat_tests));
 }
-IsWindow-next limit set f n (Some clears) w = record {
+IsRange-next limit set f n (Some clears) w = record {
   order = omega arith;
   room = IfSome_then limit w.room (λ c r. (r.0, omega (arith, r.1)));
   is = λ i. rw add-zero (grind (arith, nat_tests));
@@ -134,22 +134,22 @@ module _ {T : Type 0} (limit : Option ℕ) (start : List T) (ss : List (Step T))
   number-suc k = rw (pushed-take_more ss k) (omega (arith, length-append (pushed (take k ss)) (pushed_by (slice_get ss k))))
 
   -- By induction on the number of steps.
-  pub IsWindow-held : (k : ℕ) → IsWindow limit (held limit start ss k) (first limit start ss k) (number start ss k)
-  IsWindow-held zero =
+  pub IsRange-held : (k : ℕ) → IsRange limit (held limit start ss k) (first limit start ss k) (number start ss k)
+  IsRange-held zero =
       record { order = omega arith; room = rw add-zero ((IsWithin-drop limit 0 start).0 within); is = λ i. grind (arith, nat_tests) }
-  IsWindow-held (suc k) = rw (number-suc k) (IsWindow-next limit _ _ _ (slice_get ss k) (IsWindow-held k))
+  IsRange-held (suc k) = rw (number-suc k) (IsRange-next limit _ _ _ (slice_get ss k) (IsRange-held k))
 
   -- The least of a range's numbers is its first.
   pub head-first : (k : ℕ) → head limit start ss k ≡ first limit start ss k
   head-first k =
-      let w = IsWindow-held k in
+      let w = IsRange-held k in
       let at_end = least-between (held limit start ss k) (first limit start ss k) (number start ss k) w.is (number start ss k) in
       omega (arith, at_end (omega arith), w.order)
 
   -- The held numbers, listed.
   pub held_numbers-between : (k : ℕ) → held_numbers limit start ss k ≡ range_with_len (first limit start ss k) (number start ss k - first limit start ss k)
   held_numbers-between k =
-      let w = IsWindow-held k in
+      let w = IsRange-held k in
       let all : min (number start ss k) (number start ss k) ≡ number start ss k = omega arith in
       rw all at (filter-between (held limit start ss k) (first limit start ss k) (number start ss k) (number start ss k) w.is)
 
@@ -157,15 +157,15 @@ module _ {T : Type 0} (limit : Option ℕ) (start : List T) (ss : List (Step T))
 
   -- One step moves the range's beginning on, at most to the number of the next push.
   first-suc : (k : ℕ) → (first limit start ss k ≤ first limit start ss (suc k)) × (first limit start ss (suc k) ≤ number start ss k)
-  first-suc k = first_next-bounds limit _ _ (slice_get ss k) (IsWindow-held k).order (IsWindow-held k).room
+  first-suc k = first_next-bounds limit _ _ (slice_get ss k) (IsRange-held k).order (IsRange-held k).room
 
   -- A step removes what it moves the range past.
   removes-between : (k i : ℕ) → removes limit start ss k i ≡ between (first limit start ss k) (first limit start ss (suc k)) i
   removes-between k i =
       let (moves, order) = first-suc k in
       let grows : number start ss k ≤ number start ss (suc k) = omega (arith, number-suc k) in
-      let next = (IsWindow-held (suc k)).is i in
-      rw ((IsWindow-held k).is i, next) (grind (arith, nat_tests))
+      let next = (IsRange-held (suc k)).is i in
+      rw ((IsRange-held k).is i, next) (grind (arith, nat_tests))
 
   -- The same, as an order.
   removes-moves : (k i : ℕ) → IsTrue (removes limit start ss k i) ↔ ((first limit start ss k ≤ i) × (i < first limit start ss (suc k)))
@@ -188,14 +188,14 @@ module _ {T : Type 0} (limit : Option ℕ) (start : List T) (ss : List (Step T))
   -- The numbers that the run removed are those that its range has left behind.
   pub removed-first : removed limit start ss ≡ first limit start ss (length ss)
   removed-first =
-      let w = IsWindow-held (length ss) in
+      let w = IsRange-held (length ss) in
       rw (filter-between _ 0 (first limit start ss (length ss)) (number start ss (length ss)) (λ i. some_below-removes i (length ss)), length-range_with_len) (omega (arith, w.order))
 
   -- A push removes nothing but the number that it overwrites.
   overwrites-removes : (k i : ℕ) → IsPush ss k → IsTrue (removes limit start ss k i) → IsTrue (overwrites limit (number start ss k) i)
   overwrites-removes k i (x, is) e =
       let (low, high) = (removes-moves k i).0 e in
-      (moves-overwrites limit (first limit start ss k) (number start ss k) i x (IsWindow-held k).room low).0 (rw is at high)
+      (moves-overwrites limit (first limit start ss k) (number start ss k) i x (IsRange-held k).room low).0 (rw is at high)
 
   -- By induction on the number of steps: what no take and no clear removed is held until the push that overwrites it, whose
   -- number is n, since an earlier push has another number.
@@ -217,14 +217,14 @@ module _ {T : Type 0} (limit : Option ℕ) (start : List T) (ss : List (Step T))
   -- push nothing removed a number that the push removes; and what is left until then, it removes.
   pub KeepsToNumbers-held : KeepsToNumbers limit start ss
   KeepsToNumbers-held = record {
-    no_gap = λ k i. rw (head-first k, (IsWindow-held k).is i) (between-true (first limit start ss k) (number start ss k) i);
-    within_limit = λ k. IfSome_then limit (IsWindow-held k).room (λ c r. rw (held_numbers-between k, length-range_with_len) (omega (arith, r.1)));
+    no_gap = λ k i. rw (head-first k, (IsRange-held k).is i) (between-true (first limit start ss k) (number start ss k) i);
+    within_limit = λ k. IfSome_then limit (IsRange-held k).room (λ c r. rw (held_numbers-between k, length-range_with_len) (omega (arith, r.1)));
     removes_once = λ j k i one other. omega (arith, removes_last j k i one other, removes_last k j i other one);
     pushes_overwrite = λ k i push. (
       λ e. (overwrites-removes k i push e, λ j earlier e'. absurd (omega (arith, removes_last j k i e' e))),
       λ (over, left).
           let here = held_until k (number start ss k) i (omega arith) over left in
-          let past = (moves-overwrites limit _ (number start ss k) i push.0 (IsWindow-held k).room here).1 over in
+          let past = (moves-overwrites limit _ (number start ss k) i push.0 (IsRange-held k).room here).1 over in
           (removes-moves k i).1 (here, rw push.1 past),
     );
   }

@@ -25,14 +25,14 @@ pub map-keep_last : {A B : Type 0} (f : A → B) (n : ℕ) (xs : List A) → map
 map-keep_last f n xs = rw length-map (sym (drop-map f (length xs - n) xs))
 
 -- what stays before a pushed item does not depend on the item
-pub keep_last_before : {A : Type 0} (limit : Option ℕ) (xs : List A) → IfSome limit (λ n. 0 < n)
+keep_last_before : {A : Type 0} (limit : Option ℕ) (xs : List A) → IfSome limit (λ n. 0 < n)
     → (before : List A) × ((x : A) → keep_last limit (xs ++ x ∷ []) ≡ before ++ x ∷ [])
 keep_last_before None xs above = (xs, λ x. refl)
 keep_last_before (Some n) xs above =
     (drop (length xs + 1 - n) xs, λ x. ap (λ k. drop (k - n) (xs ++ x ∷ [])) (length-append xs (x ∷ [])) ∙ drop-append-le (length xs + 1 - n) xs (x ∷ []) (omega arith))
 
 -- position -1 names the last of some items
-pub signed_index_at-newest : {A : Type 0} (before : List A) (x : A) → signed_index_at (length (before ++ x ∷ [])) (negsuc 0) ≡ length before
+signed_index_at-newest : {A : Type 0} (before : List A) (x : A) → signed_index_at (length (before ++ x ∷ [])) (negsuc 0) ≡ length before
 signed_index_at-newest before x = rw (zero-mod (length (before ++ x ∷ []))) (omega (arith, length-append before (x ∷ [])))
 
 -- a limit that leaves an item is above zero

@@ -1,5 +1,5 @@
 -- What the contents of a ring are: a list, oldest item first, within a limit; and which index a position names.
-use Rattle.std.specs.Prelude.{◌≡◌, ℕ, ◌+◌, ◌-◌, ◌%◌, ◌<◌, ◌≤◌, List, ◌++◌, length, take, drop, slice_get, ℤ, pos, negsuc, Option, None, Some, IsSome}
+use Rattle.std.specs.Prelude.{◌≡◌, ℕ, ◌+◌, ◌-◌, ◌%◌, ◌<◌, ◌≤◌, List, [], ◌∷◌, ◌++◌, length, take, drop, slice_get, ℤ, pos, negsuc, Option, None, Some, IsSome, Result, IfErr, IfOk, IsOk}
 
 -- what a limit leaves of a list: its last items, at most `limit` of them
 abbrev pub keep_last : {A : Type 0} → Option ℕ → List A → List A
@@ -41,3 +41,14 @@ ChangesSlots a old b new put = (a ≤ b) × (b + length new ≤ a + length old +
 -- a ring with a limit changed its slots so between two of its states; nothing is said of a ring without one
 abbrev pub Counts : {A R : Type 0} → (R → Option ℕ) → (R → List A) → (R → ℕ) → R → R → ℕ → Type 0
 Counts limit contents count old new put = IsSome (limit old) → ChangesSlots (count old) (contents old) (count new) (contents new) put
+
+-- what a push of an item did to a ring, and what it returned
+pub record Pushes {A R : Type 0} (limit_of : R → Option ℕ) (contents_of : R → List A) (count_of : R → ℕ) (old new : R) (item : A)
+    (result : Result (Option A) A) : Type 0 where
+  pub overwrites : IfOk result (λ gave. gave ≡ overwritten (limit_of old) (contents_of old))
+  pub ok : IsOk result → contents_of new ≡ keep_last (limit_of old) (contents_of old ++ item ∷ [])
+  pub err : IfErr result (λ x. (x ≡ item) × (contents_of new ≡ contents_of old))
+  pub limit : limit_of new ≡ limit_of old
+  pub changes : Counts limit_of contents_of count_of old new 1
+  pub within : IsWithin (contents_of old) (limit_of old)
+  pub succeeds : IsSome (limit_of old) → IsOk result

@@ -5,7 +5,7 @@ ghost use Rattle.std.specs.Borrow.{LendsIf, sem};
 ghost use Rattle.std.specs.Iterator.{IsFiniteIterable};
 ghost use Rattle.std.specs.List.{AllZip, FoldsTo, list_any};
 ghost use Rattle.std.specs.Option.{option_copied, option_copied_mut};
-ghost use Rattle.ring_core.specs.Contents.{Counts, IsWithin, keep_last, overwritten, index_at, signed_index_at};
+ghost use Rattle.ring_core.specs.Contents.{Counts, IsWithin, Pushes, keep_last, overwritten, index_at, signed_index_at};
 ghost use Rattle.ring_core.specs.Extension.{Extends};
 
 use std::alloc::{AllocError, Global};
@@ -71,15 +71,7 @@ pub trait RingBuffer<T: Drop>: Sized {
     ///
     /// Hands `item` back where memory was refused, which no ring with a limit meets.
     fn push(&mut self, item: T) -> Result<Option<T>, T>
-        ensures overwrites { IfOk result
-            (λ old. old ≡ overwritten (limit self.old) (contents self.old)) }
-        ensures ok { IsOk result
-            → contents self.new ≡ keep_last (limit self.old) (contents self.old ++ item ∷ []) }
-        ensures err { IfErr result (λ x. (x ≡ item) × (contents self.new ≡ contents self.old)) }
-        ensures limit { limit self.new ≡ limit self.old }
-        ensures changes { Counts limit contents slot_changes self.old self.new 1 }
-        ensures within { IsWithin (contents self.old) (limit self.old) }
-        ensures succeeds { IsSome (limit self.old) → IsOk result };
+        ensures { Pushes limit contents slot_changes self.old self.new item result };
 
     /// Calls `push`.
     ///
@@ -87,15 +79,7 @@ pub trait RingBuffer<T: Drop>: Sized {
     ///
     /// As `push`.
     fn enqueue(&mut self, item: T) -> Result<Option<T>, T>
-        ensures overwrites { IfOk result
-            (λ old. old ≡ overwritten (limit self.old) (contents self.old)) }
-        ensures ok { IsOk result
-            → contents self.new ≡ keep_last (limit self.old) (contents self.old ++ item ∷ []) }
-        ensures err { IfErr result (λ x. (x ≡ item) × (contents self.new ≡ contents self.old)) }
-        ensures limit { limit self.new ≡ limit self.old }
-        ensures changes { Counts limit contents slot_changes self.old self.new 1 }
-        ensures within { IsWithin (contents self.old) (limit self.old) }
-        ensures succeeds { IsSome (limit self.old) → IsOk result }
+        ensures { Pushes limit contents slot_changes self.old self.new item result }
     {
         self.push(item)
     }

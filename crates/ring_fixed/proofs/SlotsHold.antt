@@ -24,7 +24,7 @@ straight_on start len place size i found low = sym (mod-eq_of_lt low) ∙ ap (λ
 
 module _ {X : Type 0} (slots : List (Option X)) (start : ℕ) (within : start < length slots) where
   -- what the slot at a place holds: as many places lead to it as lead on from it to the start, counted round
-  pub SlotsHold-at : (xs : List X) → SlotsHold slots start xs → (place : ℕ) → place < length slots → get_or slots place None ≡ slice_get xs ((place + (length slots - start)) % length slots)
+  SlotsHold-at : (xs : List X) → SlotsHold slots start xs → (place : ℕ) → place < length slots → get_or slots place None ≡ slice_get xs ((place + (length slots - start)) % length slots)
   SlotsHold-at xs lie place here =
       let size = length slots in let far : ℕ = place + (size - start) in
       let there : (start + far % size) % size ≡ place = add-mod-mod start far size ∙ ap (λ n. n % size) {x = start + far} {y = place + size} (omega arith) ∙ add-mod_right place size ∙ mod-eq_of_lt here in

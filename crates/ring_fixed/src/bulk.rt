@@ -186,9 +186,9 @@ impl<T: Drop, S: RingSlots<T>> Fixed<T, S> {
             → LaysOut S.is_size (S.seen slots.old) (S.seen slots.new) start
             (after_truncate from (view_from (S.seen slots.old) start)) }
     {
-        let to_end = slots.size() - start;
-        Self::empty_stretch(slots, start + from.min(to_end), start + to.min(to_end));
-        Self::empty_stretch(slots, from.saturating_sub(to_end), to.saturating_sub(to_end));
+        let first = slots.size() - start;
+        Self::empty_stretch(slots, start + from.min(first), start + to.min(first));
+        Self::empty_stretch(slots, from.saturating_sub(first), to.saturating_sub(first));
     }
 
     // Drops the items of slots side by side.

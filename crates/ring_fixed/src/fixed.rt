@@ -133,9 +133,10 @@ impl<T: Drop, S: RingSlots<T>> Fixed<T, S> {
         if len == 0 {
             return None;
         }
-        let item = Self::take_last(&mut self.slots, self.start, len - 1);
-        self.len = len - 1;
-        Some(item)
+        let last = len - 1;
+        let place = self.slots.place(self.start, last);
+        self.len = last;
+        Some(self.slots.take(place))
     }
 
     /// Returns the item at an index below the length.
@@ -244,18 +245,5 @@ impl<T: Drop, S: RingSlots<T>> Fixed<T, S> {
     {
         let next = slots.next(start);
         (next, slots.take(start))
-    }
-
-    // Takes the last item, which is the one at this index.
-    #[inline]
-    fn take_last(slots: &mut S, start: usize, last: usize) -> T
-        requires laid_out { IsLaidOut S.is_size (S.seen slots.old) start }
-        requires last { last + 1 ≡ length (view_from (S.seen slots.old) start).items }
-        ensures value { slice_get (view_from (S.seen slots.old) start).items last ≡ Some result }
-        ensures after { LaysOut S.is_size (S.seen slots.old) (S.seen slots.new) start
-            (after_pop (view_from (S.seen slots.old) start)) }
-    {
-        let place = slots.place(start, last);
-        slots.take(place)
     }
 }

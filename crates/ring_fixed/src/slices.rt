@@ -58,7 +58,9 @@ impl<T: Drop> Fixed<T, HeapSlots<T>> {
         let moved = self.gather();
         let (start, len) = (self.start, self.len);
         let changes = self.slots.changes().after(len);
-        self.slots.slice_mut(start, len, changes).rotate_right(moved);
+        self.slots
+            .slice_mut(start, len, changes)
+            .rotate_right(moved);
     }
 
     // Moves items from the front behind the last until all lie side by side. Returns how many it moved.

@@ -102,6 +102,7 @@ impl<T: Drop, const CAP: usize> RingSlots<T> for ArraySlots<T, CAP> {
 
     #[inline]
     fn size(&self) -> usize {
+        // For the proof: of `self.cells.xs.len()` only `CAP` is known.
         let cells = &self.cells;
         cells.xs.len()
     }

@@ -17,9 +17,7 @@ use ring_core::{
     RingBuffer, RingBufferDrainingIterator, RingBufferIntoIterator, RingBufferIterator,
     RingBufferMutIterator,
 };
-use ring_fixed::{
-    Fixed, clone_slices, copy_slices, index_at, same_in_slices, signed_index_at,
-};
+use ring_fixed::{Fixed, clone_slices, copy_slices, index_at, same_in_slices, signed_index_at};
 use ring_slots::{HeapSlots, RingSlots};
 use std::alloc::{AllocError, Global};
 use std::fmt::{self, Debug, Formatter, Write};
@@ -188,7 +186,11 @@ impl<T: Drop> RingBuffer<T> for AllocRingBuffer<T> {
     }
 
     fn fill_with<F: FnMut() -> T + Drop>(&mut self, make: F) -> Result<(), AllocError> {
-        replace_with(&mut self.ring, (make, self.capacity), Fixed::fill_with_owned);
+        replace_with(
+            &mut self.ring,
+            (make, self.capacity),
+            Fixed::fill_with_owned,
+        );
         Ok(())
     }
 
