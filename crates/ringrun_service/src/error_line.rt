@@ -12,6 +12,7 @@ use std::io::{ErrorKind, Write};
 const ROOM: usize = 64;
 
 /// A line in the making.
+#[derive(Drop)]
 struct Line {
     bytes: [u8; ROOM],
     len: usize,
