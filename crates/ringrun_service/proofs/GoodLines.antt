@@ -35,7 +35,7 @@ front_low b (bs ∷ parts) low = (low.0.0, (low.0.1, low.1))
 
 -- a list that is cut at bytes below 128
 whole_low : (cuts : ℕ → Bool) → ((b : ℕ) → cuts b ≡ true → b < 128) → (bs : List ℕ) → AllLow (slice_split cuts bs) → Low bs
-whole_low cuts small [] low = tt
+whole_low cuts small [] = λ low. tt
 whole_low cuts small (b ∷ bs) = by_cases (cuts b)
     (λ h. rw h (λ low. (small b h, whole_low cuts small bs low.1)))
     (λ h. rw h (λ low. let both = front_low b (slice_split cuts bs) low in (both.0, whole_low cuts small bs both.1)))
@@ -56,14 +56,14 @@ digit_low : (b : ℕ) → is_digit b 10 ≡ true → b < 128
 digit_low b h = grind (arith, nat_tests)
 
 digits_low : (bs : List ℕ) → list_all (λ b. is_digit b 10) bs ≡ true → Low bs
-digits_low [] h = tt
+digits_low [] = λ h. tt
 digits_low (b ∷ bs) = by_cases (is_digit b 10) (λ k. rw k (λ h. (digit_low b k, digits_low bs h))) (λ k. rw k (λ h. absurd (cc)))
 
 sign_low : (n b : ℕ) → n < 128 → eqb b n ≡ true → b < 128
 sign_low n b small h = grind (arith, nat_tests)
 
 signed_low : (word : List ℕ) → Low (without_leading_sign word) → Low word
-signed_low [] low = tt
+signed_low [] = λ low. tt
 signed_low (b ∷ bs) = by_cases (eqb b 45)
     (λ h. rw h (λ low. (sign_low 45 b (omega arith) h, low)))
     (λ h. by_cases (eqb b 43) (λ k. rw (h, k) (λ low. (sign_low 43 b (omega arith) k, low))) (λ k. rw (h, k) (λ low. low)))

@@ -81,7 +81,7 @@ impl<'a> Script<'a> {
         ensures read { OnOk result (length self.new.rest.now ≡ 0) }
     {
         while !self.rest.is_empty() {
-            let _ = self.read_line(alloc, false)?;
+            drop(self.read_line(alloc, false)?);
         }
         Ok(())
     }

@@ -5,16 +5,6 @@ use Rattle.ringrun_service.specs.Rest.{script_left}
 use Rattle.ringrun_service.specs.Script.{with_front}
 use Rattle.ringrun_service.proofs.script.Script.check.Goals as goal
 
-pub loop-alloc-preserved-in_ok-read_line : goal.loop-alloc-preserved-in_ok-read_line
-loop-alloc-preserved-in_ok-read_line c =
-    let line = c.in_ok-read_line.ensures in let read = c.loop-alloc.invariant.read in
-    record { rest = line.rest; read = (read.0 ++ line.passed.0, step_passed _ read.0 _ line.passed.0 _ read.1 line.passed.1) }
-
-pub loop-alloc-preserved-in_ok-read_line-2 : goal.loop-alloc-preserved-in_ok-read_line-2
-loop-alloc-preserved-in_ok-read_line-2 c =
-    let line = c.in_ok-read_line.ensures in let read = c.loop-alloc.invariant.read in
-    record { rest = line.rest; read = (read.0 ++ line.passed.0, step_passed _ read.0 _ line.passed.0 _ read.1 line.passed.1) }
-
 pub loop-alloc-preserved : goal.loop-alloc-preserved
 loop-alloc-preserved c =
     let line = c.in_ok-read_line.ensures in let read = c.loop-alloc.invariant.read in
