@@ -1,11 +1,10 @@
 -- How a run of the program ends, from how its parts did.
-use Rattle.std.proofs.Common.{◌≡◌, ◌↔◌, ℕ, ℤ, List, ◌++◌, Option, Some, None, Result, Ok, Err, IfErr, IfSome, refl, sym, ap, subst, ◌∙◌}
+use Rattle.std.proofs.Common.{◌≡◌, ◌↔◌, ℕ, ℤ, List, Option, Some, None, Result, Ok, Err, IfErr, IfSome, refl, sym, ap, subst, ◌∙◌}
 use Rattle.std.specs.Io.KnownBytes.{Appends}
 use Rattle.std.specs.Result.{IsOk, OnOk}
 use Rattle.ringbuffer.specs.declared.Command.{Command}
-use Rattle.ringrun_service.specs.Fault.{status_of, IfNotACommand, NamesALine}
+use Rattle.ringrun_service.specs.Fault.{IfNotACommand}
 use Rattle.ringrun_service.specs.Program.{limit_of, printed_for, Answers, IsBad, Prints, Writes}
-use Rattle.ringrun_service.specs.Script.{script_of, with_front}
 use Rattle.ringrun_service.specs.Arguments.{AsksFor}
 use Rattle.ringrun_service.specs.declared.arguments.Arguments.{Arguments}
 use Rattle.ringrun_service.specs.declared.arguments.Kind.{Kind}

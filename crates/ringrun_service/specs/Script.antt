@@ -1,7 +1,8 @@
 -- The grammar of scripts: which bytes are which commands.
 --
 -- Lines end with a line feed, which the last may lack. The words of a line stand between runs of spaces, tabs, form feeds
--- and carriage returns. A line without words is no command. Else its first word names one, and the others are numbers.
+-- and carriage returns. A line without words is no command. Else its first word names one, and the others are numbers. So a good
+-- line is ASCII (`line_is_text` in proofs/GoodLines.antt).
 use Rattle.std.specs.Prelude.{ℕ, ◌+◌, ◌-◌, ◌^◌, ◌<◌, ◌==◌, ◌||◌, ◌&&◌, nat_lt, Bool, List, [], ◌∷◌, ◌++◌, length, take, filter, ℤ, pos, negsuc, Option, None, Some, Result, Ok, Err, Vec, codes, if◌then◌else◌, refl}
 use Rattle.std.specs.Char.{is_digit}
 use Rattle.std.specs.Global.{Global}

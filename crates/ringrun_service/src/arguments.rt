@@ -14,11 +14,11 @@ pub enum Kind {
     Array,
     /// A ring on the heap, of any capacity above zero.
     Heap,
-    /// A growable ring, with room for so many items at first.
+    /// A growable ring, with room for `capacity` items at first.
     Grow,
 }
 
-/// The ring that the program's arguments ask for, which may be one that it has not.
+/// The ring that the program's arguments ask for. The program may lack it.
 #[derive(Clone, Copy, Debug, PartialEq, Eq)]
 pub struct Arguments {
     pub kind: Kind,

@@ -35,7 +35,7 @@ impl Write for Line {
     }
 }
 
-/// Writes the fault's line to `errors`.
+/// Writes the line of `fault` to `errors`.
 ///
 /// # Errors
 ///

@@ -24,7 +24,7 @@ pub enum Fault {
 }
 
 impl Fault {
-    /// `NoMemory` where the error says that memory was refused, as one of `read_to_end` may, and else `failed`.
+    /// Returns `NoMemory` where `error` says that memory was refused, as one of `read_to_end` may, and else `failed`.
     pub fn from_error(error: &io::Error, failed: Fault) -> Fault
         ensures memory { error_kind error.now ≡ ErrorKind.OutOfMemory → result ≡ Fault.NoMemory }
         ensures other { error_kind error.now ≢ ErrorKind.OutOfMemory → result ≡ failed }
@@ -36,7 +36,7 @@ impl Fault {
         }
     }
 
-    /// The status that the program ends with.
+    /// Returns the status that the program ends with.
     pub fn status(self) -> u8
         ensures { result ≡ status_of self }
     {

@@ -7,7 +7,7 @@ ghost use Rattle.ringrun_service.specs.Report.{item_text, items_line, reply_line
 use ringbuffer::{Reply, RingBuffer, RingBufferIterator};
 use std::alloc::AllocError;
 
-/// Puts a line for each reply at the text's end.
+/// Puts a line for each of `replies` at the end of `text`.
 ///
 /// # Errors
 ///
@@ -50,7 +50,7 @@ fn push_number_line(text: &mut String, words: &str, number: &i64) -> Result<(), 
     text.push_str("\n")
 }
 
-/// Puts a line of the items that the ring holds at the text's end.
+/// Puts a line of the items that `ring` holds at the end of `text`.
 ///
 /// # Errors
 ///

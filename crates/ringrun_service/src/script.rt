@@ -29,7 +29,7 @@ pub struct Script<'a> {
 }
 
 impl<'a> Script<'a> {
-    /// Makes a script of the lines of a text.
+    /// Makes a script of the lines of `text`.
     pub fn new(text: &'a [u8]) -> Script<'a>
         ensures rest { IsRest result }
         ensures whole { script_left result ≡ script_of text.now }
@@ -41,8 +41,8 @@ impl<'a> Script<'a> {
     ///
     /// # Errors
     ///
-    /// `NotACommand` for the first line whose words are no command or whose bytes are no text, and `NoMemory` where memory
-    /// was refused before such a line. The line is then left to read.
+    /// `NotACommand` for the first line whose words are no command, and `NoMemory` where memory was refused before such a line.
+    /// The line is then left to read.
     pub fn read_batch(&mut self, alloc: Global) -> Result<Vec<Command<i64>>, Fault>
         requires { IsRest self.old }
         ensures rest { IsRest self.new }

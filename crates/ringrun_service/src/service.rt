@@ -56,7 +56,7 @@ pub fn serve<I: Read, O: Write, E: Write>(
     }
 }
 
-/// Writes the fault's line to `errors`, where that takes one, and returns the fault's status.
+/// Writes the line of `fault` to `errors`, where that takes one, and returns its status.
 pub fn end<E: Write>(fault: Fault, errors: &mut E) -> u8
     ensures status { result ≡ status_of fault }
     ensures told { Begins (E.contents errors.old) (E.contents errors.new) (line_of fault) }
@@ -272,4 +272,3 @@ fn print<O: Write>(text: &str, output: &mut O) -> Result<(), Fault>
     }
     Ok(())
 }
-

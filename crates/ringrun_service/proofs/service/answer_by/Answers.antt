@@ -1,5 +1,4 @@
 -- The line that is named is the input's first bad one.
-use Rattle.std.proofs.Common.{subst, sym}
 use Rattle.ringrun_service.proofs.Endings.{answered_bad, carried}
 use Rattle.ringrun_service.proofs.service.answer_by.Goals as goal
 
