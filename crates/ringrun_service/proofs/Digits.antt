@@ -27,7 +27,7 @@ pub to_all : (ds : List ℕ) → list_all digit ds ≡ true → AllDigits 10 ds
 to_all [] h = tt
 to_all (d ∷ ds) h = let apart = both_true (digit d) (list_all digit ds) h in (grind (arith, nat_tests), to_all ds apart.1)
 
-all_append : (xs ys : List ℕ) → list_all digit (xs ++ ys) ≡ (list_all digit xs && list_all digit ys)
+pub all_append : (xs ys : List ℕ) → list_all digit (xs ++ ys) ≡ (list_all digit xs && list_all digit ys)
 all_append [] ys = refl
 all_append (x ∷ xs) ys = elim (digit x) as (λ v. (v && list_all digit (xs ++ ys)) ≡ ((v && list_all digit xs) && list_all digit ys))
     [ true ↦ all_append xs ys | false ↦ refl ]

@@ -6,14 +6,12 @@ use Rattle.std.specs.Char.{is_digit}
 use Rattle.std.specs.List.{list_all}
 use Rattle.std.specs.Option.{option_map}
 use Rattle.std.specs.Str.Parse.{digits_value, signed_digits_value, starts_with_minus, without_leading_sign}
+use Rattle.ringrun_service.proofs.Digits.{all_append, all_digits_at, digit}
 use Rattle.ringrun_service.proofs.Lines.{by_cases, ends_word, past_word, word_at}
 use mir.Val.{bool_byte}
 use Rattle.std.proofs.lemmas.List.{take_rest}
 use Rattle.ringrun_service.specs.Reading.{after_blanks, digits_at, number_at, signed_at, signed_of, size_at, starts_blank}
 use Rattle.ringrun_service.specs.Script.{is_blank, is_i64, is_line_feed, is_some_bytes, number_of}
-
-abbrev digit : ℕ → Bool
-digit b = is_digit b 10
 
 -- a word may end here
 abbrev pub ends_here : List ℕ → Bool
@@ -34,16 +32,6 @@ digits_then_word [] = refl
 digits_then_word (b ∷ bs) = by_cases (digit b)
     (λ h. rw (h, digit_in_word b h) (ap (λ w. b ∷ w) (digits_then_word bs)))
     (λ h. rw h refl)
-
-all_digits : (text : List ℕ) → list_all digit (digits_at text) ≡ true
-unfolding digits_at
-all_digits [] = refl
-all_digits (b ∷ bs) = by_cases (digit b) (λ h. rw (h, h) (all_digits bs)) (λ h. rw h refl)
-
-all_append : (xs ys : List ℕ) → list_all digit (xs ++ ys) ≡ (list_all digit xs && list_all digit ys)
-all_append [] ys = refl
-all_append (x ∷ xs) ys = elim (digit x) as (λ v. (v && list_all digit (xs ++ ys)) ≡ ((v && list_all digit xs) && list_all digit ys))
-    [ true ↦ all_append xs ys | false ↦ refl ]
 
 -- where no word ends behind the digits, what stands there is no digit
 stray : (text : List ℕ) → ends_here (behind_digits text) ≡ false → list_all digit (word_at (behind_digits text)) ≡ false
@@ -129,11 +117,11 @@ number_of_word text =
     let word : without_leading_sign (word_at text) ≡ digits_at digits ++ word_at behind = sign_then_word text ∙ digits_then_word digits in
     by_cases (ends_here behind)
     (λ h. let whole : without_leading_sign (word_at text) ≡ digits_at digits = word ∙ ap (λ w. digits_at digits ++ w) (word_ends behind h) ∙ append-nil (digits_at digits) in
-    rw h (number_is (word_at text) (digits_at digits) whole (all_digits digits)
+    rw h (number_is (word_at text) (digits_at digits) whole (all_digits_at digits)
     ∙ ap (λ m. cond (is_some_bytes (digits_at digits)) (signed_of m (digits_value 10 (digits_at digits))) None) (minus_then_word text)
     ∙ sym (signed_is text)))
     (λ h. rw h (no_number (word_at text) (ap (list_all digit) word ∙ all_append (digits_at digits) (word_at behind)
-    ∙ ap (λ v. v && list_all digit (word_at behind)) (all_digits digits) ∙ stray digits h)))
+    ∙ ap (λ v. v && list_all digit (word_at behind)) (all_digits_at digits) ∙ stray digits h)))
 
 past_digits : (text : List ℕ) → past_word text ≡ past_word (behind_digits text)
 unfolding digits_at

@@ -1,6 +1,7 @@
 //! What the program ends with.
 
-ghost use Rattle.std.specs.Prelude.{◌≡◌, ◌<◌, IfOk, IfSome, None, map, string_bytes, vec_items};
+ghost use Rattle.std.specs.Prelude.{◌≡◌, ◌≢◌, ◌<◌, IfErr, IfOk, IsErr, map, string_bytes};
+ghost use Rattle.std.specs.IoError.{error_kind};
 ghost use Rattle.std.specs.Process.{exit_status};
 ghost use Rattle.ringrun_service.specs.Program.{Answers, Tells};
 
@@ -8,7 +9,7 @@ use crate::fault::Fault;
 use crate::service::{end, serve};
 use std::alloc::Global;
 use std::io;
-use std::io::{Eprint, Read, Write};
+use std::io::{Eprint, ErrorKind, Read, Write};
 use std::process::{ExitCode, Termination};
 
 /// The status that the program ends with. Only `run` makes one, so a `main` that returns one ends with what `run` returned.
@@ -38,6 +39,11 @@ pub fn run<I: Read, O: Write, E: Write>(
         (I.remaining input.old) (O.contents output.old) (O.contents output.new)) }
     ensures told { 0 < result.code → Tells result.code (I.remaining input.old)
         (E.contents errors.old) (E.contents errors.new) }
+    ensures refused { IfErr words
+        (λ error. error_kind error ≡ ErrorKind.OutOfMemory → result.code ≡ 3) }
+    ensures no_text { IfErr words
+        (λ error. error_kind error ≢ ErrorKind.OutOfMemory → result.code ≡ 2) }
+    ensures idle { IsErr words → (input.new ≡ input.old) × (output.new ≡ output.old) }
 {
     let code = match words {
         Ok(words) => serve(alloc, words.as_slice(), input, output, errors),
