@@ -4,6 +4,7 @@ use Rattle.std.proofs.lemmas.Bool.Decides.{nat_tests}
 use Rattle.std.proofs.Math.Nat.{pow-suc}
 use Rattle.std.proofs.Math.Seq.{take-suc}
 use Rattle.std.proofs.lemmas.List.{take-append-drop}
+use Rattle.std.proofs.lemmas.List.Folds.{list_all-append, list_all_more}
 use Rattle.std.proofs.lemmas.Str.Parse.{digits_value_short, numerals_by_value, tells_digits}
 use Rattle.std.specs.Char.{digit_value, is_digit}
 use Rattle.std.specs.List.{list_all}
@@ -27,20 +28,12 @@ pub to_all : (ds : List ℕ) → list_all digit ds ≡ true → AllDigits 10 ds
 to_all [] h = tt
 to_all (d ∷ ds) h = let apart = both_true (digit d) (list_all digit ds) h in (grind (arith, nat_tests), to_all ds apart.1)
 
-pub all_append : (xs ys : List ℕ) → list_all digit (xs ++ ys) ≡ (list_all digit xs && list_all digit ys)
-all_append [] ys = refl
-all_append (x ∷ xs) ys = elim (digit x) as (λ v. (v && list_all digit (xs ++ ys)) ≡ ((v && list_all digit xs) && list_all digit ys))
-    [ true ↦ all_append xs ys | false ↦ refl ]
-
 pub all_more : (text : List ℕ) (at : ℕ) → at < length text → list_all digit (take at text) ≡ true → digit (get_or text at 0) ≡ true → list_all digit (take (at + 1) text) ≡ true
-all_more text at l all here = rw (add-one, take-suc text at 0 l, all_append (take at text) (get_or text at 0 ∷ []), all, here) refl
+all_more text at l all here = rw (list_all_more digit text at 0 l, all, here) refl
 
 value_after-append : (n : ℕ) (xs ys : List ℕ) → digits_value_after 10 n (xs ++ ys) ≡ digits_value_after 10 (digits_value_after 10 n xs) ys
 value_after-append n [] ys = refl
 value_after-append n (x ∷ xs) ys = value_after-append (n * 10 + digit_value x) xs ys
-
-pub value_more : (text : List ℕ) (at : ℕ) → at < length text → digits_value 10 (take (at + 1) text) ≡ digits_value 10 (take at text) * 10 + digit_value (get_or text at 0)
-value_more text at l = rw (add-one, take-suc text at 0 l) (value_after-append 0 (take at text) (get_or text at 0 ∷ []))
 
 -- the digits at the front are all up to the first other byte
 pub digits_done : (text : List ℕ) (at : ℕ) → list_all digit (take at text) ≡ true → (at < length text → digit (get_or text at 0) ≡ false) → digits_at text ≡ take at text
@@ -117,15 +110,8 @@ other_value (d ∷ ds) all h = by_cases (d == 48)
     let here : 0 < digit_value d = grind (arith, nat_tests) in
     omega (arith, grows (0 * 10 + digit_value d) ds))
 
-all_drop : (k : ℕ) (ds : List ℕ) → list_all digit ds ≡ true → list_all digit (drop k ds) ≡ true
-all_drop zero ds h = h
-all_drop (suc k) [] h = refl
-all_drop (suc k) (d ∷ ds) h = all_drop k ds (both_true (digit d) (list_all digit ds) h).1
-
-all_take : (k : ℕ) (ds : List ℕ) → list_all digit ds ≡ true → list_all digit (take k ds) ≡ true
-all_take zero ds h = refl
-all_take (suc k) [] h = refl
-all_take (suc k) (d ∷ ds) h = let apart = both_true (digit d) (list_all digit ds) h in rw apart.0 (all_take k ds apart.1)
+all_parts : (k : ℕ) (ds : List ℕ) → list_all digit ds ≡ true → (list_all digit (take k ds) ≡ true) × (list_all digit (drop k ds) ≡ true)
+all_parts k ds h = both_true _ _ (sym (list_all-append digit (take k ds) (drop k ds)) ∙ ap (list_all digit) (take-append-drop k ds) ∙ h)
 
 zero_front : (p v : ℕ) → 0 * p + v ≡ v
 zero_front p v = omega arith
@@ -142,12 +128,12 @@ small_value text (inl zeros) =
     let none : digits_value 10 (take k ds) ≡ 0 = zeros_value (take k ds) zeros in
     let parts : digits_value 10 ds ≡ digits_value 10 (drop k ds) = value_parts k ds ∙ ap (λ n. n * 10 ^ length (drop k ds) + digits_value 10 (drop k ds)) none ∙ zero_front (10 ^ length (drop k ds)) (digits_value 10 (drop k ds)) in
     let left : length (drop k ds) ≤ 19 = omega (arith, length-drop k ds) in
-    subst (λ n. n < 10 ^ 19) (sym parts) (below_length (drop k ds) 19 (all_drop k ds (all_digits_at text)) left)
+    subst (λ n. n < 10 ^ 19) (sym parts) (below_length (drop k ds) 19 (all_parts k ds (all_digits_at text)).1 left)
 
 large_value : (text : List ℕ) → 19 < length (digits_at text) → list_all (λ d. d == 48) (take (length (digits_at text) - 19) (digits_at text)) ≡ false → 10 ^ 19 ≤ digits_value 10 (digits_at text)
 large_value text many other =
     let ds = digits_at text in let k = length ds - 19 in
-    let some : 0 < digits_value 10 (take k ds) = other_value (take k ds) (all_take k ds (all_digits_at text)) other in
+    let some : 0 < digits_value 10 (take k ds) = other_value (take k ds) (all_parts k ds (all_digits_at text)).0 other in
     let left : length (drop k ds) ≡ 19 = omega (arith, length-drop k ds) in
     let power : 10 ^ length (drop k ds) ≡ 10 ^ 19 = ap (λ n. 10 ^ n) left in
     at_least (digits_value 10 ds) (digits_value 10 (take k ds)) (10 ^ length (drop k ds)) (digits_value 10 (drop k ds)) (10 ^ 19) (value_parts k ds) power some

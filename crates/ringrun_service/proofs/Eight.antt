@@ -1,8 +1,11 @@
 -- Eight digits read together: as bytes, then in pairs, in fours.
 use Rattle.std.proofs.Common.{◌≡◌, ℕ, zero, suc, ◌+◌, ◌-◌, ◌*◌, ◌/◌, ◌%◌, ◌^◌, ◌<◌, ◌≤◌, ◌&&◌, Bool, true, false, cond, List, [], ◌∷◌, length, get_or, take, ◌≢◌, map, min, max, ltb, eqb, refl, sym, ap, ◌∙◌, subst, arith}
+use Rattle.std.proofs.lemmas.Bool.{agree_below_at}
 use Rattle.std.proofs.lemmas.Bool.Decides.{nat_tests}
+use Rattle.std.proofs.lemmas.Nat.{and_or_apart}
 use Rattle.std.proofs.lemmas.Nat.Bits.{bit_at_and, bit_at_cat_high, bit_at_cat_low, bit_at_or, bit_at_xor, bit_at-zero, same_from_bits}
 use Rattle.std.specs.Int.{bit_at}
+use Rattle.std.specs.Int.Bits.{and_zero_r}
 use Rattle.std.specs.List.{slice_index}
 use Rattle.std.specs.Int.RustNames.{bit_and, bit_or, bit_xor}
 use Rattle.std.specs.Char.{digit_value, is_digit}
@@ -12,17 +15,11 @@ use Rattle.ringrun_service.proofs.Lines.{by_cases}
 
 -- ---- bit by bit
 
-min_zero : (a : ℕ) → min a 0 ≡ 0
-min_zero a = omega arith
-
 least : (x y m : ℕ) → min (max x y) m ≡ 0 → min x m ≡ 0
 least x y m h = omega arith
 
 least_right : (x y m : ℕ) → min (max x y) m ≡ 0 → min y m ≡ 0
 least_right x y m h = omega arith
-
-none : (x y m : ℕ) → min x m ≡ 0 → min y m ≡ 0 → min (max x y) m ≡ 0
-none x y m h k = omega arith
 
 low_or_high : {P : Type 0} (i : ℕ) → (i < 8 → P) → (8 ≤ i → P) → P
 low_or_high i low high = by_cases (ltb i 8) (λ h. low (grind (arith, nat_tests))) (λ h. high (grind (arith, nat_tests)))
@@ -41,9 +38,6 @@ xor_cat m a n b ha hb hc = same_from_bits _ _ (λ i. low_or_high i
     (λ h. bit_at_xor (m * 2 ^ 8 + a) (n * 2 ^ 8 + b) i ∙ ap (λ x. (x + bit_at (n * 2 ^ 8 + b) i) % 2) (bit_at_cat_high m 8 a i ha h) ∙ ap (λ y. (bit_at m (i - 8) + y) % 2) (bit_at_cat_high n 8 b i hb h)
     ∙ sym (bit_at_cat_high (bit_xor m n) 8 (bit_xor a b) i hc h ∙ bit_at_xor m n (i - 8))))
 
-and_zero : (a : ℕ) → bit_and a 0 ≡ 0
-and_zero a = same_from_bits _ _ (λ i. bit_at_and a 0 i ∙ ap (min (bit_at a i)) (bit_at-zero i) ∙ min_zero (bit_at a i) ∙ sym (bit_at-zero i))
-
 -- no bit of either is in the mask, where none of both is
 either : (x y m : ℕ) → bit_and (bit_or x y) m ≡ 0 → (bit_and x m ≡ 0) × (bit_and y m ≡ 0)
 either x y m h =
@@ -52,23 +46,7 @@ either x y m h =
       same_from_bits _ _ (λ i. bit_at_and y m i ∙ least_right (bit_at x i) (bit_at y i) (bit_at m i) (both i) ∙ sym (bit_at-zero i)),
     )
 
-both_none : (x y m : ℕ) → bit_and x m ≡ 0 → bit_and y m ≡ 0 → bit_and (bit_or x y) m ≡ 0
-both_none x y m h k = same_from_bits _ _ (λ i. bit_at_and (bit_or x y) m i ∙ ap (λ n. min n (bit_at m i)) (bit_at_or x y i)
-    ∙ none (bit_at x i) (bit_at y i) (bit_at m i) (sym (bit_at_and x m i) ∙ ap (λ n. bit_at n i) h ∙ bit_at-zero i) (sym (bit_at_and y m i) ∙ ap (λ n. bit_at n i) k ∙ bit_at-zero i)
-    ∙ sym (bit_at-zero i))
-
 -- ---- byte by byte
-
--- a test of each number below another
-abbrev below : (ℕ → Bool) → ℕ → Bool
-below test zero = true
-below test (suc n) = test n && below test n
-
-at : (test : ℕ → Bool) (n : ℕ) → below test n ≡ true → (b : ℕ) → b < n → test b ≡ true
-at test zero h b l = absurd (omega arith)
-at test (suc n) h b l = let apart = both_true (test n) (below test n) h in by_cases (eqb b n)
-    (λ e. let same : n ≡ b = grind (arith, nat_tests) in subst (λ c. test c ≡ true) same apart.0)
-    (λ e. at test n apart.1 b (grind (arith, nat_tests)))
 
 abbrev top_test : ℕ → Bool
 top_test b = cond (ltb b 128) (eqb (bit_and b 128) 0) (eqb (bit_and b 128) 128)
@@ -80,13 +58,13 @@ abbrev same_test : ℕ → Bool
 same_test b = eqb (bit_and b 255) b
 
 pub tops : (b : ℕ) → b < 256 → top_test b ≡ true
-tops = at top_test 256 refl
+tops b h = agree_below_at top_test (λ _. true) 256 b refl h
 
 xors : (b : ℕ) → b < 256 → xor_test b ≡ true
-xors = at xor_test 256 refl
+xors b h = agree_below_at xor_test (λ _. true) 256 b refl h
 
 sames : (b : ℕ) → b < 256 → same_test b ≡ true
-sames = at same_test 256 refl
+sames b h = agree_below_at same_test (λ _. true) 256 b refl h
 
 -- bytes, the lowest first
 abbrev pub pack : List ℕ → ℕ
@@ -204,7 +182,7 @@ masked (m ∷ ms) (b ∷ bs) = cond m b 0 ∷ masked ms bs
 
 kept : (m : Bool) (b : ℕ) → b < 256 → bit_and b (cond m 255 0) ≡ cond m b 0
 kept true b h = let t = sames b h in grind (arith, nat_tests)
-kept false b h = and_zero b
+kept false b h = and_zero_r b
 
 mask_small : (m : Bool) → cond m 255 0 < 2 ^ 8
 mask_small true = omega arith
@@ -216,7 +194,7 @@ kept_small false b h = omega arith
 
 and_masked : (ms : List Bool) (bs : List ℕ) → Below 256 bs → bit_and (pack bs) (mask_of ms) ≡ pack (masked ms bs)
 and_masked ms [] h = refl
-and_masked [] (b ∷ bs) h = and_zero (pack (b ∷ bs))
+and_masked [] (b ∷ bs) h = and_zero_r (pack (b ∷ bs))
 and_masked (m ∷ ms) (b ∷ bs) (h, hs) =
     let here = kept m b h in
     and_cat (pack bs) b (mask_of ms) (cond m 255 0) h (mask_small m) (subst (λ n. n < 2 ^ 8) (sym here) (kept_small m b h))
@@ -257,8 +235,9 @@ raised_is x0 x1 x2 x3 x4 x5 x6 x7 h =
 passes : (x0 x1 x2 x3 x4 x5 x6 x7 : ℕ) → Below 10 (x0 ∷ x1 ∷ x2 ∷ x3 ∷ x4 ∷ x5 ∷ x6 ∷ x7 ∷ []) → tested (pack (x0 ∷ x1 ∷ x2 ∷ x3 ∷ x4 ∷ x5 ∷ x6 ∷ x7 ∷ [])) ≡ 0
 passes x0 x1 x2 x3 x4 x5 x6 x7 h =
     let low = weaken 10 128 (omega arith) (x0 ∷ x1 ∷ x2 ∷ x3 ∷ x4 ∷ x5 ∷ x6 ∷ x7 ∷ []) h in
-    both_none (pack (x0 ∷ x1 ∷ x2 ∷ x3 ∷ x4 ∷ x5 ∷ x6 ∷ x7 ∷ [])) _ 9259542123273814144 (tops_none (x0 ∷ x1 ∷ x2 ∷ x3 ∷ x4 ∷ x5 ∷ x6 ∷ x7 ∷ []) low)
-    (ap (λ n. bit_and n 9259542123273814144) (raised_is x0 x1 x2 x3 x4 x5 x6 x7 low) ∙ tops_none (map (λ x. x + 118) (x0 ∷ x1 ∷ x2 ∷ x3 ∷ x4 ∷ x5 ∷ x6 ∷ x7 ∷ [])) (raised_digit (x0 ∷ x1 ∷ x2 ∷ x3 ∷ x4 ∷ x5 ∷ x6 ∷ x7 ∷ []) h))
+    let high : bit_and ((pack (x0 ∷ x1 ∷ x2 ∷ x3 ∷ x4 ∷ x5 ∷ x6 ∷ x7 ∷ []) + 8536140394893047414) % 2 ^ 64) 9259542123273814144 ≡ 0
+    = ap (λ n. bit_and n 9259542123273814144) (raised_is x0 x1 x2 x3 x4 x5 x6 x7 low) ∙ tops_none (map (λ x. x + 118) (x0 ∷ x1 ∷ x2 ∷ x3 ∷ x4 ∷ x5 ∷ x6 ∷ x7 ∷ [])) (raised_digit (x0 ∷ x1 ∷ x2 ∷ x3 ∷ x4 ∷ x5 ∷ x6 ∷ x7 ∷ []) h) in
+    and_or_apart 9259542123273814144 (pack (x0 ∷ x1 ∷ x2 ∷ x3 ∷ x4 ∷ x5 ∷ x6 ∷ x7 ∷ [])) _ high ∙ tops_none (x0 ∷ x1 ∷ x2 ∷ x3 ∷ x4 ∷ x5 ∷ x6 ∷ x7 ∷ []) low
 
 passed : (x0 x1 x2 x3 x4 x5 x6 x7 : ℕ) → Below 256 (x0 ∷ x1 ∷ x2 ∷ x3 ∷ x4 ∷ x5 ∷ x6 ∷ x7 ∷ []) → tested (pack (x0 ∷ x1 ∷ x2 ∷ x3 ∷ x4 ∷ x5 ∷ x6 ∷ x7 ∷ [])) ≡ 0 → Below 10 (x0 ∷ x1 ∷ x2 ∷ x3 ∷ x4 ∷ x5 ∷ x6 ∷ x7 ∷ [])
 passed x0 x1 x2 x3 x4 x5 x6 x7 h e =

@@ -6,10 +6,11 @@ use Rattle.std.specs.Char.{is_digit}
 use Rattle.std.specs.List.{list_all}
 use Rattle.std.specs.Option.{option_map}
 use Rattle.std.specs.Str.Parse.{digits_value, signed_digits_value, starts_with_minus, without_leading_sign}
-use Rattle.ringrun_service.proofs.Digits.{all_append, all_digits_at, digit}
+use Rattle.ringrun_service.proofs.Digits.{all_digits_at, digit}
 use Rattle.ringrun_service.proofs.Lines.{by_cases, ends_word, past_word, word_at}
 use mir.Val.{bool_byte}
 use Rattle.std.proofs.lemmas.List.{take_rest}
+use Rattle.std.proofs.lemmas.List.Folds.{list_all-append}
 use Rattle.ringrun_service.specs.Reading.{after_blanks, digits_at, number_at, signed_at, signed_of, size_at, starts_blank}
 use Rattle.ringrun_service.specs.Script.{is_blank, is_i64, is_line_feed, is_some_bytes, number_of}
 
@@ -120,7 +121,7 @@ number_of_word text =
     rw h (number_is (word_at text) (digits_at digits) whole (all_digits_at digits)
     ∙ ap (λ m. cond (is_some_bytes (digits_at digits)) (signed_of m (digits_value 10 (digits_at digits))) None) (minus_then_word text)
     ∙ sym (signed_is text)))
-    (λ h. rw h (no_number (word_at text) (ap (list_all digit) word ∙ all_append (digits_at digits) (word_at behind)
+    (λ h. rw h (no_number (word_at text) (ap (list_all digit) word ∙ list_all-append digit (digits_at digits) (word_at behind)
     ∙ ap (λ v. v && list_all digit (word_at behind)) (all_digits_at digits) ∙ stray digits h)))
 
 past_digits : (text : List ℕ) → past_word text ≡ past_word (behind_digits text)

@@ -1,6 +1,7 @@
 -- The bytes so far are the digits at the front where the next is none.
 use Rattle.std.proofs.Common.{◌≡◌, ◌^◌, ◌%◌, ◌*◌, ◌+◌, refl, get_or, length, take, arith, ap, sym, ◌∙◌}
-use Rattle.ringrun_service.proofs.Digits.{all_from, all_more, below_length, digits_done, less, told, value_more, wraps}
+use Rattle.ringrun_service.proofs.Digits.{all_from, all_more, below_length, digits_done, less, told, wraps}
+use Rattle.std.proofs.lemmas.Int.Digits.{digits_value_more}
 use Rattle.std.proofs.lemmas.List.{length-take, length-take-le}
 use Rattle.std.specs.Str.Parse.{digits_value}
 use Rattle.ringrun_service.specs.Reading.{digits_at}
@@ -41,7 +42,7 @@ loop-at-preserved c =
       digits = all_more text at c.loop-at-test.true c.loop-at.invariant.digits byte.0;
       size = wraps (digits_value 10 (take at text)) c.loop-at.size _ c.loop-at.invariant.size
           ∙ ap (λ d. (digits_value 10 (take at text) * 10 + d) % 2 ^ 64) byte.1
-          ∙ ap (λ n. n % 2 ^ 64) (sym (value_more text at c.loop-at-test.true));
+          ∙ ap (λ n. n % 2 ^ 64) (sym (digits_value_more 10 text at c.loop-at-test.true));
     }
 
 all : (c : goal.After-loop-at) → (c.loop-at.at ≡ length c.args.text.now) × (digits_at c.args.text.now ≡ take c.loop-at.at c.args.text.now)
