@@ -73,27 +73,24 @@ told b d small e = (λ h. grind (arith, nat_tests), λ h. (grind (arith, nat_tes
 
 -- ---- more than nineteen digits
 
-shifted : (a b n d p v : ℕ) → a ≡ (n * 10 + d) * p + v → b ≡ (0 * 10 + d) * p + v → a ≡ n * (p * 10) + b
-shifted a b n d p v h k = omega arith
+grows_by : (n d p v : ℕ) → (n * 10 + d) * p ≤ v → n * (p * 10) ≤ v
+grows_by n d p v h = omega arith
 
-value_shift : (n : ℕ) (ds : List ℕ) → digits_value_after 10 n ds ≡ n * 10 ^ length ds + digits_value 10 ds
-value_shift n [] = omega arith
-value_shift n (d ∷ ds) =
-    let here = value_shift (n * 10 + digit_value d) ds in
-    let there = value_shift (0 * 10 + digit_value d) ds in
-    rw (pow-suc 10 (length ds)) (shifted _ _ n (digit_value d) (10 ^ length ds) (digits_value 10 ds) here there)
-
-pub value_parts : (k : ℕ) (ds : List ℕ) → digits_value 10 ds ≡ digits_value 10 (take k ds) * 10 ^ length (drop k ds) + digits_value 10 (drop k ds)
-value_parts k ds = ap (digits_value 10) (sym (take-append-drop k ds)) ∙ value_after-append 0 (take k ds) (drop k ds) ∙ value_shift (digits_value 10 (take k ds)) (drop k ds)
+-- each digit behind a number makes it ten times as large, at the least
+tenfold : (n : ℕ) (ds : List ℕ) → n * 10 ^ length ds ≤ digits_value_after 10 n ds
+tenfold n [] = omega arith
+tenfold n (d ∷ ds) = rw (pow-suc 10 (length ds)) (grows_by n (digit_value d) (10 ^ length ds) _ (tenfold (n * 10 + digit_value d) ds))
 
 pub below_length : (ds : List ℕ) (k : ℕ) → list_all digit ds ≡ true → length ds ≤ k → digits_value 10 ds < 10 ^ k
 below_length ds k all h = digits_value_short (numerals_by_value (AllDigits 10) tells_digits) ds k (to_all ds all) h
 
-pub zeros_value : (ds : List ℕ) → list_all (λ d. d == 48) ds ≡ true → digits_value 10 ds ≡ 0
-zeros_value [] h = refl
-zeros_value (d ∷ ds) h =
-    let apart = both_true (d == 48) (list_all (λ d. d == 48) ds) h in
-    let here : digit_value d ≡ 0 = grind (arith, nat_tests) in rw here (zeros_value ds apart.1)
+-- zeros in front write nothing
+zeros_front : (k : ℕ) (ds : List ℕ) → list_all (λ d. d == 48) (take k ds) ≡ true → digits_value 10 ds ≡ digits_value 10 (drop k ds)
+zeros_front zero ds h = refl
+zeros_front (suc k) [] h = refl
+zeros_front (suc k) (d ∷ ds) h =
+    let apart = both_true (d == 48) (list_all (λ d. d == 48) (take k ds)) h in
+    let here : digit_value d ≡ 0 = grind (arith, nat_tests) in rw here (zeros_front k ds apart.1)
 
 grows : (n : ℕ) (ds : List ℕ) → n ≤ digits_value_after 10 n ds
 grows n [] = omega arith
@@ -113,30 +110,22 @@ other_value (d ∷ ds) all h = by_cases (d == 48)
 all_parts : (k : ℕ) (ds : List ℕ) → list_all digit ds ≡ true → (list_all digit (take k ds) ≡ true) × (list_all digit (drop k ds) ≡ true)
 all_parts k ds h = both_true _ _ (sym (list_all-append digit (take k ds) (drop k ds)) ∙ ap (list_all digit) (take-append-drop k ds) ∙ h)
 
-zero_front : (p v : ℕ) → 0 * p + v ≡ v
-zero_front p v = omega arith
-
-at_least : (a x p v q : ℕ) → a ≡ x * p + v → p ≡ q → 0 < x → q ≤ a
-at_least a zero p v q e same h = absurd (omega arith)
-at_least a (suc x) p v q e same h = grind arith
-
 -- whether digits write a number below 10 ^ 19: there are no more than nineteen of them behind zeros
 small_value : (text : List ℕ) → list_all (λ d. d == 48) (take (length (digits_at text) - 19) (digits_at text)) ≡ true ⊎ length (digits_at text) ≤ 19 → digits_value 10 (digits_at text) < 10 ^ 19
 small_value text (inr few) = below_length (digits_at text) 19 (all_digits_at text) few
 small_value text (inl zeros) =
     let ds = digits_at text in let k = length ds - 19 in
-    let none : digits_value 10 (take k ds) ≡ 0 = zeros_value (take k ds) zeros in
-    let parts : digits_value 10 ds ≡ digits_value 10 (drop k ds) = value_parts k ds ∙ ap (λ n. n * 10 ^ length (drop k ds) + digits_value 10 (drop k ds)) none ∙ zero_front (10 ^ length (drop k ds)) (digits_value 10 (drop k ds)) in
     let left : length (drop k ds) ≤ 19 = omega (arith, length-drop k ds) in
-    subst (λ n. n < 10 ^ 19) (sym parts) (below_length (drop k ds) 19 (all_parts k ds (all_digits_at text)).1 left)
+    subst (λ n. n < 10 ^ 19) (sym (zeros_front k ds zeros)) (below_length (drop k ds) 19 (all_parts k ds (all_digits_at text)).1 left)
 
 large_value : (text : List ℕ) → 19 < length (digits_at text) → list_all (λ d. d == 48) (take (length (digits_at text) - 19) (digits_at text)) ≡ false → 10 ^ 19 ≤ digits_value 10 (digits_at text)
 large_value text many other =
     let ds = digits_at text in let k = length ds - 19 in
     let some : 0 < digits_value 10 (take k ds) = other_value (take k ds) (all_parts k ds (all_digits_at text)).0 other in
     let left : length (drop k ds) ≡ 19 = omega (arith, length-drop k ds) in
-    let power : 10 ^ length (drop k ds) ≡ 10 ^ 19 = ap (λ n. 10 ^ n) left in
-    at_least (digits_value 10 ds) (digits_value 10 (take k ds)) (10 ^ length (drop k ds)) (digits_value 10 (drop k ds)) (10 ^ 19) (value_parts k ds) power some
+    let parts : digits_value 10 ds ≡ digits_value_after 10 (digits_value 10 (take k ds)) (drop k ds) = ap (digits_value 10) (sym (take-append-drop k ds)) ∙ value_after-append 0 (take k ds) (drop k ds) in
+    let least : digits_value 10 (take k ds) * 10 ^ 19 ≤ digits_value_after 10 (digits_value 10 (take k ds)) (drop k ds) = subst (λ n. digits_value 10 (take k ds) * 10 ^ n ≤ digits_value_after 10 (digits_value 10 (take k ds)) (drop k ds)) left (tenfold (digits_value 10 (take k ds)) (drop k ds)) in
+    omega (arith, some, parts, least)
 
 -- more than nineteen digits follow zeros
 abbrev pub is_long : List ℕ → Bool
