@@ -10,7 +10,7 @@ use Rattle.ringbuffer.specs.declared.Command.TheVariants.{Push, Extend, Dequeue,
 use Rattle.ringrun_service.proofs.Lines.{by_cases, ends_word, past_word, some_is, word_at, words_at, words_behind_blanks, words_from_word}
 use Rattle.ringrun_service.proofs.Numbers.{behind_number, ends_here, number_of_word, number_part, no_number_at_end, no_number_at_feed, past_end, past_number, signed_rest, word_ends}
 use Rattle.ringrun_service.specs.Reading.{after_blanks, after_end, after_name, number_at, signed_at, starts_blank, CommandAt, HasNoCommand, NumbersAt}
-use Rattle.ringrun_service.specs.Script.{alone, command_named, commands_of, is_blank, is_line_feed, number_of, numbers_of, plain, words_of, vector_of}
+use Rattle.ringrun_service.specs.Script.{alone, command_named, commands_of, is_blank, is_line_feed, number_of, numbers_of, plain, push_of, words_of, vector_of}
 
 -- What the words of the first line say.
 abbrev pub says : List ℕ → Option (List (Command ℤ))
@@ -178,51 +178,48 @@ no_number_wanted command None p = refl
 no_number_wanted command (Some m) None = refl
 no_number_wanted command (Some m) (Some ms) = refl
 
--- a name, and the words of a line that begins with it
-record IsName (name : List ℕ) : Type 0 where
+-- a name, the words of a line that begins with it, and what it makes of numbers
+record IsName (name : List ℕ) (meaning : List ℤ → Option (Command ℤ)) : Type 0 where
   words : (rest : List ℕ) → words_at (name ++ rest) ≡ (name ++ word_at rest) ∷ words_at (past_word rest)
   longer : (b : ℕ) (bs : List ℕ) (numbers : List ℤ) → command_named (name ++ b ∷ bs) numbers ≡ None
+  means : (numbers : List ℤ) → command_named name numbers ≡ meaning numbers
 
-is_push : IsName (codes "push")
+is_push : IsName (codes "push") push_of
 unfolding command_named
-is_push = record { words = λ rest. words_from_word 112 (117 ∷ 115 ∷ 104 ∷ rest) refl; longer = λ b bs numbers. refl }
+is_push = record { words = λ rest. words_from_word 112 (117 ∷ 115 ∷ 104 ∷ rest) refl; longer = λ b bs numbers. refl; means = λ numbers. refl }
 
-is_extend : IsName (codes "extend")
+is_extend : IsName (codes "extend") (λ numbers. Some (Extend (vector_of numbers)))
 unfolding command_named
-is_extend = record { words = λ rest. words_from_word 101 (120 ∷ 116 ∷ 101 ∷ 110 ∷ 100 ∷ rest) refl; longer = λ b bs numbers. refl }
+is_extend = record { words = λ rest. words_from_word 101 (120 ∷ 116 ∷ 101 ∷ 110 ∷ 100 ∷ rest) refl; longer = λ b bs numbers. refl; means = λ numbers. refl }
 
-is_dequeue : IsName (codes "dequeue")
+is_dequeue : IsName (codes "dequeue") (alone Dequeue)
 unfolding command_named
-is_dequeue = record { words = λ rest. words_from_word 100 (101 ∷ 113 ∷ 117 ∷ 101 ∷ 117 ∷ 101 ∷ rest) refl; longer = λ b bs numbers. refl }
+is_dequeue = record { words = λ rest. words_from_word 100 (101 ∷ 113 ∷ 117 ∷ 101 ∷ 117 ∷ 101 ∷ rest) refl; longer = λ b bs numbers. refl; means = λ numbers. refl }
 
-is_skip : IsName (codes "skip")
+is_skip : IsName (codes "skip") (alone Skip)
 unfolding command_named
-is_skip = record { words = λ rest. words_from_word 115 (107 ∷ 105 ∷ 112 ∷ rest) refl; longer = λ b bs numbers. refl }
+is_skip = record { words = λ rest. words_from_word 115 (107 ∷ 105 ∷ 112 ∷ rest) refl; longer = λ b bs numbers. refl; means = λ numbers. refl }
 
-is_clear : IsName (codes "clear")
+is_clear : IsName (codes "clear") (alone Clear)
 unfolding command_named
-is_clear = record { words = λ rest. words_from_word 99 (108 ∷ 101 ∷ 97 ∷ 114 ∷ rest) refl; longer = λ b bs numbers. refl }
+is_clear = record { words = λ rest. words_from_word 99 (108 ∷ 101 ∷ 97 ∷ 114 ∷ rest) refl; longer = λ b bs numbers. refl; means = λ numbers. refl }
 
 -- the line of a name that ends where its word does
 abbrev line_of : List ℕ → List ℕ → Option (List (Command ℤ))
 line_of name rest = option_map (λ command. command ∷ []) (option_and_then (command_named name) (numbers_of (words_at rest)))
 
-whole_name : (name rest : List ℕ) → IsName name → ends_here rest ≡ true → says (name ++ rest) ≡ line_of name rest
+whole_name : {meaning : List ℤ → Option (Command ℤ)} (name rest : List ℕ) → IsName name meaning → ends_here rest ≡ true → says (name ++ rest) ≡ line_of name rest
 whole_name name rest is h =
     let words : words_at (name ++ rest) ≡ name ∷ words_at rest = is.words rest ∙ ap (λ w. (name ++ w) ∷ words_at (past_word rest)) (word_ends rest h)
     ∙ ap (λ w. w ∷ words_at (past_word rest)) (append-nil name) ∙ ap (λ t. name ∷ words_at t) (past_end rest h) in
     ap commands_of words
 
-longer_name : (name rest : List ℕ) → IsName name → ends_here rest ≡ false → says (name ++ rest) ≡ None
+longer_name : {meaning : List ℤ → Option (Command ℤ)} (name rest : List ℕ) → IsName name meaning → ends_here rest ≡ false → says (name ++ rest) ≡ None
 longer_name name [] is h = absurd (cc)
 longer_name name (b ∷ bs) is h =
     let word : word_at (b ∷ bs) ≡ b ∷ word_at bs = rw h refl in
     let words : words_at (name ++ b ∷ bs) ≡ (name ++ b ∷ word_at bs) ∷ words_at (past_word (b ∷ bs)) = is.words (b ∷ bs) ∙ ap (λ w. (name ++ w) ∷ words_at (past_word (b ∷ bs))) word in
     ap commands_of words ∙ ap (option_map (λ command. command ∷ [])) (none_from (command_named (name ++ b ∷ word_at bs)) (numbers_of (words_at (past_word (b ∷ bs)))) (is.longer b (word_at bs)))
-
-push_line : (n : ℤ) → option_map (λ command. command ∷ []) (option_and_then (command_named (codes "push")) (Some (n ∷ []))) ≡ Some (Push n ∷ [])
-unfolding command_named
-push_line n = refl
 
 push_lines : (n : ℤ) (o : Option ℤ) (p : Option (List ℤ))
     → option_map (λ command. command ∷ []) (option_and_then (command_named (codes "push")) (option_and_then (λ number. option_map (λ numbers. number ∷ numbers) (option_and_then (λ number. option_map (λ numbers. number ∷ numbers) p) o)) (Some n))) ≡ None
@@ -231,34 +228,16 @@ push_lines n None p = refl
 push_lines n (Some m) None = refl
 push_lines n (Some m) (Some ms) = refl
 
-extend_line : (numbers : List ℤ) → option_map (λ command. command ∷ []) (option_and_then (command_named (codes "extend")) (Some numbers)) ≡ Some (Extend (vector_of numbers) ∷ [])
-unfolding command_named
-extend_line numbers = refl
-
-dequeue_named : (numbers : List ℤ) → command_named (codes "dequeue") numbers ≡ alone Dequeue numbers
-unfolding command_named
-dequeue_named numbers = refl
-
-skip_named : (numbers : List ℤ) → command_named (codes "skip") numbers ≡ alone Skip numbers
-unfolding command_named
-skip_named numbers = refl
-
-clear_named : (numbers : List ℤ) → command_named (codes "clear") numbers ≡ alone Clear numbers
-unfolding command_named
-clear_named numbers = refl
-
-said_alone : (name : List ℕ) (command : Command ℤ) (text rest after : List ℕ) → IsName name → after_name name text ≡ Some rest → after_end (after_blanks rest) ≡ Some after
-    → ((numbers : List ℤ) → command_named name numbers ≡ alone command numbers) → says text ≡ Some (command ∷ [])
-said_alone name command text rest after is at e by_name =
+said_alone : (name : List ℕ) (command : Command ℤ) (text rest after : List ℕ) → IsName name (alone command) → after_name name text ≡ Some rest → after_end (after_blanks rest) ≡ Some after → says text ≡ Some (command ∷ [])
+said_alone name command text rest after is at e =
     ap says (named name text rest at) ∙ whole_name name rest is (ends_at_end rest after e)
     ∙ ap (λ ws. option_map (λ command. command ∷ []) (option_and_then (command_named name) (numbers_of ws))) (no_words_left rest after e)
-    ∙ ap (option_map (λ command. command ∷ [])) (by_name [])
+    ∙ ap (option_map (λ command. command ∷ [])) (is.means [])
 
-unsaid_alone : (name : List ℕ) (command : Command ℤ) (text rest : List ℕ) → IsName name → after_name name text ≡ Some rest → after_end (after_blanks rest) ≡ None
-    → ((numbers : List ℤ) → command_named name numbers ≡ alone command numbers) → says text ≡ None
-unsaid_alone name command text rest is at e by_name = ap says (named name text rest at) ∙ by_cases (ends_here rest)
+unsaid_alone : (name : List ℕ) (command : Command ℤ) (text rest : List ℕ) → IsName name (alone command) → after_name name text ≡ Some rest → after_end (after_blanks rest) ≡ None → says text ≡ None
+unsaid_alone name command text rest is at e = ap says (named name text rest at) ∙ by_cases (ends_here rest)
     (λ h. whole_name name rest is h
-    ∙ let more = next_word rest e in rw more.words (ap (option_map (λ command. command ∷ [])) (same_then by_name _ ∙ no_number_wanted command (number_of more.word) (numbers_of (words_at (past_word (after_blanks rest)))))))
+    ∙ let more = next_word rest e in rw more.words (ap (option_map (λ command. command ∷ [])) (same_then is.means _ ∙ no_number_wanted command (number_of more.word) (numbers_of (words_at (past_word (after_blanks rest)))))))
     (λ h. longer_name name rest is h)
 
 -- ---- what a line says
@@ -271,19 +250,19 @@ said keeps text (Push n) rest after (args, name, number) e =
     let numbers : numbers_of (words_at args) ≡ Some (n ∷ []) = rw (next.words, no_words_left rest after e, next.number) refl in (
       Push n ∷ [],
       ap says (named (codes "push") text args name) ∙ whole_name (codes "push") args is_push (blank_ends args (read_here args (n, rest) number).0)
-          ∙ ap (λ o. option_map (λ command. command ∷ []) (option_and_then (command_named (codes "push")) o)) numbers ∙ push_line n,
+          ∙ ap (λ o. option_map (λ command. command ∷ []) (option_and_then (command_named (codes "push")) o)) numbers ∙ ap (option_map (λ command. command ∷ [])) (is_push.means (n ∷ [])),
       λ _. refl,
     )
 said keeps text (Extend items) rest after (args, name, (numbers, read, kept)) e =
     let all = all_numbers numbers args rest after read e in (
       Extend (vector_of numbers) ∷ [],
       ap says (named (codes "extend") text args name) ∙ whole_name (codes "extend") args is_extend all.1
-          ∙ ap (λ o. option_map (λ command. command ∷ []) (option_and_then (command_named (codes "extend")) o)) all.0 ∙ extend_line numbers,
+          ∙ ap (λ o. option_map (λ command. command ∷ []) (option_and_then (command_named (codes "extend")) o)) all.0 ∙ ap (option_map (λ command. command ∷ [])) (is_extend.means numbers),
       λ h. ap (λ ns. Extend (vector_of ns) ∷ []) (sym (kept ∙ ap (λ v. cond v numbers []) h)),
     )
-said keeps text Dequeue rest after name e = (Dequeue ∷ [], said_alone (codes "dequeue") Dequeue text rest after is_dequeue name e dequeue_named, λ _. refl)
-said keeps text Skip rest after name e = (Skip ∷ [], said_alone (codes "skip") Skip text rest after is_skip name e skip_named, λ _. refl)
-said keeps text Clear rest after name e = (Clear ∷ [], said_alone (codes "clear") Clear text rest after is_clear name e clear_named, λ _. refl)
+said keeps text Dequeue rest after name e = (Dequeue ∷ [], said_alone (codes "dequeue") Dequeue text rest after is_dequeue name e, λ _. refl)
+said keeps text Skip rest after name e = (Skip ∷ [], said_alone (codes "skip") Skip text rest after is_skip name e, λ _. refl)
+said keeps text Clear rest after name e = (Clear ∷ [], said_alone (codes "clear") Clear text rest after is_clear name e, λ _. refl)
 
 -- where anything else follows it
 pub unsaid : (keeps : Bool) (text : List ℕ) (command : Command ℤ) (rest : List ℕ) → CommandAt keeps text command rest → after_end (after_blanks rest) ≡ None → says text ≡ None
@@ -295,9 +274,9 @@ unsaid keeps text (Push n) rest (args, name, number) e =
 unsaid keeps text (Extend items) rest (args, name, (numbers, read, kept)) e = ap says (named (codes "extend") text args name) ∙ by_cases (ends_here args)
     (λ h. whole_name (codes "extend") args is_extend h ∙ ap (λ o. option_map (λ command. command ∷ []) (option_and_then (command_named (codes "extend")) o)) (some_other numbers args rest read e h))
     (λ h. longer_name (codes "extend") args is_extend h)
-unsaid keeps text Dequeue rest name e = unsaid_alone (codes "dequeue") Dequeue text rest is_dequeue name e dequeue_named
-unsaid keeps text Skip rest name e = unsaid_alone (codes "skip") Skip text rest is_skip name e skip_named
-unsaid keeps text Clear rest name e = unsaid_alone (codes "clear") Clear text rest is_clear name e clear_named
+unsaid keeps text Dequeue rest name e = unsaid_alone (codes "dequeue") Dequeue text rest is_dequeue name e
+unsaid keeps text Skip rest name e = unsaid_alone (codes "skip") Skip text rest is_skip name e
+unsaid keeps text Clear rest name e = unsaid_alone (codes "clear") Clear text rest is_clear name e
 
 word_and_past : (text : List ℕ) → text ≡ word_at text ++ past_word text
 word_and_past [] = refl
