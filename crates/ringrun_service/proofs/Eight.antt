@@ -125,13 +125,15 @@ add_pack : (xs : List ℕ) → pack xs + pack (map (λ _. 118) xs) ≡ pack (map
 add_pack [] = refl
 add_pack (x ∷ xs) = let rest = add_pack xs in omega (arith, rest)
 
+mapped : (m n : ℕ) (f : ℕ → ℕ) → ((b : ℕ) → b < m → f b < n) → (bs : List ℕ) → Below m bs → Below n (map f bs)
+mapped m n f small [] h = tt
+mapped m n f small (b ∷ bs) (h, hs) = (small b h, mapped m n f small bs hs)
+
 raised_small : (xs : List ℕ) → Below 128 xs → Below 256 (map (λ x. x + 118) xs)
-raised_small [] h = tt
-raised_small (x ∷ xs) (h, hs) = (omega arith, raised_small xs hs)
+raised_small = mapped 128 256 (λ x. x + 118) (λ x h. omega arith)
 
 raised_digit : (xs : List ℕ) → Below 10 xs → Below 128 (map (λ x. x + 118) xs)
-raised_digit [] h = tt
-raised_digit (x ∷ xs) (h, hs) = (omega arith, raised_digit xs hs)
+raised_digit = mapped 10 128 (λ x. x + 118) (λ x h. omega arith)
 
 digit_raised : (xs : List ℕ) → Below 128 (map (λ x. x + 118) xs) → Below 10 xs
 digit_raised [] h = tt
@@ -218,17 +220,12 @@ fits y0 y1 y2 y3 y4 y5 y6 y7 (h0, (h1, (h2, (h3, (h4, (h5, (h6, (h7, _)))))))) =
 within : (n : ℕ) → n < 2 ^ 64 → n % 2 ^ 64 ≡ n
 within n h = omega arith
 
-xored_small : (bs : List ℕ) → Below 256 bs → Below 256 (xored bs)
-xored_small [] h = tt
-xored_small (b ∷ bs) (h, hs) = (xor_small b h, xored_small bs hs)
-
 -- the test of all bytes at once
 abbrev pub tested : ℕ → ℕ
 tested x = bit_and (bit_or x ((x + 8536140394893047414) % 2 ^ 64)) 9259542123273814144
 
 raised_is : (x0 x1 x2 x3 x4 x5 x6 x7 : ℕ) → Below 128 (x0 ∷ x1 ∷ x2 ∷ x3 ∷ x4 ∷ x5 ∷ x6 ∷ x7 ∷ []) → (pack (x0 ∷ x1 ∷ x2 ∷ x3 ∷ x4 ∷ x5 ∷ x6 ∷ x7 ∷ []) + 8536140394893047414) % 2 ^ 64 ≡ pack (map (λ x. x + 118) (x0 ∷ x1 ∷ x2 ∷ x3 ∷ x4 ∷ x5 ∷ x6 ∷ x7 ∷ []))
 raised_is x0 x1 x2 x3 x4 x5 x6 x7 h =
-    let all = x0 ∷ x1 ∷ x2 ∷ x3 ∷ x4 ∷ x5 ∷ x6 ∷ x7 ∷ [] in
     let sum : pack (x0 ∷ x1 ∷ x2 ∷ x3 ∷ x4 ∷ x5 ∷ x6 ∷ x7 ∷ []) + 8536140394893047414 ≡ pack (map (λ x. x + 118) (x0 ∷ x1 ∷ x2 ∷ x3 ∷ x4 ∷ x5 ∷ x6 ∷ x7 ∷ [])) = add_pack (x0 ∷ x1 ∷ x2 ∷ x3 ∷ x4 ∷ x5 ∷ x6 ∷ x7 ∷ []) in
     ap (λ n. n % 2 ^ 64) sum ∙ within (pack (map (λ x. x + 118) (x0 ∷ x1 ∷ x2 ∷ x3 ∷ x4 ∷ x5 ∷ x6 ∷ x7 ∷ []))) (fits _ _ _ _ _ _ _ _ (raised_small (x0 ∷ x1 ∷ x2 ∷ x3 ∷ x4 ∷ x5 ∷ x6 ∷ x7 ∷ []) h))
 
@@ -303,12 +300,11 @@ Told bs = Below 256 bs → (n : ℕ) → n ≡ sum_of bs
 
 told_eight : (b0 b1 b2 b3 b4 b5 b6 b7 : ℕ) → Told (b0 ∷ b1 ∷ b2 ∷ b3 ∷ b4 ∷ b5 ∷ b6 ∷ b7 ∷ [])
 told_eight b0 b1 b2 b3 b4 b5 b6 b7 small n e =
-    let all = b0 ∷ b1 ∷ b2 ∷ b3 ∷ b4 ∷ b5 ∷ b6 ∷ b7 ∷ [] in
     let is : n ≡ pack (b0 ∷ b1 ∷ b2 ∷ b3 ∷ b4 ∷ b5 ∷ b6 ∷ b7 ∷ []) = omega (arith, e) in
     let x : bit_xor n 3472328296227680304 ≡ pack (xored (b0 ∷ b1 ∷ b2 ∷ b3 ∷ b4 ∷ b5 ∷ b6 ∷ b7 ∷ [])) = ap (λ m. bit_xor m 3472328296227680304) is ∙ xor_pack (b0 ∷ b1 ∷ b2 ∷ b3 ∷ b4 ∷ b5 ∷ b6 ∷ b7 ∷ []) small in (
       (λ other digits. other (ap tested x ∙ passes _ _ _ _ _ _ _ _ (from_digits (b0 ∷ b1 ∷ b2 ∷ b3 ∷ b4 ∷ b5 ∷ b6 ∷ b7 ∷ []) small digits))),
       (λ pass.
-          let low = passed _ _ _ _ _ _ _ _ (xored_small (b0 ∷ b1 ∷ b2 ∷ b3 ∷ b4 ∷ b5 ∷ b6 ∷ b7 ∷ []) small) (ap tested (sym x) ∙ pass) in
+          let low = passed _ _ _ _ _ _ _ _ (mapped 256 256 (λ b. bit_xor b 48) xor_small (b0 ∷ b1 ∷ b2 ∷ b3 ∷ b4 ∷ b5 ∷ b6 ∷ b7 ∷ []) small) (ap tested (sym x) ∙ pass) in
           let digits = to_digits (b0 ∷ b1 ∷ b2 ∷ b3 ∷ b4 ∷ b5 ∷ b6 ∷ b7 ∷ []) small low in (
             digits,
             ap (λ m. joined (paired m)) x
