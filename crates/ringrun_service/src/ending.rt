@@ -1,8 +1,9 @@
 //! What the program ends with.
 
-ghost use Rattle.std.specs.Prelude.{◌≡◌, ◌≢◌, ◌<◌, IfErr, IfOk, IsErr, map, string_bytes};
+ghost use Rattle.std.specs.Prelude.{◌≡◌, ◌≢◌, ◌<◌, ◌↔◌, IfErr, IfOk, IsErr, map, string_bytes};
 ghost use Rattle.std.specs.IoError.{error_kind};
 ghost use Rattle.std.specs.Process.{exit_status};
+ghost use Rattle.ringrun_service.specs.Arguments.{NamesRing};
 ghost use Rattle.ringrun_service.specs.Program.{Answers, Tells};
 
 use crate::fault::Fault;
@@ -39,6 +40,9 @@ pub fn run<I: Read, O: Write, E: Write>(
         (I.remaining input.old) (O.contents output.old) (O.contents output.new)) }
     ensures told { 0 < result.code → Tells result.code (I.remaining input.old)
         (E.contents errors.old) (E.contents errors.new) }
+    ensures unwritten { 0 < result.code → result.code < 4 → output.new ≡ output.old }
+    ensures arguments { IfOk words
+        (λ words. (result.code ≡ 2) ↔ (¬ NamesRing (map string_bytes words.items))) }
     ensures refused { IfErr words
         (λ error. error_kind error ≡ ErrorKind.OutOfMemory → result.code ≡ 3) }
     ensures no_text { IfErr words
