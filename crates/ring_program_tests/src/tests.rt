@@ -1,0 +1,447 @@
+//! Tests of `serve` over readers and writers in memory.
+
+mod streams;
+
+use ring_test_support::drought::Drought;
+use ringrun_service::serve;
+use std::alloc::Global;
+use std::fmt::Debug;
+use std::io::ErrorKind;
+use std::process::Abort;
+use streams::{Refusal, Sink, Source};
+
+const SCRIPT: &[u8] = b"push 5\npush 42\npush 1\ndequeue\n";
+
+/// What a ring of two replies to the script.
+const ANSWER: &str = "pushed\npushed\npushed over 5\ndequeued 42\nitems 1\n";
+
+/// What a ring of three replies to it, or one without a limit.
+const ANSWER_WITH_ROOM: &str = "pushed\npushed\npushed\ndequeued 5\nitems 42 1\n";
+
+const USAGE: &str = "usage: ringrun array|heap|grow CAPACITY\n";
+
+const NO_MEMORY: &str = "ringrun: no memory\n";
+
+const FIRST_LINE_IS_NONE: &str = "ringrun: line 1: not a command\n";
+
+const FAILED: &str = "ringrun: input or output failed\n";
+
+/// How a run ends.
+#[derive(Clone, Copy, Debug, Drop, PartialEq)]
+struct Ending<'a> {
+    status: u8,
+    output: &'a str,
+    errors: &'a str,
+}
+
+/// Returns the ending of a run that prints `output`, and no error.
+fn prints(output: &str) -> Ending<'_> {
+    Ending {
+        status: 0,
+        output,
+        errors: "",
+    }
+}
+
+/// Returns the ending of a run that prints `errors` alone.
+fn fails(status: u8, errors: &str) -> Ending<'_> {
+    Ending {
+        status,
+        output: "",
+        errors,
+    }
+}
+
+/// What a run of the program left.
+#[derive(Drop)]
+struct Outcome {
+    status: u8,
+    is_unread: bool,
+    output: Sink,
+    errors: Sink,
+}
+
+fn strings(rt: &(impl Abort + AllocGlobal), words: &[&str]) -> Vec<String> {
+    let mut strings = Vec::new(rt.alloc());
+    for word in words {
+        let string = String::from_str(rt.alloc(), word).expect(rt, "memory");
+        strings.push(string).expect(rt, "memory");
+    }
+    strings
+}
+
+fn sink(rt: &(impl Abort + AllocGlobal)) -> Sink {
+    Sink::new(rt.alloc()).expect(rt, "memory")
+}
+
+/// Serves `words`, and takes no memory of its own.
+fn serve_words(
+    alloc: Global,
+    words: &[String],
+    mut input: Source<'_>,
+    mut output: Sink,
+    mut errors: Sink,
+) -> Outcome {
+    let status = serve(alloc, words, &mut input, &mut output, &mut errors);
+    Outcome {
+        status,
+        is_unread: input.is_unread(),
+        output,
+        errors,
+    }
+}
+
+fn run(
+    rt: &(impl Abort + AllocGlobal),
+    arguments: &[&str],
+    input: Source<'_>,
+    output: Sink,
+) -> Outcome {
+    let words = strings(rt, arguments);
+    serve_words(rt.alloc(), words.as_slice(), input, output, sink(rt))
+}
+
+/// Runs on an array ring of capacity 3.
+fn run_on_three(rt: &(impl Abort + AllocGlobal), input: Source<'_>, output: Sink) -> Outcome {
+    run(rt, &["array", "3"], input, output)
+}
+
+fn run_script(rt: &(impl Abort + AllocGlobal), arguments: &[&str], script: &[u8]) -> Outcome {
+    run(rt, arguments, Source::of(script), sink(rt))
+}
+
+/// Fails, and says at which place, unless a run ended as `ending` says.
+fn assert_ended<P: Copy + PartialEq + Debug + Drop>(
+    rt: &impl Abort,
+    place: P,
+    outcome: &Outcome,
+    ending: Ending<'_>,
+) {
+    let found = Ending {
+        status: outcome.status,
+        output: outcome.output.text().expect(rt, "a text"),
+        errors: outcome.errors.text().expect(rt, "a text"),
+    };
+    assert_eq!(rt; (place, found), (place, ending));
+}
+
+/// Fails unless a run read nothing, and ended as `ending` says.
+fn assert_ended_unread(rt: &impl Abort, arguments: &[&str], outcome: &Outcome, ending: Ending<'_>) {
+    assert!(rt; outcome.is_unread);
+    assert_ended(rt, arguments, outcome, ending);
+}
+
+/// Returns each text as often as its number says, one behind the other.
+fn repeated(rt: &(impl Abort + AllocGlobal), texts: &[(&str, usize)]) -> String {
+    let mut all = String::new(rt.alloc());
+    for (text, count) in texts {
+        for _ in 0..*count {
+            all.push_str(text).expect(rt, "memory");
+        }
+    }
+    all
+}
+
+#[test]
+fn prints_what_the_commands_answer(rt: HostRuntime) {
+    let cases: [(&str, &[u8], &str); 5] = [
+        (
+            "1",
+            b"push 0\npush 0\ndequeue\nextend 0 1000000009\n",
+            "pushed\npushed over 0\ndequeued 0\nextended\nitems 1000000009\n",
+        ),
+        ("2", SCRIPT, ANSWER),
+        // what a push overwrites
+        (
+            "2",
+            b"extend 1 2 3\npush 4\n",
+            "extended\npushed over 2\nitems 3 4\n",
+        ),
+        (
+            "3",
+            b"push +5\n  push\t-0\r\npush 007",
+            "pushed\npushed\npushed\nitems 5 0 7\n",
+        ),
+        (
+            "1",
+            b"push -9223372036854775808",
+            "pushed\nitems -9223372036854775808\n",
+        ),
+    ];
+    for (capacity, script, want) in cases {
+        let outcome = run_script(&rt, &["array", capacity], script);
+        assert_ended(&rt, script, &outcome, prints(want));
+    }
+}
+
+#[test]
+fn runs_on_each_kind_of_ring(rt: HostRuntime) {
+    let cases: [([&str; 2], &[u8], &str); 5] = [
+        (["heap", "1"], b"extend 1 2", "extended\nitems 2\n"),
+        (["heap", "2097153"], b"push 1", "pushed\nitems 1\n"),
+        (
+            ["heap", "2"],
+            b"extend 1 2 3\n\nextend\nclear\ndequeue\n",
+            "extended\nextended\ncleared\ndequeued none\nitems\n",
+        ),
+        (["heap", "2"], b"", "items\n"),
+        (
+            ["grow", "0"],
+            b"extend 1 2 3\nskip\npush 4\n",
+            "extended\nskipped\npushed\nitems 2 3 4\n",
+        ),
+    ];
+    for (words, script, want) in cases {
+        let outcome = run_script(&rt, &words, script);
+        assert_ended(&rt, words, &outcome, prints(want));
+    }
+}
+
+#[test]
+fn makes_the_ring_before_it_reads(rt: HostRuntime) {
+    for arguments in [
+        ["heap", "9223372036854775809"],
+        ["grow", "18446744073709551615"],
+    ] {
+        let input = Source::failing_between((b"", SCRIPT), ErrorKind::BrokenPipe);
+        let outcome = run(&rt, &arguments, input, sink(&rt));
+        assert_ended_unread(&rt, &arguments, &outcome, fails(3, NO_MEMORY));
+    }
+}
+
+#[test]
+fn names_a_line_that_is_no_command(rt: HostRuntime) {
+    // lines, with a bar between two
+    let rows: [&[u8]; 2] = [
+        b"push|push 1 2|dequeue 1|extend 1 x|PUSH 1|push ++1|push -|push 1.|\xff|skip\x0b",
+        b"push 9223372036854775808|push 123:5678|push 1\xb5345678|push 018446744073709551617",
+    ];
+    let mut lines = 0usize;
+    for row in rows {
+        for line in row.split(|byte| *byte == b'|') {
+            let outcome = run_script(&rt, &["array", "3"], line);
+            assert_ended(&rt, line, &outcome, fails(1, FIRST_LINE_IS_NONE));
+            lines = lines.saturating_add(1);
+        }
+    }
+    assert_eq!(rt; lines, 14);
+}
+
+#[test]
+fn names_the_first_line_that_is_no_command(rt: HostRuntime) {
+    let scripts: [(&[u8], &str); 2] = [
+        (b"push 1\npush x", "ringrun: line 2: not a command\n"),
+        (b"\n\npush x", "ringrun: line 3: not a command\n"),
+    ];
+    for (script, want) in scripts {
+        let outcome = run_script(&rt, &["array", "2"], script);
+        assert_ended(&rt, script, &outcome, fails(1, want));
+    }
+}
+
+#[test]
+fn refuses_arguments_before_it_reads(rt: HostRuntime) {
+    let cases: [&[&str]; 3] = [&["array", "5"], &["heap", "0"], &["heap"]];
+    for arguments in cases {
+        let input = Source::failing_between((b"", SCRIPT), ErrorKind::BrokenPipe);
+        let outcome = run(&rt, arguments, input, sink(&rt));
+        assert_ended_unread(&rt, arguments, &outcome, fails(2, USAGE));
+    }
+}
+
+#[test]
+fn reads_what_comes_in_pieces(rt: HostRuntime) {
+    let outcome = run_on_three(&rt, Source::in_pieces(SCRIPT, 1), sink(&rt));
+    assert_ended(&rt, "in pieces", &outcome, prints(ANSWER_WITH_ROOM));
+    let outcome = run_on_three(&rt, Source::ending_once(SCRIPT), sink(&rt));
+    assert_ended(&rt, "ending once", &outcome, prints(ANSWER_WITH_ROOM));
+    for k in 0..=SCRIPT.len() {
+        let input = Source::failing_between(SCRIPT.split_at(k), ErrorKind::Interrupted);
+        let outcome = run_on_three(&rt, input, sink(&rt));
+        assert_ended(&rt, k, &outcome, prints(ANSWER_WITH_ROOM));
+    }
+}
+
+#[test]
+fn says_where_reading_failed(rt: HostRuntime) {
+    for k in 0..=SCRIPT.len() {
+        let input = Source::failing_between(SCRIPT.split_at(k), ErrorKind::BrokenPipe);
+        let outcome = run_on_three(&rt, input, sink(&rt));
+        assert_ended(&rt, k, &outcome, fails(4, FAILED));
+    }
+}
+
+/// Runs with an output that takes at most `most` bytes a call, and refuses one call. A flush counts as a call.
+fn run_refused(
+    rt: &(impl Abort + AllocGlobal),
+    most: usize,
+    call: usize,
+    refusal: Refusal,
+) -> Outcome {
+    let output = Sink::in_pieces(rt.alloc(), most).expect(rt, "memory");
+    run_on_three(rt, Source::of(SCRIPT), output.refusing(call, refusal))
+}
+
+#[test]
+fn says_where_writing_failed(rt: HostRuntime) {
+    let broken = Refusal::Fails(ErrorKind::BrokenPipe);
+    // how many of the run's calls are refused before one isn't: its writes, and its flush where that can fail
+    let cases = [
+        (usize::MAX, broken, 2),
+        (usize::MAX, Refusal::TakesNothing, 1),
+        (1, broken, ANSWER_WITH_ROOM.len().saturating_add(1)),
+        (1, Refusal::TakesNothing, ANSWER_WITH_ROOM.len()),
+    ];
+    for (most, refusal, calls) in cases {
+        for call in 1..=calls {
+            let outcome = run_refused(&rt, most, call, refusal);
+            assert!(rt;
+                ANSWER_WITH_ROOM.starts_with(outcome.output.unflushed().expect(&rt, "a text"))
+            );
+            assert_ended(&rt, (most, call), &outcome, fails(4, FAILED));
+        }
+        let outcome = run_refused(&rt, most, calls.saturating_add(1), refusal);
+        assert_ended(&rt, (most, calls), &outcome, prints(ANSWER_WITH_ROOM));
+    }
+}
+
+#[test]
+fn writes_on_after_an_interruption(rt: HostRuntime) {
+    let interruption = Refusal::Fails(ErrorKind::Interrupted);
+    for call in 1..=ANSWER_WITH_ROOM.len() {
+        let outcome = run_refused(&rt, 1, call, interruption);
+        assert_ended(&rt, call, &outcome, prints(ANSWER_WITH_ROOM));
+    }
+}
+
+#[test]
+fn keeps_the_status_where_no_error_is_taken(rt: HostRuntime) {
+    let failing = Some(ErrorKind::BrokenPipe);
+    let cases: [(&str, &[u8], Option<ErrorKind>, u8); 3] = [
+        ("2", b"push x", None, 1),
+        ("5", SCRIPT, None, 2),
+        ("2", SCRIPT, failing, 4),
+    ];
+    for (capacity, script, fault, want) in cases {
+        for refusal in [Refusal::Fails(ErrorKind::BrokenPipe), Refusal::TakesNothing] {
+            let words = strings(&rt, &["array", capacity]);
+            let input = match fault {
+                Some(kind) => Source::failing_between((b"", script), kind),
+                None => Source::of(script),
+            };
+            let errors = sink(&rt).refusing(1, refusal);
+            let outcome = serve_words(rt.alloc(), words.as_slice(), input, sink(&rt), errors);
+            let output = outcome.output.text().expect(&rt, "a text");
+            assert_eq!(rt; (outcome.status, output), (want, ""));
+        }
+    }
+}
+
+#[test]
+fn writes_the_whole_line_of_an_error(rt: HostRuntime) {
+    let interruption = Refusal::Fails(ErrorKind::Interrupted);
+    for call in 1..=FIRST_LINE_IS_NONE.len() {
+        let words = strings(&rt, &["array", "2"]);
+        let errors = Sink::in_pieces(rt.alloc(), 1).expect(&rt, "memory");
+        let errors = errors.refusing(call, interruption);
+        let input = Source::of(b"push x");
+        let outcome = serve_words(rt.alloc(), words.as_slice(), input, sink(&rt), errors);
+        assert_ended(&rt, call, &outcome, fails(1, FIRST_LINE_IS_NONE));
+    }
+}
+
+/// Runs with no memory but one block of `room` bytes.
+fn run_in_drought(
+    rt: &(impl Abort + AllocGlobal),
+    arguments: &[&str],
+    script: &str,
+    room: usize,
+) -> Outcome {
+    let input = Source::of(script.as_bytes());
+    serve_in_drought(rt, arguments, input, room)
+}
+
+/// Runs on any input, with no memory but one block of `room` bytes.
+fn serve_in_drought(
+    rt: &(impl Abort + AllocGlobal),
+    arguments: &[&str],
+    input: Source<'_>,
+    room: usize,
+) -> Outcome {
+    let words = strings(rt, arguments);
+    let (output, errors) = (sink(rt), sink(rt));
+    let drought = Drought::but_for(rt.alloc(), room).expect(rt, "memory");
+    let outcome = serve_words(rt.alloc(), words.as_slice(), input, output, errors);
+    drop(drought);
+    outcome
+}
+
+/// Counts the runs that were refused memory before one ended as `ending` says. All that a run can have is one block, of no
+/// bytes at first, which grows by `step`. Where that is below any request, they are refused one after the other.
+fn refusals(
+    rt: &(impl Abort + AllocGlobal),
+    arguments: &[&str],
+    script: &str,
+    step: usize,
+    ending: Ending<'_>,
+) -> usize {
+    let _most = Drought::of_most(rt.alloc()).expect(rt, "memory");
+    for refused in 0..400 {
+        let outcome = run_in_drought(rt, arguments, script, step.saturating_mul(refused));
+        if outcome.status == ending.status {
+            assert_ended(rt, refused, &outcome, ending);
+            return refused;
+        }
+        assert_ended(rt, refused, &outcome, fails(3, NO_MEMORY));
+    }
+    panic!(rt; "refused at each step")
+}
+
+// The two scripts are as long and answered alike, and differ in the memory that the items of an extension take.
+#[test]
+fn is_refused_an_extension(rt: HostRuntime) {
+    let ending = prints("extended\nextended\ncleared\ndequeued none\nitems\n");
+    let with_items = "extend 1 2 3\n\nextend\nclear\ndequeue\n";
+    let with_items = refusals(&rt, &["heap", "2"], with_items, 32, ending);
+    let without_items = "extend      \n\nextend\nclear\ndequeue\n";
+    let without_items = refusals(&rt, &["heap", "2"], without_items, 32, ending);
+    assert!(rt; with_items > without_items);
+}
+
+// There is room for reading, and none for the ring.
+#[test]
+fn is_refused_a_ring(rt: HostRuntime) {
+    for arguments in [["heap", "100000"], ["grow", "100000"], ["grow", "1200"]] {
+        let input = Source::failing_between((b"", SCRIPT), ErrorKind::BrokenPipe);
+        let outcome = serve_in_drought(&rt, &arguments, input, 1 << 13);
+        assert_ended_unread(&rt, &arguments, &outcome, fails(3, NO_MEMORY));
+    }
+}
+
+// With room for the input, refusals come one after the other: for commands, replies, the ring and the text, of one batch and
+// the next. The line that is no command is behind them all.
+#[test]
+fn names_a_line_behind_what_is_refused(rt: HostRuntime) {
+    let lines = ("push 7\n\n", 3000);
+    let script = repeated(&rt, &[lines]);
+    let faulty = repeated(&rt, &[lines, ("extend 1 2 x\n", 1)]);
+    let named_line = fails(1, "ringrun: line 6001: not a command\n");
+    let _most = Drought::of_most(rt.alloc()).expect(&rt, "memory");
+    let mut named = 0usize;
+    let mut refused = 0usize;
+    for step in 0..100usize {
+        let room = step.saturating_mul(4096);
+        let outcome = run_in_drought(&rt, &["grow", "0"], faulty.as_str(), room);
+        if named == 0 && outcome.status == 3 {
+            assert_ended(&rt, room, &outcome, fails(3, NO_MEMORY));
+            continue;
+        }
+        named = named.saturating_add(1);
+        assert_ended(&rt, room, &outcome, named_line);
+        let outcome = run_in_drought(&rt, &["grow", "0"], script.as_str(), room);
+        if outcome.status == 3 {
+            refused = refused.saturating_add(1);
+        }
+    }
+    assert!(rt; refused > 10, "{refused} of {named} were refused");
+}

@@ -1,0 +1,14 @@
+pub mod Blanks
+pub mod Commands
+pub mod Digits
+pub mod Eight
+pub mod Endings
+pub mod GoodLines
+pub mod Lines
+pub mod Numbers
+pub mod Rest
+pub mod Runs
+pub mod Signs
+pub mod Texts
+pub mod Told
+pub mod WorkedRows

@@ -1,0 +1,223 @@
+-- A number at the front of a text, and the word that it stands in.
+use Rattle.std.proofs.Common.{◌≡◌, ℕ, zero, suc, ◌^◌, ◌<◌, ◌≤◌, ◌||◌, ◌&&◌, Bool, true, false, cond, List, [], ◌∷◌, ◌++◌, length, take, drop, get_or, ◌-◌, ◌≢◌, Option, Some, None, ℤ, append-nil, subst, ltb, eqb, refl, sym, ap, ◌∙◌, arith}
+use Rattle.std.proofs.lemmas.Bool.{eqb-true}
+use Rattle.std.proofs.lemmas.Bool.Decides.{nat_tests}
+use Rattle.std.specs.List.{list_all}
+use Rattle.std.specs.Option.{option_map}
+use Rattle.std.specs.Str.Parse.{digits_value, signed_digits_value, starts_with_minus, without_leading_sign}
+use Rattle.ringrun_service.proofs.Digits.{all_digits_at, digit}
+use Rattle.ringrun_service.proofs.Lines.{by_cases, ends_word, past_word, word_at}
+use mir.Val.{bool_byte}
+use Rattle.std.proofs.lemmas.List.{take_rest}
+use Rattle.std.proofs.lemmas.List.Folds.{list_all-append}
+use Rattle.ringrun_service.specs.Reading.{after_blanks, digits_at, number_at, signed_at, signed_of, size_at, starts_blank}
+use Rattle.ringrun_service.specs.Script.{is_blank, is_i64, is_line_feed, is_some_bytes, number_of}
+
+-- a word may end here
+abbrev pub ends_here : List ℕ → Bool
+ends_here [] = true
+ends_here (b ∷ bs) = ends_word b
+
+-- what follows the digits at the front
+abbrev pub behind_digits : List ℕ → List ℕ
+behind_digits text = drop (length (digits_at text)) text
+
+digit_in_word : (b : ℕ) → digit b ≡ true → ends_word b ≡ false
+digit_in_word b h = grind (arith, nat_tests)
+
+-- a word that begins with digits
+digits_then_word : (text : List ℕ) → word_at text ≡ digits_at text ++ word_at (behind_digits text)
+unfolding digits_at
+digits_then_word [] = refl
+digits_then_word (b ∷ bs) = by_cases (digit b)
+    (λ h. rw (h, digit_in_word b h) (ap (λ w. b ∷ w) (digits_then_word bs)))
+    (λ h. rw h refl)
+
+-- where no word ends behind the digits, what stands there is no digit
+stray : (text : List ℕ) → ends_here (behind_digits text) ≡ false → list_all digit (word_at (behind_digits text)) ≡ false
+unfolding digits_at
+stray [] = λ h. absurd (cc)
+stray (b ∷ bs) = by_cases (digit b)
+    (λ k. rw k (stray bs))
+    (λ k. rw k (λ h. rw (h, k) refl))
+
+pub word_ends : (text : List ℕ) → ends_here text ≡ true → word_at text ≡ []
+word_ends [] h = refl
+word_ends (b ∷ bs) h = rw h refl
+
+no_sign : (b : ℕ) → ends_word b ≡ true → (eqb b 45 ≡ false) × (eqb b 43 ≡ false)
+no_sign b h = (grind (arith, nat_tests), grind (arith, nat_tests))
+
+-- signs stand in words
+sign_then_word : (text : List ℕ) → without_leading_sign (word_at text) ≡ word_at (without_leading_sign text)
+sign_then_word [] = refl
+sign_then_word (b ∷ bs) = by_cases (ends_word b)
+    (λ h. let apart = no_sign b h in rw (apart.0, apart.1, h) refl)
+    (λ h. by_cases (eqb b 45) (λ k. rw (h, k) refl) (λ k. by_cases (eqb b 43) (λ m. rw (h, k, m) refl) (λ m. rw (h, k, m) (rw h refl))))
+
+minus_then_word : (text : List ℕ) → starts_with_minus (word_at text) ≡ starts_with_minus text
+minus_then_word [] = refl
+minus_then_word (b ∷ bs) = by_cases (ends_word b) (λ h. rw (h, (no_sign b h).0) refl) (λ h. rw h refl)
+
+too_large : (is_negative : Bool) (n : ℕ) → ltb n (10 ^ 19) ≡ false → signed_of is_negative n ≡ None
+unfolding signed_of
+too_large false n h = let over : ltb n (2 ^ 63) ≡ false = grind (arith, nat_tests) in rw over refl
+too_large true zero h = absurd (cc)
+too_large true (suc n) h = let over : ltb n (2 ^ 63) ≡ false = grind (arith, nat_tests) in rw over refl
+
+number_is : (word digits : List ℕ) → without_leading_sign word ≡ digits → list_all digit digits ≡ true → number_of word ≡ cond (is_some_bytes digits) (signed_of (starts_with_minus word) (digits_value 10 digits)) None
+unfolding number_of signed_of
+number_is word [] e all = rw e refl
+number_is word (d ∷ ds) e all = rw (e, all) refl
+
+pub no_number : (word : List ℕ) → list_all digit (without_leading_sign word) ≡ false → number_of word ≡ None
+unfolding number_of
+no_number word h = rw h (elim (is_some_bytes (without_leading_sign word))
+    as (λ v. cond ((v && false) && is_i64 (signed_digits_value 10 word)) (Some (signed_digits_value 10 word)) None ≡ None)
+    [ true ↦ refl | false ↦ refl ])
+
+-- what follows the sign and the digits at the front
+abbrev pub behind_number : List ℕ → List ℕ
+behind_number text = behind_digits (without_leading_sign text)
+
+-- the number that was read, without what follows it
+abbrev pub number_part : Option (ℤ × List ℕ) → Option ℤ
+number_part read = option_map (λ (r : ℤ × List ℕ). r.0) read
+
+abbrev with_rest : List ℕ → Option ℤ → Option (ℤ × List ℕ)
+with_rest rest number = option_map (λ (n : ℤ). (n, rest)) number
+
+same_first : (number : Option ℤ) (rest : List ℕ) → number_part (with_rest rest number) ≡ number
+same_first None rest = refl
+same_first (Some n) rest = refl
+
+abbrev rest_part : Option (ℤ × List ℕ) → List ℕ
+rest_part None = []
+rest_part (Some r) = r.1
+
+rest_of : (number : Option ℤ) (behind : List ℕ) (n : ℤ) (rest : List ℕ) → with_rest behind number ≡ Some (n, rest) → rest ≡ behind
+rest_of None behind n rest e = absurd (cc)
+rest_of (Some m) behind n rest e = sym (ap rest_part e)
+
+signed_is : (text : List ℕ) → number_part (signed_at text) ≡ cond (is_some_bytes (digits_at (without_leading_sign text))) (signed_of (starts_with_minus text) (digits_value 10 (digits_at (without_leading_sign text)))) None
+unfolding signed_at size_at
+signed_is text =
+    let digits = digits_at (without_leading_sign text) in let size = digits_value 10 digits in
+    by_cases (is_some_bytes digits)
+    (λ some. by_cases (ltb size (10 ^ 19))
+    (λ small. rw (some, small) (same_first (signed_of (starts_with_minus text) size) (behind_number text)))
+    (λ large. rw (some, large) (sym (too_large (starts_with_minus text) size large))))
+    (λ none. rw none refl)
+
+-- the word that begins a text writes the number at the front, if it ends with it, and else none
+pub number_of_word : (text : List ℕ) → number_of (word_at text) ≡ cond (ends_here (behind_number text)) (number_part (signed_at text)) None
+number_of_word text =
+    let digits = without_leading_sign text in
+    let behind = behind_number text in
+    let word : without_leading_sign (word_at text) ≡ digits_at digits ++ word_at behind = sign_then_word text ∙ digits_then_word digits in
+    by_cases (ends_here behind)
+    (λ h. let whole : without_leading_sign (word_at text) ≡ digits_at digits = word ∙ ap (λ w. digits_at digits ++ w) (word_ends behind h) ∙ append-nil (digits_at digits) in
+    rw h (number_is (word_at text) (digits_at digits) whole (all_digits_at digits)
+    ∙ ap (λ m. cond (is_some_bytes (digits_at digits)) (signed_of m (digits_value 10 (digits_at digits))) None) (minus_then_word text)
+    ∙ sym (signed_is text)))
+    (λ h. rw h (no_number (word_at text) (ap (list_all digit) word ∙ list_all-append digit (digits_at digits) (word_at behind)
+    ∙ ap (λ v. v && list_all digit (word_at behind)) (all_digits_at digits) ∙ stray digits h)))
+
+past_digits : (text : List ℕ) → past_word text ≡ past_word (behind_digits text)
+unfolding digits_at
+past_digits [] = refl
+past_digits (b ∷ bs) = by_cases (digit b)
+    (λ h. rw (h, digit_in_word b h) (past_digits bs))
+    (λ h. rw h refl)
+
+past_sign : (text : List ℕ) → past_word text ≡ past_word (without_leading_sign text)
+past_sign [] = refl
+past_sign (b ∷ bs) = by_cases (ends_word b)
+    (λ h. let apart = no_sign b h in rw (apart.0, apart.1) refl)
+    (λ h. by_cases (eqb b 45) (λ k. rw (h, k) refl) (λ k. by_cases (eqb b 43) (λ m. rw (h, k, m) refl) (λ m. rw (k, m) refl)))
+
+-- the word of a number reaches past it
+pub past_number : (text : List ℕ) → past_word text ≡ past_word (behind_number text)
+past_number text = past_sign text ∙ past_digits (without_leading_sign text)
+
+pub past_end : (text : List ℕ) → ends_here text ≡ true → past_word text ≡ text
+past_end [] h = refl
+past_end (b ∷ bs) h = rw h refl
+
+-- what is read behind a number
+pub signed_rest : (text : List ℕ) (n : ℤ) (rest : List ℕ) → signed_at text ≡ Some (n, rest) → rest ≡ behind_number text
+unfolding signed_at size_at
+signed_rest text n rest = by_cases (is_some_bytes (digits_at (without_leading_sign text)) && ltb (digits_value 10 (digits_at (without_leading_sign text))) (10 ^ 19))
+    (λ h. rw h (rest_of (signed_of (starts_with_minus text) (digits_value 10 (digits_at (without_leading_sign text)))) (behind_number text) n rest))
+    (λ h. rw h (λ e. absurd (cc)))
+
+-- a line feed is no number
+pub no_number_at_feed : (b : ℕ) (bs : List ℕ) → is_line_feed b ≡ true → signed_at (b ∷ bs) ≡ None
+unfolding signed_at size_at digits_at
+no_number_at_feed b bs h = let ten : 10 ≡ b = sym (eqb-true b 10 h) in subst (λ c. signed_at (c ∷ bs) ≡ None) ten refl
+
+pub no_number_at_end : signed_at [] ≡ None
+unfolding signed_at size_at digits_at
+no_number_at_end = refl
+
+-- ---- a number, as the function reads it
+
+blanks_shorter : (text : List ℕ) → length (after_blanks text) ≤ length text
+unfolding after_blanks
+blanks_shorter [] = omega arith
+blanks_shorter (b ∷ bs) = by_cases (is_blank b) (λ h. rw h (omega (arith, blanks_shorter bs))) (λ h. rw h (omega arith))
+
+blank_shorter : (text : List ℕ) → starts_blank text ≡ true → length (after_blanks text) ≢ length text
+unfolding after_blanks
+blank_shorter [] h = absurd (cc)
+blank_shorter (b ∷ bs) h = rw h (λ e. omega (arith, blanks_shorter bs, e))
+
+none_passed : (text : List ℕ) → starts_blank text ≡ false → after_blanks text ≡ text
+unfolding after_blanks
+none_passed [] h = refl
+none_passed (b ∷ bs) h = rw h refl
+
+pub unread : (text : List ℕ) → signed_at (after_blanks text) ≡ None → number_at text ≡ None
+unfolding number_at
+unread text e = elim (starts_blank text) as (λ v. cond v (signed_at (after_blanks text)) None ≡ None) [ true ↦ e | false ↦ refl ]
+
+pub unread_word : (text word : List ℕ) → word ≡ after_blanks text → length word ≡ length text → number_at text ≡ None
+unfolding number_at
+unread_word text word e same = by_cases (starts_blank text)
+    (λ h. absurd (blank_shorter text h (ap length (sym e) ∙ same)))
+    (λ h. rw h refl)
+
+pub unread_end : (text word : List ℕ) → word ≡ after_blanks text → length word < 1 → number_at text ≡ None
+unread_end text [] e h = unread text (ap signed_at (sym e) ∙ no_number_at_end)
+unread_end text (b ∷ bs) e h = absurd (omega (arith, h))
+
+sign_of : (m p : Bool) (word : List ℕ) → drop (bool_byte (m || p)) word ≡ cond m (drop 1 word) (drop (cond p 1 0) word)
+sign_of true p word = refl
+sign_of false true word = refl
+sign_of false false word = refl
+
+pub sign_passed : (word : List ℕ) (k : ℕ) → k ≡ bool_byte (eqb (get_or word 0 0) 45 || eqb (get_or word 0 0) 43) → take (length word - k) (drop k word) ≡ without_leading_sign word
+sign_passed word k e = take_rest word k ∙ ap (λ n. drop n word) e ∙ sign_of (eqb (get_or word 0 0) 45) (eqb (get_or word 0 0) 43) word
+
+pub unread_size : (text word digits : List ℕ) → word ≡ after_blanks text → digits ≡ without_leading_sign word → size_at digits ≡ None → number_at text ≡ None
+unfolding signed_at
+unread_size text word digits e d none =
+    let size : size_at (without_leading_sign (after_blanks text)) ≡ None = ap size_at (ap without_leading_sign (sym e) ∙ sym d) ∙ none in
+    unread text (rw size refl)
+
+pub unread_sign : (text word digits rest : List ℕ) (size : ℕ) → word ≡ after_blanks text → digits ≡ without_leading_sign word → size_at digits ≡ Some (size, rest) → None ≡ signed_of (starts_with_minus word) size → number_at text ≡ None
+unfolding signed_at
+unread_sign text word digits rest size e d some none =
+    let read : size_at (without_leading_sign (after_blanks text)) ≡ Some (size, rest) = ap size_at (ap without_leading_sign (sym e) ∙ sym d) ∙ some in
+    let out : signed_of (starts_with_minus (after_blanks text)) size ≡ None = ap (λ w. signed_of (starts_with_minus w) size) (sym e) ∙ sym none in
+    unread text (rw (read, out) refl)
+
+pub number_read : (text word digits rest : List ℕ) (size : ℕ) (n : ℤ) → word ≡ after_blanks text → length word ≢ length text → digits ≡ without_leading_sign word → size_at digits ≡ Some (size, rest)
+    → Some n ≡ signed_of (starts_with_minus word) size → number_at text ≡ Some (n, rest)
+unfolding number_at signed_at
+number_read text word digits rest size n e apart d some within =
+    let read : size_at (without_leading_sign (after_blanks text)) ≡ Some (size, rest) = ap size_at (ap without_leading_sign (sym e) ∙ sym d) ∙ some in
+    let signed : signed_of (starts_with_minus (after_blanks text)) size ≡ Some n = ap (λ w. signed_of (starts_with_minus w) size) (sym e) ∙ sym within in
+    by_cases (starts_blank text)
+    (λ h. rw (h, read, signed) refl)
+    (λ h. absurd (apart (ap length (e ∙ none_passed text h))))

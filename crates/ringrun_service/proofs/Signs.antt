@@ -1,0 +1,52 @@
+-- A size with its sign, as the machine computes it.
+use Rattle.std.proofs.Common.{◌≡◌, ℕ, zero, suc, ◌+◌, ◌-◌, ◌%◌, ◌^◌, ◌<◌, ◌≤◌, Bool, true, false, Option, Some, None, ℤ, List, cond, subst, pos, negsuc, neg_ℤ, ltb, refl, sym, ap, w64, arith}
+use Rattle.std.proofs.lemmas.Bool.Decides.{nat_tests}
+use Rattle.std.proofs.lemmas.Int.{to_z-of_z, to_z_pos}
+use mir.Val.{SFits, bool_byte, of_z, to_z}
+use Rattle.ringrun_service.proofs.Lines.{by_cases, some_is}
+use Rattle.ringrun_service.specs.Reading.{signed_of}
+use Rattle.ringrun_service.specs.Script.{is_i64}
+
+pub too_large : (is_negative : Bool) (size : ℕ) → 2 ^ 63 - 1 + bool_byte is_negative < size → None ≡ signed_of is_negative size
+unfolding signed_of
+too_large false size h = let over : ltb size (2 ^ 63) ≡ false = grind (arith, nat_tests) in rw over refl
+too_large true zero h = absurd (omega arith)
+too_large true (suc n) h = let over : ltb n (2 ^ 63) ≡ false = grind (arith, nat_tests) in rw over refl
+
+pub not_negative : (size : ℕ) → size < 2 ^ 63 → Some (to_z w64 size) ≡ signed_of false size
+unfolding signed_of
+not_negative size h = let fits : ltb size (2 ^ 63) ≡ true = grind (arith, nat_tests) in rw (to_z_pos w64 size h, fits) refl
+
+-- the bits of a negative number
+negated : (n r : ℕ) → n < 2 ^ 63 → r < 2 ^ 64 → (r + suc n) % 2 ^ 64 ≡ 0 → to_z w64 r ≡ negsuc n
+negated n r small h e =
+    let high : ltb r (2 ^ 63) ≡ false = grind (arith, nat_tests) in
+    let same : 2 ^ 64 - suc r ≡ n = omega arith in
+    rw high (ap negsuc same)
+
+pub negative : (size r : ℕ) → size ≤ 2 ^ 63 → r < 2 ^ 64 → (r + size) % 2 ^ 64 ≡ 0 → Some (to_z w64 r) ≡ signed_of true size
+unfolding signed_of
+negative zero r small h e = let none : r ≡ 0 = omega arith in rw none refl
+negative (suc n) r small h e =
+    let fits : ltb n (2 ^ 63) ≡ true = grind (arith, nat_tests) in
+    rw (negated n r (omega arith) h e, fits) refl
+
+magnitude : (z : ℤ) → is_i64 z ≡ true → SFits w64 z
+magnitude (pos n) h = record { sfits = grind (arith, nat_tests) }
+magnitude (negsuc n) h = record { sfits = grind (arith, nat_tests) }
+
+chosen : (z n : ℤ) → Some n ≡ cond (is_i64 z) (Some z) None → SFits w64 n
+chosen z n = by_cases (is_i64 z)
+    (λ h. rw h (λ e. subst (λ x. SFits w64 x) (some_is z n (sym e)) (magnitude z h)))
+    (λ h. rw h (λ e. absurd (cc)))
+
+-- a number that is read is in range
+pub in_range : (is_negative : Bool) (size : ℕ) (n : ℤ) → Some n ≡ signed_of is_negative size → SFits w64 n
+unfolding signed_of
+in_range is_negative size n e = chosen (cond is_negative (neg_ℤ (pos size)) (pos size)) n e
+
+abbrev pub before : List ℕ → ℤ → Option (ℤ × List ℕ)
+before rest n = Some (n, rest)
+
+pub in_machine : (is_negative : Bool) (size : ℕ) (n : ℤ) (rest : List ℕ) → Some n ≡ signed_of is_negative size → before rest n ≡ before rest (to_z w64 (of_z w64 n))
+in_machine is_negative size n rest e = ap (before rest) (sym (to_z-of_z w64 n (in_range is_negative size n e)))

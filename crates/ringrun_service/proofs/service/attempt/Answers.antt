@@ -1,0 +1,12 @@
+use Rattle.std.proofs.Common.{rules}
+use Rattle.ringrun_service.proofs.Endings.{done}
+use Rattle.ringrun_service.proofs.service.attempt.Goals as goal
+
+pub returns-clause-done : goal.returns-clause-done
+returns-clause-done g c = done c.print.result _ _ _ _ _ _ c.in_ok-text.ensures.text c.as_str.ensures.value c.print.ensures.ok
+
+pub returns-in_err-text-clause-unwritten : goal.returns-in_err-text-clause-unwritten
+returns-in_err-text-clause-unwritten g c = search rules
+
+pub returns-in_err-text-clause-written_last : goal.returns-in_err-text-clause-written_last
+returns-in_err-text-clause-written_last g c = search rules

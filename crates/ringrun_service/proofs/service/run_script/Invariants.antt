@@ -1,0 +1,23 @@
+-- Each batch takes a line at least. The ring stands, and the text reads, as after one run of the commands so far.
+use Rattle.std.proofs.Common.{◌≡◌, ℤ, List, length, flat_map}
+use Rattle.std.specs.Prelude.{string_bytes}
+use Rattle.ringbuffer.specs.Meaning.{after_all, replies_to}
+use Rattle.ringbuffer.specs.declared.Command.{Command}
+use Rattle.ringrun_service.specs.Report.{reply_line}
+use Rattle.ringrun_service.specs.Rest.{IsRest, script_left}
+use Rattle.ringrun_service.specs.Script.{with_front}
+use Rattle.ringrun_service.proofs.service.run_script.Given as goal
+
+abbrev pub invariant-loop-alloc : goal.invariant-loop-alloc
+invariant-loop-alloc g l =
+    let contents = g.R.RingBuffer.contents in let limit = g.R.RingBuffer.limit in
+    record {
+      rest : IsRest l.script;
+      same_limit : limit l.ring ≡ limit l.fn.ring;
+      run : (commands : List (Command ℤ)) × (script_left l.fn.script ≡ with_front commands (script_left l.script))
+          × (string_bytes l.text ≡ flat_map reply_line (replies_to (limit l.fn.ring) (contents l.fn.ring) commands))
+          × (contents l.ring ≡ after_all (limit l.fn.ring) (contents l.fn.ring) commands);
+    }
+
+abbrev pub decreases-loop-alloc : goal.decreases-loop-alloc
+decreases-loop-alloc g l = length l.script.rest.now

@@ -1,0 +1,362 @@
+//! A script: a command a line, its words apart by ASCII white space. It is read byte by byte.
+
+ghost use Rattle.std.specs.Prelude.{◌≡◌, ℤ, List, map, true, Err, Ok, ◌==◌, ◌-◌, ◌^◌, ◌%◌, ◌<◌, ◌≤◌, ◌&&◌, not, nat_lt, IfErr, IfOk, IfSome, IsOk, IsSome, MatchOption, None, OnOk, Some, SomeIff, false, length, take};
+ghost use Rattle.std.specs.List.{list_all};
+ghost use Rattle.std.specs.Option.{option_to_list};
+ghost use Rattle.std.specs.Str.Parse.{AllDigits, digits_value};
+ghost use Rattle.ringrun_service.specs.Fault.{IfNotACommand, IsInScript, NamesALine};
+ghost use Rattle.ringrun_service.specs.Reading.{CommandAt, HasNoCommand, ReadsNumbers, after_blanks, after_end, after_name, digits_at, number_at, signed_of, size_at};
+ghost use Rattle.ringrun_service.specs.Rest.{IsRest, next_number, script_left};
+ghost use Rattle.ringrun_service.specs.Script.{is_blank, plain, script_of, with_front};
+ghost use Rattle.ringbuffer.specs.declared.Command.{Command};
+
+use crate::fault::Fault;
+use ringbuffer::Command;
+use std::alloc::{AllocError, Global};
+
+// How many commands are made at a time.
+const BATCH: usize = 1024;
+
+// Any number of so many digits is below 2^64.
+const SAFE_DIGITS: usize = 19;
+
+/// A script that is read from its front, line by line.
+#[derive(Clone, Copy)]
+pub struct Script<'a> {
+    pub text: &'a [u8],
+    /// The lines that are left to read.
+    pub rest: &'a [u8],
+}
+
+impl<'a> Script<'a> {
+    /// Makes a script of the lines of `text`.
+    pub fn new(text: &'a [u8]) -> Script<'a>
+        ensures rest { IsRest result }
+        ensures whole { script_left result ≡ script_of text.now }
+    {
+        Script { text, rest: text }
+    }
+
+    /// Reads the next lines, and returns the commands that they write. A line without words writes none.
+    ///
+    /// # Errors
+    ///
+    /// `NotACommand` for the first line whose words are no command, and `NoMemory` where memory was refused before such a line.
+    /// The line is then left to read.
+    pub fn read_batch(&mut self, alloc: Global) -> Result<Vec<Command<i64>>, Fault>
+        requires { IsRest self.old }
+        ensures rest { IsRest self.new }
+        ensures commands { IfOk result (λ commands. script_left self.old
+            ≡ with_front (map plain commands.items) (script_left self.new)) }
+        ensures passed { (commands : List (Command ℤ))
+            × (script_left self.old ≡ with_front commands (script_left self.new)) }
+        ensures bad { IfErr result
+            (λ fault. IfNotACommand fault (λ line. script_left self.old ≡ Err line)) }
+        ensures faults { IfErr result IsInScript }
+        ensures shorter { OnOk result (0 < length self.old.rest.now
+            → length self.new.rest.now < length self.old.rest.now) }
+    {
+        // A command takes a byte at least.
+        let mut commands = Vec::with_capacity(alloc, BATCH.min(self.rest.len()))?;
+        while commands.len() < BATCH && !self.rest.is_empty() {
+            if let Some(command) = self.read_line(alloc, true)? {
+                commands.push(command)?;
+            }
+        }
+        Ok(commands)
+    }
+
+    /// Reads all lines that are left, and keeps nothing of them. It takes no memory.
+    ///
+    /// # Errors
+    ///
+    /// `NotACommand` for the first line that is none.
+    pub fn check(&mut self, alloc: Global) -> Result<(), Fault>
+        requires { IsRest self.old }
+        ensures good { OnOk result ((commands : List (Command ℤ))
+            × (script_left self.old ≡ Ok commands)) }
+        ensures bad { IfErr result
+            (λ fault. IfNotACommand fault (λ line. script_left self.old ≡ Err line)) }
+        ensures fault { IfErr result NamesALine }
+        ensures read { OnOk result (length self.new.rest.now ≡ 0) }
+    {
+        while !self.rest.is_empty() {
+            drop(self.read_line(alloc, false)?);
+        }
+        Ok(())
+    }
+
+    /// Reads the next line, and returns the command that it writes if it has words. Unless it `keeps_items`, an extension has
+    /// none and takes no memory.
+    ///
+    /// # Errors
+    ///
+    /// As `read_batch`. The line is then left to read.
+    #[inline(always)]
+    fn read_line(&mut self, alloc: Global, keeps_items: bool) -> Result<Option<Command<i64>>, Fault>
+        requires { IsRest self.old }
+        ensures rest { IsRest self.new }
+        ensures command { keeps_items ≡ true → IfOk result
+            (λ found. script_left self.old
+            ≡ with_front (map plain (option_to_list found)) (script_left self.new)) }
+        ensures passed { (commands : List (Command ℤ))
+            × (script_left self.old ≡ with_front commands (script_left self.new)) }
+        ensures bad { IfErr result
+            (λ fault. IfNotACommand fault (λ line. script_left self.old ≡ Err line)) }
+        ensures faults { IfErr result IsInScript }
+        ensures no_memory { keeps_items ≡ false → IfErr result NamesALine }
+        ensures shorter { OnOk result (0 < length self.old.rest.now
+            → length self.new.rest.now < length self.old.rest.now) }
+    {
+        let words = skip_blanks(self.rest);
+        let Some((command, rest)) = read_command(alloc, keeps_items, words)? else {
+            self.end_line(words)?;
+            return Ok(None);
+        };
+        self.end_line(rest)?;
+        Ok(Some(command))
+    }
+
+    /// Goes on behind the first line that is left, which `rest` ends.
+    ///
+    /// # Errors
+    ///
+    /// `NotACommand` where other words come before the line's end.
+    #[inline(always)]
+    fn end_line(&mut self, rest: &'a [u8]) -> Result<(), Fault>
+        ensures text { self.new.text ≡ self.old.text }
+        ensures ok { OnOk result (after_end (after_blanks rest.now) ≡ Some self.new.rest.now) }
+        ensures shorter { OnOk result (length self.new.rest.now ≤ length rest.now - 1) }
+        ensures err { IfErr result (λ fault. (after_end (after_blanks rest.now) ≡ None)
+            × (self.new ≡ self.old) × (fault ≡ Fault.NotACommand (next_number self.old))) }
+    {
+        let Some(rest) = after_line(rest) else {
+            return Err(self.not_a_command());
+        };
+        self.rest = rest;
+        Ok(())
+    }
+
+    /// Returns the fault of the first line that is left.
+    fn not_a_command(&self) -> Fault
+        ensures { result ≡ Fault.NotACommand (next_number self.now) }
+    {
+        let read = self.text.len().saturating_sub(self.rest.len());
+        let before = self.text[..read]
+            .iter()
+            .filter(|byte| **byte == b'\n')
+            .count();
+        Fault::NotACommand { line: before + 1 }
+    }
+}
+
+/// Returns the command that begins `text`, if one does, and what follows the words that belong to it.
+#[inline(always)]
+fn read_command(
+    alloc: Global,
+    keeps_items: bool,
+    text: &[u8],
+) -> Result<Option<(Command<i64>, &[u8])>, AllocError>
+    ensures command { IfOk result (λ found. MatchOption found (HasNoCommand text.now)
+        (λ read. CommandAt keeps_items text.now read.0 read.1.now)) }
+    ensures no_memory { keeps_items ≡ false → IsOk result }
+    ensures rest { IfOk result (λ found. IfSome found
+        (λ read. length read.1.now ≤ length text.now)) }
+{
+    if let Some(rest) = strip_name(text, b"push") {
+        let Some((number, rest)) = split_number(rest) else {
+            return Ok(None);
+        };
+        return Ok(Some((Command::Push(number), rest)));
+    }
+    if let Some(rest) = strip_name(text, b"extend") {
+        let (items, rest) = read_numbers(alloc, keeps_items, rest)?;
+        return Ok(Some((Command::Extend(items), rest)));
+    }
+    if let Some(rest) = strip_name(text, b"dequeue") {
+        return Ok(Some((Command::Dequeue, rest)));
+    }
+    if let Some(rest) = strip_name(text, b"skip") {
+        return Ok(Some((Command::Skip, rest)));
+    }
+    if let Some(rest) = strip_name(text, b"clear") {
+        return Ok(Some((Command::Clear, rest)));
+    }
+    Ok(None)
+}
+
+/// Returns what follows `name` at the front of `text`, if it stands there.
+#[inline(always)]
+fn strip_name<'a>(text: &'a [u8], name: &[u8]) -> Option<&'a [u8]>
+    ensures name { MatchOption result (after_name name.now text.now ≡ None)
+        (λ rest. after_name name.now text.now ≡ Some rest.now) }
+    ensures rest { IfSome result (λ rest. length rest.now ≤ length text.now) }
+{
+    text.strip_prefix(name)
+}
+
+/// Returns the numbers at the front of `text`, or none of them unless it `keeps` them, and what follows them.
+fn read_numbers(alloc: Global, keeps: bool, text: &[u8]) -> Result<(Vec<i64>, &[u8]), AllocError>
+    ensures numbers { IfOk result
+        (λ read. ReadsNumbers keeps text.now read.0.items read.1.now) }
+    ensures no_memory { keeps ≡ false → IsOk result }
+    ensures rest { IfOk result (λ read. length read.1.now ≤ length text.now) }
+{
+    let mut numbers = Vec::new(alloc);
+    let mut rest = text;
+    while let Some((number, after)) = split_number(rest) {
+        if keeps {
+            numbers.push(number)?;
+        }
+        rest = after;
+    }
+    Ok((numbers, rest))
+}
+
+/// Returns the number that follows the blanks at the front of `text`, and what follows it.
+#[inline(always)]
+fn split_number(text: &[u8]) -> Option<(i64, &[u8])>
+    ensures number { MatchOption result (number_at text.now ≡ None)
+        (λ found. number_at text.now ≡ Some (found.0, found.1.now)) }
+    ensures shorter { IfSome result (λ found. length found.1.now < length text.now) }
+{
+    let word = skip_blanks(text);
+    if word.len() == text.len() {
+        return None;
+    }
+    let [first, ..] = word else {
+        return None;
+    };
+    // Signs are hard to foretell, so no branch hangs on them.
+    let is_negative = *first == b'-';
+    let is_signed = is_negative | (*first == b'+');
+    let (size, rest) = read_size(&word[usize::from(is_signed)..])?;
+    Some((signed(is_negative, size)?, rest))
+}
+
+/// Returns the number below 10^19 that the digits at the front of `text` write, and what follows them.
+#[inline(always)]
+fn read_size(text: &[u8]) -> Option<(u64, &[u8])>
+    ensures size { MatchOption result (size_at text.now ≡ None)
+        (λ found. size_at text.now ≡ Some (found.0, found.1.now)) }
+    ensures rest { IfSome result (λ found. length found.1.now ≤ length text.now) }
+{
+    let (size, end) = read_digits(text);
+    if end == 0 {
+        return None;
+    }
+    let digits = &text[..end];
+    if is_long(digits) {
+        return None;
+    }
+    Some((size, &text[end..]))
+}
+
+/// Returns whether `digits` write no number below 10^19: more of them than are safe follow zeros.
+#[inline(always)]
+fn is_long(digits: &[u8]) -> bool
+    ensures { result ≡ (nat_lt 19 (length digits.now)
+        && not (list_all (λ digit. digit == 48) (take (length digits.now - 19) digits.now))) }
+{
+    digits.len() > SAFE_DIGITS && !is_zeros(&digits[..digits.len() - SAFE_DIGITS])
+}
+
+/// Returns `size` with its sign, if it is in range.
+#[inline(always)]
+fn signed(is_negative: bool, size: u64) -> Option<i64>
+    ensures { result ≡ signed_of is_negative size }
+{
+    if size > i64::MAX.unsigned_abs() + u64::from(is_negative) {
+        return None;
+    }
+    let number = if is_negative {
+        size.wrapping_neg()
+    } else {
+        size
+    };
+    Some(number.cast_signed())
+}
+
+/// Returns what the digits at the front of `text` write, modulo 2^64, and how many they are.
+#[inline(always)]
+fn read_digits(text: &[u8]) -> (u64, usize)
+    ensures size { result.0 ≡ digits_value 10 (digits_at text.now) % 2 ^ 64 }
+    ensures count { result.1 ≡ length (digits_at text.now) }
+    ensures within { result.1 ≤ length text.now }
+{
+    let (mut size, start) = match first_eight(text) {
+        Some(size) => (size, 8),
+        None => (0, 0),
+    };
+    for at in start..text.len() {
+        let digit = u64::from(text[at]).wrapping_sub(u64::from(b'0'));
+        if digit > 9 {
+            return (size, at);
+        }
+        size = size.wrapping_mul(10).wrapping_add(digit);
+    }
+    (size, text.len())
+}
+
+/// Returns the number that the first eight bytes of `digits` write, if all are digits. They are read together: as bytes, then
+/// in pairs, in fours.
+#[inline(always)]
+fn first_eight(digits: &[u8]) -> Option<u64>
+    ensures { SomeIff result ((8 ≤ length digits.now) × AllDigits 10 (take 8 digits.now))
+        (digits_value 10 (take 8 digits.now)) }
+{
+    let (eight, _) = digits.split_first_chunk::<8>()?;
+    let bytes = u64::from_le_bytes(*eight) ^ 0x3030_3030_3030_3030;
+    // A byte above 9 has its highest bit set, or gets it here.
+    if (bytes | bytes.wrapping_add(0x7676_7676_7676_7676)) & 0x8080_8080_8080_8080 != 0 {
+        return None;
+    }
+    let pairs = bytes.wrapping_mul(10).wrapping_add(bytes >> 8);
+    let low = (pairs & 0x0000_00ff_0000_00ff).wrapping_mul(100 + (1_000_000 << 32));
+    let high = (pairs >> 16 & 0x0000_00ff_0000_00ff).wrapping_mul(1 + (10_000 << 32));
+    Some(low.wrapping_add(high) >> 32)
+}
+
+/// Returns whether all `digits` are zeros.
+fn is_zeros(digits: &[u8]) -> bool
+    ensures { result ≡ list_all (λ digit. digit == 48) digits.now }
+{
+    digits.iter().all(|digit| *digit == b'0')
+}
+
+/// Returns what follows the line's end in `text`, if nothing but blanks comes before it.
+fn after_line(text: &[u8]) -> Option<&[u8]>
+    ensures end { MatchOption result (after_end (after_blanks text.now) ≡ None)
+        (λ rest. after_end (after_blanks text.now) ≡ Some rest.now) }
+    ensures shorter { IfSome result (λ rest. length rest.now ≤ length text.now - 1) }
+{
+    // Most lines end where their last word does.
+    if let [b'\n', rest @ ..] = text {
+        return Some(rest);
+    }
+    match skip_blanks(text) {
+        [] => Some(&[]),
+        [b'\n', rest @ ..] => Some(rest),
+        _ => None,
+    }
+}
+
+/// Returns what follows the blanks at the front of `text`.
+fn skip_blanks(text: &[u8]) -> &[u8]
+    ensures rest { result.now ≡ after_blanks text.now }
+    ensures within { length result.now ≤ length text.now }
+{
+    let end = text
+        .iter()
+        .position(|byte| !is_blank(*byte))
+        .unwrap_or(text.len());
+    &text[end..]
+}
+
+/// Returns whether `byte` may stand between the words of a line.
+fn is_blank(byte: u8) -> bool
+    ensures { result ≡ is_blank byte }
+{
+    // Most bytes are above them all, and are told by one comparison.
+    byte <= b' ' && matches!(byte, b' ' | b'\t' | b'\x0c' | b'\r')
+}

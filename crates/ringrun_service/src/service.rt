@@ -1,0 +1,274 @@
+//! The program's work, over any reader and writers.
+
+ghost use Rattle.std.specs.Prelude.{◌≡◌, ◌≢◌, ℕ, ℤ, ◌^◌, ◌<◌, ◌≤◌, ◌↔◌, Err, IfErr, IfOk, IfSome, IsErr, IsErrOf, List, None, Ok, OnOk, Some, [], length, map, string_bytes};
+ghost use Rattle.std.specs.Io.KnownBytes.{Appends, IsAtEnd};
+ghost use Rattle.ringbuffer.specs.declared.Command.{Command};
+ghost use Rattle.ringrun_service.specs.Arguments.{AsksFor, AsksTooMuch, IsOffered, NamesRing};
+ghost use Rattle.ringrun_service.specs.Fault.{Begins, IfLinesRead, IfNotACommand, IsInScript, line_of, status_of};
+ghost use Rattle.ringrun_service.specs.Program.{Answers, IsBad, Prints, Tells, limit_of, printed_on};
+ghost use Rattle.ringrun_service.specs.Rest.{IsRest, script_left};
+ghost use Rattle.ringrun_service.specs.Script.{script_of, with_front};
+ghost use Rattle.ringrun_service.specs.declared.arguments.Arguments.{Arguments};
+
+use crate::arguments::{Arguments, Kind};
+use crate::error_line::tell;
+use crate::fault::Fault;
+use crate::report;
+use crate::script::Script;
+use ringbuffer::{
+    AllocRingBuffer, ConstGenericRingBuffer, GrowableAllocRingBuffer, RingBuffer, run, runs_join,
+};
+use std::alloc::Global;
+use std::io;
+use std::io::{Read, Write};
+
+/// Does what `words`, the program's arguments after its name, ask for, and returns the status to end with.
+///
+/// It checks the arguments, makes the ring, reads the whole input, and runs its lines as commands. Then it prints what they
+/// returned, in one text that is complete before its first byte is written. A line that is no command comes before want of
+/// memory to run the lines. Each status but 0 comes with a line on `errors`, where that takes one.
+pub fn serve<I: Read, O: Write, E: Write>(
+    alloc: Global,
+    words: &[String],
+    input: &mut I,
+    output: &mut O,
+    errors: &mut E,
+) -> u8
+    ensures done { result ≡ 0 → Answers (map string_bytes words.now) (I.remaining input.old)
+        (O.contents output.old) (O.contents output.new) }
+    ensures told { 0 < result → Tells result (I.remaining input.old)
+        (E.contents errors.old) (E.contents errors.new) }
+    ensures statuses { result ≤ 4 }
+    ensures silent { IfSome (I.remaining input.old)
+        (λ bytes. IsErr (script_of bytes) → output.new ≡ output.old) }
+    ensures arguments { (result ≡ 2) ↔ (¬ NamesRing (map string_bytes words.now)) }
+    ensures unread { result ≡ 2 → input.new ≡ input.old }
+    ensures ring_first { AsksTooMuch (map string_bytes words.now)
+        → (result ≡ 3) × (input.new ≡ input.old) }
+    ensures whole_input { result < 2 → IsAtEnd (I.remaining input.new) }
+    ensures unwritten { 0 < result → result < 4 → output.new ≡ output.old }
+    ensures written_last { (¬ IsAtEnd (I.remaining input.new)) → output.new ≡ output.old }
+    ensures no_error { result ≡ 0 → errors.new ≡ errors.old }
+{
+    match attempt(alloc, words, input, output) {
+        Ok(()) => 0,
+        Err(fault) => end(fault, errors),
+    }
+}
+
+/// Writes the line of `fault` to `errors`, where that takes one, and returns its status.
+pub fn end<E: Write>(fault: Fault, errors: &mut E) -> u8
+    ensures status { result ≡ status_of fault }
+    ensures told { Begins (E.contents errors.old) (E.contents errors.new) (line_of fault) }
+{
+    let _ = tell(fault, errors);
+    let _ = errors.flush();
+    fault.status()
+}
+
+fn attempt<I: Read, O: Write>(
+    alloc: Global,
+    words: &[String],
+    input: &mut I,
+    output: &mut O,
+) -> Result<(), Fault>
+    ensures done { OnOk result (Answers (map string_bytes words.now) (I.remaining input.old)
+        (O.contents output.old) (O.contents output.new)) }
+    ensures bad { IfErr result (λ fault. IfNotACommand fault
+        (λ line. IfSome (I.remaining input.old) (IsBad line))) }
+    ensures silent { IfSome (I.remaining input.old)
+        (λ bytes. IsErr (script_of bytes) → output.new ≡ output.old) }
+    ensures arguments { IsErrOf result Fault.BadArguments
+        ↔ (¬ NamesRing (map string_bytes words.now)) }
+    ensures unread { IsErrOf result Fault.BadArguments → input.new ≡ input.old }
+    ensures ring_first { AsksTooMuch (map string_bytes words.now)
+        → IsErrOf result Fault.NoMemory × (input.new ≡ input.old) }
+    ensures whole_input { IfLinesRead result (IsAtEnd (I.remaining input.new)) }
+    ensures unwritten { IfErr result (λ fault. status_of fault < 4 → output.new ≡ output.old) }
+    ensures written_last { (¬ IsAtEnd (I.remaining input.new)) → output.new ≡ output.old }
+{
+    let text = answer(alloc, words, input)?;
+    print(text.as_str(), output)
+}
+
+/// Returns the text that the program prints. No byte of the input is read before the arguments are checked.
+fn answer<I: Read>(alloc: Global, words: &[String], input: &mut I) -> Result<String, Fault>
+    ensures text { IfOk result (λ text. (a : Arguments) × AsksFor (map string_bytes words.now) a
+        × IfSome (I.remaining input.old)
+        (λ bytes. Prints (limit_of a.kind a.capacity) bytes (string_bytes text))) }
+    ensures bad { IfErr result (λ fault. IfNotACommand fault
+        (λ line. IfSome (I.remaining input.old) (IsBad line))) }
+    ensures arguments { IsErrOf result Fault.BadArguments
+        ↔ (¬ NamesRing (map string_bytes words.now)) }
+    ensures unread { IsErrOf result Fault.BadArguments → input.new ≡ input.old }
+    ensures ring_first { AsksTooMuch (map string_bytes words.now)
+        → IsErrOf result Fault.NoMemory × (input.new ≡ input.old) }
+    ensures whole_input { IfLinesRead result (IsAtEnd (I.remaining input.new)) }
+{
+    let Arguments { kind, capacity } = Arguments::parse(words)?;
+    match kind {
+        Kind::Array => answer_by_array(alloc, capacity, input),
+        Kind::Heap => answer_by_heap(alloc, capacity, input),
+        Kind::Grow => answer_by_grow(alloc, capacity, input),
+    }
+}
+
+fn answer_by_array<I: Read>(alloc: Global, capacity: usize, input: &mut I) -> Result<String, Fault>
+    ensures text { IfOk result (λ text. IfSome (I.remaining input.old)
+        (λ bytes. Prints (Some capacity) bytes (string_bytes text))) }
+    ensures bad { IfErr result (λ fault. IfNotACommand fault
+        (λ line. IfSome (I.remaining input.old) (IsBad line))) }
+    ensures arguments { IsErrOf result Fault.BadArguments ↔ (¬ IsOffered Kind.Array capacity) }
+    ensures unread { IsErrOf result Fault.BadArguments → input.new ≡ input.old }
+    ensures whole_input { IfLinesRead result (IsAtEnd (I.remaining input.new)) }
+{
+    match capacity {
+        1 => answer_by_array_of::<1, I>(alloc, input),
+        2 => answer_by_array_of::<2, I>(alloc, input),
+        3 => answer_by_array_of::<3, I>(alloc, input),
+        4 => answer_by_array_of::<4, I>(alloc, input),
+        8 => answer_by_array_of::<8, I>(alloc, input),
+        10 => answer_by_array_of::<10, I>(alloc, input),
+        _ => Err(Fault::BadArguments),
+    }
+}
+
+/// Answers by an array ring of this capacity, which is so small that the ring is no larger than a value may be.
+fn answer_by_array_of<const CAP: usize, I: Read>(
+    alloc: Global,
+    input: &mut I,
+) -> Result<String, Fault>
+    requires some { 0 < CAP }
+    requires few { CAP < 2 ^ 16 }
+    ensures text { IfOk result (λ text. IfSome (I.remaining input.old)
+        (λ bytes. Prints (Some CAP) bytes (string_bytes text))) }
+    ensures bad { IfErr result (λ fault. IfNotACommand fault
+        (λ line. IfSome (I.remaining input.old) (IsBad line))) }
+    ensures faults { IfErr result (λ fault. fault ≢ Fault.BadArguments) }
+    ensures whole_input { IfLinesRead result (IsAtEnd (I.remaining input.new)) }
+{
+    answer_by(&mut ConstGenericRingBuffer::<i64, CAP>::new(), alloc, input)
+}
+
+fn answer_by_heap<I: Read>(alloc: Global, capacity: usize, input: &mut I) -> Result<String, Fault>
+    ensures text { IfOk result (λ text. IfSome (I.remaining input.old)
+        (λ bytes. Prints (Some capacity) bytes (string_bytes text))) }
+    ensures bad { IfErr result (λ fault. IfNotACommand fault
+        (λ line. IfSome (I.remaining input.old) (IsBad line))) }
+    ensures arguments { IsErrOf result Fault.BadArguments ↔ (¬ IsOffered Kind.Heap capacity) }
+    ensures unread { IsErrOf result Fault.BadArguments → input.new ≡ input.old }
+    ensures ring_first { 2 ^ 63 < capacity
+        → IsErrOf result Fault.NoMemory × (input.new ≡ input.old) }
+    ensures whole_input { IfLinesRead result (IsAtEnd (I.remaining input.new)) }
+{
+    if capacity == 0 {
+        return Err(Fault::BadArguments);
+    }
+    let mut ring = AllocRingBuffer::new(alloc, capacity)?;
+    answer_by(&mut ring, alloc, input)
+}
+
+fn answer_by_grow<I: Read>(alloc: Global, capacity: usize, input: &mut I) -> Result<String, Fault>
+    ensures text { IfOk result (λ text. IfSome (I.remaining input.old)
+        (λ bytes. Prints None bytes (string_bytes text))) }
+    ensures bad { IfErr result (λ fault. IfNotACommand fault
+        (λ line. IfSome (I.remaining input.old) (IsBad line))) }
+    ensures faults { IfErr result (λ fault. fault ≢ Fault.BadArguments) }
+    ensures whole_input { IfLinesRead result (IsAtEnd (I.remaining input.new)) }
+{
+    let mut ring = GrowableAllocRingBuffer::with_capacity(alloc, capacity)?;
+    answer_by(&mut ring, alloc, input)
+}
+
+/// Returns the text that the replies of `ring`, which is empty, to the input's commands make.
+fn answer_by<R: RingBuffer<i64>, I: Read>(
+    ring: &mut R,
+    alloc: Global,
+    input: &mut I,
+) -> Result<String, Fault>
+    requires { R.contents ring.old ≡ [] }
+    ensures text { IfOk result (λ text. IfSome (I.remaining input.old)
+        (λ bytes. Prints (R.limit ring.old) bytes (string_bytes text))) }
+    ensures bad { IfErr result (λ fault. IfNotACommand fault
+        (λ line. IfSome (I.remaining input.old) (IsBad line))) }
+    ensures faults { IfErr result (λ fault. fault ≢ Fault.BadArguments) }
+    ensures whole_input { IfLinesRead result (IsAtEnd (I.remaining input.new)) }
+{
+    let bytes = read_all(alloc, input)?;
+    answer_script(ring, alloc, bytes.as_slice())
+}
+
+/// Returns the text that the replies of `ring`, which is empty, to the commands of `input` make. A bad line is its fault even
+/// where memory was refused before.
+fn answer_script<R: RingBuffer<i64>>(
+    ring: &mut R,
+    alloc: Global,
+    input: &[u8],
+) -> Result<String, Fault>
+    requires { R.contents ring.old ≡ [] }
+    ensures text { IfOk result
+        (λ text. Prints (R.limit ring.old) input.now (string_bytes text)) }
+    ensures bad { (line : ℕ) → IsErrOf result (Fault.NotACommand line) ↔ IsBad line input.now }
+    ensures faults { IfErr result IsInScript }
+{
+    let mut script = Script::new(input);
+    let answer = run_script(ring, alloc, &mut script);
+    script.check(alloc)?;
+    answer
+}
+
+/// Returns the text that the replies of `ring` to `script` make. It runs in batches, so that commands and replies take little
+/// memory.
+fn run_script<R: RingBuffer<i64>>(
+    ring: &mut R,
+    alloc: Global,
+    script: &mut Script<'_>,
+) -> Result<String, Fault>
+    requires { IsRest script.old }
+    ensures rest { IsRest script.new }
+    ensures text { IfOk result (λ text. (commands : List (Command ℤ))
+        × (script_left script.old ≡ Ok commands)
+        × (string_bytes text ≡ printed_on (R.limit ring.old) (R.contents ring.old) commands)) }
+    ensures passed { (commands : List (Command ℤ))
+        × (script_left script.old ≡ with_front commands (script_left script.new)) }
+    ensures bad { IfErr result
+        (λ fault. IfNotACommand fault (λ line. script_left script.old ≡ Err line)) }
+    ensures faults { IfErr result IsInScript }
+{
+    // Brings in that the contents are within the limit, and that runs join.
+    let _ = ring.len();
+    runs_join::<i64>();
+    let mut text = String::new(alloc);
+    while !script.rest.is_empty() {
+        let commands = script.read_batch(alloc)?;
+        let replies = run(alloc, ring, commands)?;
+        report::push_replies(&mut text, replies.as_slice())?;
+    }
+    report::push_items(&mut text, ring)?;
+    Ok(text)
+}
+
+/// Returns the whole input.
+fn read_all<I: Read>(alloc: Global, input: &mut I) -> Result<Vec<u8>, Fault>
+    ensures bytes { IfOk result
+        (λ all. IfSome (I.remaining input.old) (λ bytes. all.items ≡ bytes)) }
+    ensures no_line { IfErr result (λ fault. status_of fault ≢ 1) }
+    ensures faults { IfErr result (λ fault. fault ≢ Fault.BadArguments) }
+    ensures whole_input { IfLinesRead result (IsAtEnd (I.remaining input.new)) }
+{
+    let mut bytes = Vec::new(alloc);
+    if let Err(error) = input.read_to_end(&mut bytes) {
+        return Err(Fault::from_error(&error, Fault::InputOrOutput));
+    }
+    Ok(bytes)
+}
+
+fn print<O: Write>(text: &str, output: &mut O) -> Result<(), Fault>
+    ensures ok { OnOk result (Appends (O.contents output.old) (O.contents output.new) text.now) }
+    ensures err { IfErr result (λ fault. fault ≡ Fault.InputOrOutput) }
+{
+    if output.write_all(text.as_bytes()).is_err() || output.flush().is_err() {
+        return Err(Fault::InputOrOutput);
+    }
+    Ok(())
+}
