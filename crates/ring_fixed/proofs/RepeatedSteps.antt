@@ -69,6 +69,18 @@ module _ {X : Type 0} where
       let items : keep_last (Some (limit - length newest)) v.items ++ newest ≡ keep_last (Some limit) (v.items ++ xs) = rw (room, is) (keep_last-append limit v.items xs) in
       λ i. record { items = items i; changes = changes i; capacity = v.capacity }
 
+  -- what the limit leaves of a slice pushed in order
+  pub after_extend-newest : (limit : ℕ) (v : View X) (xs newest : List X) → newest ≡ keep_last (Some limit) xs
+      → after_extend limit v newest ≡ after_extend_from_slice limit v xs
+  after_extend-newest limit v xs newest is =
+      let long : length newest ≡ min (length xs) limit = omega (arith, ap (λ (l : List X). length l) is, length-drop (length xs - limit) xs) in
+      let room : limit - length newest ≡ limit - length xs = omega (arith, long) in
+      let none_over : length newest - limit ≡ 0 = omega (arith, long) in
+      let changes : v.changes + length newest + (length v.items + length newest - limit) ≡ v.changes + min (length xs) limit + (length v.items + min (length xs) limit - limit) = omega (arith, long) in
+      let ours : keep_last (Some limit) (v.items ++ newest) ≡ keep_last (Some (limit - length xs)) v.items ++ newest = sym (keep_last-append limit v.items newest) ∙ rw (room, none_over) refl in
+      let items : keep_last (Some limit) (v.items ++ newest) ≡ keep_last (Some limit) (v.items ++ xs) = ours ∙ rw is (keep_last-append limit v.items xs) in
+      λ i. record { items = items i; changes = changes i; capacity = v.capacity }
+
   -- n items moved from the front to the back, one by one
   abbrev pub after_turns : ℕ → View X → View X
   after_turns n v = record v { items = turned n v.items; changes = v.changes + 2 * n }

@@ -1,5 +1,5 @@
 //! The ring on the heap.
-ghost use Rattle.std.specs.Prelude.{◌≡◌, ◌↔◌, ◌+◌, ◌-◌, ◌^◌, ◌<◌, ◌≤◌, [], ◌∷◌, ◌++◌, length, refl, ◌&&◌, nat_eq, IfOk, IsErr, IsOk, Some, option_to_list, slice_get, drop, min, take};
+ghost use Rattle.std.specs.Prelude.{◌≡◌, ◌↔◌, ◌+◌, ◌-◌, ◌^◌, ◌<◌, ◌≤◌, [], ◌∷◌, ◌++◌, length, refl, ◌&&◌, nat_eq, IfErr, IfOk, IsErr, IsOk, OnOk, Some, option_to_list, slice_get, drop, min, take};
 ghost use Rattle.std.specs.Borrow.{Lends, sem};
 ghost use Rattle.std.specs.Int.{IsNextPowerOfTwo};
 ghost use Rattle.std.specs.Cmp.{and_per, on_per, partial_equiv_from_equiv};
@@ -8,7 +8,7 @@ ghost use Rattle.std.specs.List.{AllZip};
 ghost use Rattle.std.proofs.lemmas.Cmp.{and_equiv, lists_equiv, nat_eq_equiv, on_equiv};
 ghost use Rattle.ring_core.specs.Contents.{IsWithin, overwritten, index_at};
 ghost use Rattle.ring_core.specs.Walk.{DrainsInOrder, ReadsInOrder, ReadsInReverse, StartsOver, UnpacksInOrder, into_iter_to_come, iterator_to_come};
-ghost use Rattle.ring_fixed.specs.View.{after_extend_from_slice, after_keep_newest, after_pop, after_push, after_takes, after_truncate, after_write};
+ghost use Rattle.ring_fixed.specs.View.{after_extend_from_slice, after_keep_newest, after_pop, after_push, after_put, after_takes, after_truncate, after_write};
 
 mod convert;
 
@@ -255,6 +255,24 @@ impl<T: Drop> AllocRingBuffer<T> {
         self.ring.at_mut(index)
     }
 
+    /// Puts the item last if there is room for it, and overwrites nothing.
+    ///
+    /// # Errors
+    ///
+    /// Hands `item` back if the ring is full, which stays as it was.
+    #[inline]
+    pub fn try_push(&mut self, item: T) -> Result<(), T>
+        ensures ok { OnOk result (self.new ≡ after_put self.old item) }
+        ensures err { IfErr result (λ back. (back ≡ item) × (self.new ≡ self.old)) }
+        ensures full { IsErr result ↔ (length self.old.items ≡ self.old.capacity) }
+    {
+        if self.is_full() {
+            return Err(item);
+        }
+        let _ = self.push(item);
+        Ok(())
+    }
+
     /// Takes out the newest item, if there is one.
     #[inline]
     #[tactic(auto, using(ring_fixed::proofs::RepeatedSteps::last_behind))]
@@ -456,6 +474,16 @@ impl<'a, T: Drop> IntoIterator for &'a AllocRingBuffer<T> {
     #[inline]
     fn into_iter(self) -> RingBufferIterator<'a, T, AllocRingBuffer<T>> {
         self.iter()
+    }
+}
+
+/// As the method `clone` of the ring.
+impl<T: Clone + Drop> Clone for AllocRingBuffer<T> {
+    ghost is_clone = { λ ring made. AllZip T.is_clone ring.items made.items
+        × (made.capacity ≡ ring.capacity) };
+
+    fn clone(&self) -> Result<Self, AllocError> {
+        AllocRingBuffer::clone(self)
     }
 }
 
