@@ -5,9 +5,9 @@ ghost use Rattle.std.specs.Cmp.{on_per};
 ghost use Rattle.std.specs.Cmp.Lexicographic.{lists_per, pointwise};
 ghost use Rattle.std.specs.List.{AllZip};
 ghost use Rattle.std.proofs.lemmas.Cmp.{lists_equiv, on_equiv};
-ghost use Rattle.ring_core.specs.Contents.{ChangesSlots, IsWithin, keep_last, overwritten, index_at};
+ghost use Rattle.ring_core.specs.Contents.{ChangesSlots, IsWithin, keep_last, overwritten, index_at, Pushes};
 ghost use Rattle.ring_core.specs.Walk.{DrainsInOrder, ReadsInOrder, ReadsInReverse, StartsOver, UnpacksInOrder, into_iter_to_come, iterator_to_come};
-ghost use Rattle.ring_fixed.specs.View.{after_extend_from_slice, after_keep_newest, after_pop, after_push, after_put, after_takes, after_truncate, after_write};
+ghost use Rattle.ring_fixed.specs.View.{View, after_extend_from_slice, after_keep_newest, after_pop, after_push, after_put, after_takes, after_truncate, after_write};
 
 mod convert;
 
@@ -105,15 +105,11 @@ impl<T: Drop, const CAP: usize> RingBuffer<T> for ConstGenericRingBuffer<T, CAP>
 
     #[inline]
     fn push(&mut self, item: T) -> Result<Option<T>, T>
+        ensures pushed { Pushes (λ _. Some CAP) (λ (r : View _). r.items) (λ r. r.changes) self.old self.new item result }
         ensures overwrites { IfOk result (λ old. old ≡ overwritten (Some CAP) self.old.items) }
-        ensures ok { IsOk result
-            → self.new.items ≡ keep_last (Some CAP) (self.old.items ++ item ∷ []) }
-        ensures err { IfErr result (λ x. (x ≡ item) × (self.new.items ≡ self.old.items)) }
-        ensures changes { IsSome (Some CAP)
-            → ChangesSlots self.old.changes self.old.items self.new.changes self.new.items 1 }
-        ensures within { IsWithin self.old.items (Some CAP) }
-        ensures succeeds { IsSome (Some CAP) → IsOk result }
         ensures pushes { self.new ≡ after_push CAP self.old item }
+        ensures within { IsWithin self.old.items (Some CAP) }
+        ensures ok { IsOk result }
 
         // The count that the trait shows is the count of the slots themselves.
         ensures counts { ⟦<ConstGenericRingBuffer<T, CAP> as RingBuffer<T>>⟧.slot_changes self.new
