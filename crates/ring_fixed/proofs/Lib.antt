@@ -1,6 +1,7 @@
 pub mod EmptiedStretches
 pub mod LaysOut
 pub mod LentItem
+pub mod PutFirst
 pub mod PutOver
 pub mod RepeatedSteps
 pub mod Stretches

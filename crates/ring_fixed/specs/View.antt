@@ -31,6 +31,15 @@ module _ {X : Type 0} where
   after_push limit v x =
       record v { items = keep_last (Some limit) (v.items ++ x ∷ []); changes = v.changes + 1 + (length v.items + 1 - limit) }
 
+  -- an item put first, which changes one slot
+  abbrev pub after_put_first : View X → X → View X
+  after_put_first v x = record v { items = x ∷ v.items; changes = v.changes + 1 }
+
+  -- an item pushed in front: one change for it, and one where the last item gives way
+  abbrev pub after_push_front : ℕ → View X → X → View X
+  after_push_front limit v x =
+      record v { items = take limit (x ∷ v.items); changes = v.changes + 1 + (length v.items + 1 - limit) }
+
   -- items pushed in order: one change for each, and one for each item that gives way
   abbrev pub after_extend : ℕ → View X → List X → View X
   after_extend limit v xs =

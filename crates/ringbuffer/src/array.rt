@@ -7,7 +7,7 @@ ghost use Rattle.std.specs.List.{AllZip};
 ghost use Rattle.std.proofs.lemmas.Cmp.{lists_equiv, on_equiv};
 ghost use Rattle.ring_core.specs.Contents.{ChangesSlots, IsWithin, keep_last, overwritten, index_at, Pushes};
 ghost use Rattle.ring_core.specs.Walk.{DrainsInOrder, ReadsInOrder, ReadsInReverse, StartsOver, UnpacksInOrder, into_iter_to_come, iterator_to_come};
-ghost use Rattle.ring_fixed.specs.View.{View, after_extend_from_slice, after_keep_newest, after_pop, after_push, after_put, after_takes, after_truncate, after_write};
+ghost use Rattle.ring_fixed.specs.View.{View, after_extend_from_slice, after_keep_newest, after_pop, after_push, after_push_front, after_put, after_takes, after_truncate, after_write};
 
 mod convert;
 
@@ -202,6 +202,17 @@ impl<T: Drop, const CAP: usize> ConstGenericRingBuffer<T, CAP> {
         }
         let _ = self.push(item);
         Ok(())
+    }
+
+    /// Puts the item first. A ring that is full hands back its newest item, which gave way for it.
+    #[inline]
+    pub fn push_front(&mut self, item: T) -> Option<T>
+        ensures value { result ≡ slice_get (item ∷ self.old.items) CAP }
+        ensures after { self.new ≡ after_push_front CAP self.old item }
+    {
+        // For the proof: the contents are within the limit.
+        let _ = self.len();
+        self.ring.push_front(item, CAP)
     }
 
     /// Takes out the newest item, if there is one.

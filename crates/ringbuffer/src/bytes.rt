@@ -1,5 +1,5 @@
 //! Rings of bytes as readers and writers of `std::io`.
-ghost use Rattle.std.specs.Prelude.{◌≡◌, ◌-◌, [], ◌++◌, drop, length, min, take, None, Ok, Some, IsOk, IfOk, IfErr, OnErr, OnOk};
+ghost use Rattle.std.specs.Prelude.{◌≡◌, ◌-◌, [], ◌++◌, drop, length, min, take, None, Ok, Some, IfSome, IsOk, IfOk, IfErr, OnErr, OnOk};
 ghost use Rattle.std.specs.IoError.{error_kind};
 ghost use Rattle.ringbuffer.specs.contracts.grow.GrowableAllocRingBuffer.{the_row as growable_row};
 ghost use Rattle.std.specs.Borrow.{sem, u8 as byte};
@@ -7,6 +7,7 @@ ghost use Rattle.std.specs.Io.{ReadsAtMost, StartsWith, WritesAtMost};
 ghost use Rattle.std.specs.Io.BufRead.{DropsConsumable, FillKeeps, Rests, drop_through, take_through};
 ghost use Rattle.ringbuffer.specs.contracts.array.ConstGenericRingBuffer.{the_row as array_row};
 ghost use Rattle.std.specs.Io.KnownBytes.{Keeps, ReadConsumes, WriteAppends};
+ghost use Rattle.ring_core.specs.Contents.{IsWithin};
 ghost use Rattle.ring_fixed.specs.View.{after_extend_from_slice, after_takes};
 ghost use Rattle.ringbuffer.specs.contracts.heap.AllocRingBuffer.{the_row as heap_row};
 
@@ -16,6 +17,15 @@ use crate::heap::AllocRingBuffer;
 use ring_core::RingBuffer;
 use std::io::{BufRead, ErrorKind, Read, Result, Write};
 use std::slice;
+
+// Returns how many of the bytes of `buf` fit into a ring below its limit.
+fn count_that_fits<R: RingBuffer<u8>>(ring: &R, buf: &[u8]) -> usize
+    ensures count { IfSome (R.limit ring.now)
+        (λ n. result ≡ min (length buf.now) (n - length (R.contents ring.now))) }
+    ensures within { IsWithin (R.contents ring.now) (R.limit ring.now) }
+{
+    buf.len().min(ring.capacity() - ring.len())
+}
 
 /// A read takes out the oldest bytes, as many as `buf` has places. An empty ring has ended.
 impl<const CAP: usize> Read for ConstGenericRingBuffer<u8, CAP> {
@@ -68,7 +78,7 @@ impl<const CAP: usize> Write for ConstGenericRingBuffer<u8, CAP> {
         ensures after { IfOk result (λ n. self.new
             ≡ after_extend_from_slice CAP self.old (take n buf.now)) }
     {
-        let count = buf.len().min(self.capacity() - self.len());
+        let count = count_that_fits(self, buf);
         self.extend_from_slice(&buf[..count]);
         Ok(count)
     }
@@ -133,7 +143,7 @@ impl Write for AllocRingBuffer<u8> {
         ensures after { IfOk result (λ n. self.new
             ≡ after_extend_from_slice self.old.capacity self.old (take n buf.now)) }
     {
-        let count = buf.len().min(self.capacity() - self.len());
+        let count = count_that_fits(self, buf);
         self.extend_from_slice(&buf[..count]);
         Ok(count)
     }
