@@ -9,4 +9,5 @@ pub mod SlotsHold
 pub mod SomesTaken
 pub mod Sources
 pub mod Straight
+pub mod Turns
 mod Words

@@ -29,13 +29,13 @@ module _ {X : Type 0} (slots : List (Option X)) (start : ℕ) (within : start < 
   SlotsHold-put_first xs x hold k low =
       let size = length slots in let place = place_before start size within in
       rw (length-set slots place (Some x)) (held k (rw (length-set slots place (Some x)) at low)) where
-    held : (k : ℕ) → k < length slots → get_or (set slots (place_before start (length slots) within) (Some x)) ((place_before start (length slots) within + k) % length slots) None ≡ slice_get (x ∷ xs) k
-    held zero low =
-        let size = length slots in let place = place_before start size within in
-        ap (λ n. get_or (set slots place (Some x)) n None) (at_itself start size within) ∙ get_or-set_same slots place (Some x) None (before_within start size within)
-    held (suc k) low =
-        let size = length slots in let place = place_before start size within in
-        ap (λ n. get_or (set slots place (Some x)) n None) (on_from start size within k) ∙ get_or-set_other slots place ((start + k) % size) (Some x) None (apart start size within k low) ∙ hold k (omega arith)
+        held : (k : ℕ) → k < length slots → get_or (set slots (place_before start (length slots) within) (Some x)) ((place_before start (length slots) within + k) % length slots) None ≡ slice_get (x ∷ xs) k
+        held zero low =
+            let size = length slots in let place = place_before start size within in
+            ap (λ n. get_or (set slots place (Some x)) n None) (at_itself start size within) ∙ get_or-set_same slots place (Some x) None (before_within start size within)
+        held (suc k) low =
+            let size = length slots in let place = place_before start size within in
+            ap (λ n. get_or (set slots place (Some x)) n None) (on_from start size within k) ∙ get_or-set_other slots place ((start + k) % size) (Some x) None (apart start size within k low) ∙ hold k (omega arith)
 
 module _ {X : Type 0} {P : ℕ → Type 0} (s : Slots X) (start : ℕ) (laid_out : IsLaidOut P s start) where
   -- before the first item the slot is empty where there is room

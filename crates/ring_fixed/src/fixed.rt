@@ -161,7 +161,7 @@ impl<T: Drop, S: RingSlots<T>> Fixed<T, S> {
 
     // Puts an item before the first, where there is room for one.
     #[inline]
-    fn put_first(&mut self, item: T)
+    pub(crate) fn put_first(&mut self, item: T)
         requires sound { IsSound S.seen S.is_size self.old }
         requires room { length (view_of S.seen self.old).items < room_of S.seen self.old }
         ensures { ChangesTo S.seen S.is_size self.old self.new

@@ -10,6 +10,7 @@ ghost use Rattle.ring_core.specs.Walk.{DrainsInOrder, ReadsInOrder, ReadsInRever
 ghost use Rattle.ring_fixed.specs.View.{View, after_extend_from_slice, after_keep_newest, after_pop, after_push, after_push_front, after_put, after_takes, after_truncate, after_write};
 
 mod convert;
+mod middle;
 
 use ring_core::{
     RingBuffer, RingBufferDrainingIterator, RingBufferIntoIterator, RingBufferIterator,
