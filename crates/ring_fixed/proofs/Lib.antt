@@ -1,6 +1,7 @@
 pub mod EmptiedStretches
 pub mod LaysOut
 pub mod LentItem
+pub mod PutFirst
 pub mod PutOver
 pub mod RepeatedSteps
 pub mod Stretches
@@ -8,4 +9,5 @@ pub mod SlotsHold
 pub mod SomesTaken
 pub mod Sources
 pub mod Straight
+pub mod Turns
 mod Words

@@ -1,5 +1,5 @@
 -- What steps repeated come to.
-use Rattle.ring_fixed.proofs.Words.{◌≡◌, ℕ, suc, ◌+◌, ◌-◌, ◌*◌, ◌<◌, ◌≤◌, List, Some, add-one, ap, drop, drop-cons, get_or, length-take-le, take-append-drop, take_at, drop-append_seam, sym, take-suc, turned, ◌∙◌, [], ◌∷◌, ◌++◌, length, take, refl, arith, append_assoc, append-nil, length-append, length-drop, min, option_to_list, slice_get, drop-length, drop-append-le, drop_min, take_all, View, after_put, after_puts, after_take, after_takes, after_clear, after_push, after_extend, after_extend_from_slice, after_keep_newest, keep_last, drop-append, take-suc_get, keep_last-keep_last}
+use Rattle.ring_fixed.proofs.Words.{◌≡◌, ℕ, suc, ◌+◌, ◌-◌, ◌*◌, ◌<◌, ◌≤◌, List, Some, add-one, ap, drop, drop-cons, get_or, length-take-le, take-append-drop, take_at, drop-append_seam, sym, take-suc, ◌∙◌, [], ◌∷◌, ◌++◌, length, take, refl, arith, append_assoc, append-nil, length-append, length-drop, min, option_to_list, slice_get, drop-length, drop-append-le, drop_min, take_all, View, after_put, after_puts, after_take, after_takes, after_clear, after_push, after_extend, after_extend_from_slice, after_keep_newest, keep_last, drop-append, take-suc_get, keep_last-keep_last}
 
 module _ {X : Type 0} where
   -- the last item behind those before it makes all items
@@ -69,29 +69,14 @@ module _ {X : Type 0} where
       let items : keep_last (Some (limit - length newest)) v.items ++ newest ≡ keep_last (Some limit) (v.items ++ xs) = rw (room, is) (keep_last-append limit v.items xs) in
       λ i. record { items = items i; changes = changes i; capacity = v.capacity }
 
-  -- n items moved from the front to the back, one by one
-  abbrev pub after_turns : ℕ → View X → View X
-  after_turns n v = record v { items = turned n v.items; changes = v.changes + 2 * n }
-
-  pub after_turns-none : (v : View X) → after_turns 0 v ≡ v
-  after_turns-none v = let none : v.changes + 2 * 0 ≡ v.changes = omega arith in rw (append-nil, none) refl
-
-  pub after_turns-more : (n : ℕ) (v : View X) (x : X) → n < length v.items → slice_get (turned n v.items) 0 ≡ Some x → after_put (after_take (after_turns n v)) x ≡ after_turns (n + 1) v
-  after_turns-more n v x low first =
-      let xs = v.items in
-      let behind : drop n xs ≡ get_or xs n x ∷ drop (suc n) xs = drop-cons xs n x low in
-      let is : get_or xs n x ≡ x = let e : Some (get_or xs n x) ≡ Some x = sym (ap (λ l. slice_get (l ++ take n xs) 0) behind) ∙ first in cc in
-      let items : drop 1 (turned n xs) ++ x ∷ [] ≡ turned (n + 1) xs =
-      rw (add-one, take-suc xs n x low, behind, is) (append_assoc (drop (suc n) xs) (take n xs) (x ∷ [])) in
-      let some : 0 < length (turned n xs) = rw behind (omega arith) in
-      let changes : v.changes + 2 * n + min (length (turned n xs)) 1 + 1 ≡ v.changes + 2 * (n + 1) = omega arith in
+  -- what the limit leaves of a slice pushed in order
+  pub after_extend-newest : (limit : ℕ) (v : View X) (xs newest : List X) → newest ≡ keep_last (Some limit) xs
+      → after_extend limit v newest ≡ after_extend_from_slice limit v xs
+  after_extend-newest limit v xs newest is =
+      let long : length newest ≡ min (length xs) limit = omega (arith, ap (λ (l : List X). length l) is, length-drop (length xs - limit) xs) in
+      let room : limit - length newest ≡ limit - length xs = omega (arith, long) in
+      let none_over : length newest - limit ≡ 0 = omega (arith, long) in
+      let changes : v.changes + length newest + (length v.items + length newest - limit) ≡ v.changes + min (length xs) limit + (length v.items + min (length xs) limit - limit) = omega (arith, long) in
+      let ours : keep_last (Some limit) (v.items ++ newest) ≡ keep_last (Some (limit - length xs)) v.items ++ newest = sym (keep_last-append limit v.items newest) ∙ rw (room, none_over) refl in
+      let items : keep_last (Some limit) (v.items ++ newest) ≡ keep_last (Some limit) (v.items ++ xs) = ours ∙ rw is (keep_last-append limit v.items xs) in
       λ i. record { items = items i; changes = changes i; capacity = v.capacity }
-
-  pub length-turned : (n : ℕ) (xs : List X) → n ≤ length xs → length (turned n xs) ≡ length xs
-  length-turned n xs low = omega (arith, length-append (drop n xs) (take n xs), length-drop n xs, length-take-le n xs low)
-
-  -- a turn by the others brings each item back
-  pub turned_back : (n : ℕ) (xs ys : List X) → n ≤ length xs → ys ≡ turned n xs → turned (length ys - n) ys ≡ xs
-  turned_back n xs ys low is =
-      let cut : length (turned n xs) - n ≡ length (drop n xs) = omega (arith, length-turned n xs low, length-drop n xs) in
-      rw (is, cut, drop-append_seam (drop n xs) (take n xs), take_at (drop n xs) (take n xs) (length (drop n xs)) refl) (take-append-drop n xs)

@@ -7,10 +7,10 @@ pub use Rattle.ring_fixed.specs.Layout.{AreFull, Empties, IsLaidOut, LaysOut, Sl
 unfoldable pub use Rattle.ring_fixed.specs.Layout.{items_from}
 pub use Rattle.ring_fixed.specs.Somes.{somes}
 pub use Rattle.ring_fixed.specs.Sources.{Gives}
-pub use Rattle.ring_fixed.specs.View.{View, after_clear, after_extend, after_extend_from_slice, after_keep_newest, after_pop, after_push, after_put, after_puts, after_rewrite, after_take, after_takes, after_truncate, after_write}
+pub use Rattle.ring_fixed.specs.View.{View, after_clear, after_extend, after_extend_from_slice, after_insert, after_keep_newest, after_pop, after_push, after_push_front, after_put, after_put_first, after_puts, after_remove, after_rewrite, after_rotate, after_take, after_takes, after_truncate, after_turn_left, after_turn_right, after_write, turned}
 pub use Rattle.ring_fixed.specs.declared.fixed.Span.{Span}
 pub use Rattle.ring_fixed.specs.fixed.Sound.{IsSound, view_of}
-pub use Rattle.ring_fixed.specs.slices.Straight.{beside, straight_start, straightened, turned}
+pub use Rattle.ring_fixed.specs.slices.Straight.{beside, straight_start, straightened}
 pub use Rattle.ring_slots.specs.Slots.{HoldsStretch, IsEmptyAt, IsFullAt, IsFullStretch, Slots, changed, refilled, slot_at}
 pub use Rattle.std.proofs.Common.{All, Bool, Bor, IfSome, List, MatchOption, None, Option, Some, [], add-one, ap, append-nil, append_assoc, arith, drop, ext_get_or, false, get_or, get_or-set_other, get_or-set_same, if◌then◌else◌, inl, inr, length, length-append, length-drop, length-set, length-take, length-take-le, map, nat_eq, of_calls, refl, rules, replicate, subst, suc, sym, take, take-append-drop, true, zero, ℕ, ◌%◌, ◌&&◌, ◌*◌, ◌++◌, ◌+◌, ◌-◌, ◌/◌, ◌<◌, ◌^◌, ◌∙◌, ◌∷◌, ◌≡◌, ◌≢◌, ◌≤◌, ◌⊎◌}
 pub use Rattle.std.proofs.Math.Decide.{dec_lt, ℕ_discrete}

@@ -31,6 +31,15 @@ module _ {X : Type 0} where
   after_push limit v x =
       record v { items = keep_last (Some limit) (v.items ++ x ∷ []); changes = v.changes + 1 + (length v.items + 1 - limit) }
 
+  -- an item put first, which changes one slot
+  abbrev pub after_put_first : View X → X → View X
+  after_put_first v x = record v { items = x ∷ v.items; changes = v.changes + 1 }
+
+  -- an item pushed in front: one change for it, and one where the last item gives way
+  abbrev pub after_push_front : ℕ → View X → X → View X
+  after_push_front limit v x =
+      record v { items = take limit (x ∷ v.items); changes = v.changes + 1 + (length v.items + 1 - limit) }
+
   -- items pushed in order: one change for each, and one for each item that gives way
   abbrev pub after_extend : ℕ → View X → List X → View X
   after_extend limit v xs =
@@ -69,3 +78,29 @@ module _ {X : Type 0} where
   -- the item at an index written
   abbrev pub after_write : View X → ℕ → X → View X
   after_write v i x = record v { items = slice_set v.items i x; changes = v.changes + 1 }
+
+  -- a list from item n on, and the first n items behind
+  abbrev pub turned : ℕ → List X → List X
+  turned n xs = drop n xs ++ take n xs
+
+  -- the first n items moved behind the others, by two changes each
+  abbrev pub after_turn_left : ℕ → View X → View X
+  after_turn_left n v = record v { items = turned n v.items; changes = v.changes + 2 * n }
+
+  -- the last n items moved before the others, by two changes each
+  abbrev pub after_turn_right : ℕ → View X → View X
+  after_turn_right n v = record v { items = turned (length v.items - n) v.items; changes = v.changes + 2 * n }
+
+  -- the items turned by moving the fewer of those before and those behind
+  abbrev pub after_rotate : ℕ → View X → View X
+  after_rotate n v = record v { items = turned n v.items; changes = v.changes + 2 * min n (length v.items - n) }
+
+  -- the item at an index taken, once the fewer of those before and behind are moved out of its way, and back
+  abbrev pub after_remove : ℕ → View X → View X
+  after_remove i v =
+      record v { items = take i v.items ++ drop (i + 1) v.items; changes = v.changes + 4 * min i (length v.items - 1 - i) + 1 }
+
+  -- an item put at an index, once the fewer of those before and behind are moved out of its way, and back
+  abbrev pub after_insert : ℕ → X → View X → View X
+  after_insert i x v =
+      record v { items = take i v.items ++ x ∷ drop i v.items; changes = v.changes + 4 * min i (length v.items - i) + 1 }

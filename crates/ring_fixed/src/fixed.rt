@@ -1,8 +1,8 @@
 //! What the two rings of a fixed capacity share: items that lie in slots, counted round from a start.
-ghost use Rattle.std.specs.Prelude.{◌≡◌, ◌+◌, ◌-◌, ◌%◌, ◌<◌, ◌≤◌, List, [], length, None, Some, replicate, slice_get};
+ghost use Rattle.std.specs.Prelude.{◌≡◌, ◌+◌, ◌-◌, ◌%◌, ◌<◌, ◌≤◌, List, [], ◌∷◌, length, None, Some, replicate, slice_get};
 ghost use Rattle.std.specs.Borrow.{Lends, sem};
 ghost use Rattle.ring_core.specs.Contents.{overwritten};
-ghost use Rattle.ring_fixed.specs.View.{after_put, after_take, after_pop, after_push};
+ghost use Rattle.ring_fixed.specs.View.{after_pop, after_push, after_push_front, after_put, after_put_first, after_take};
 ghost use Rattle.ring_fixed.specs.Layout.{CanPush, IsLaidOut, LaysOut, view_from};
 
 use ring_slots::RingSlots;
@@ -137,6 +137,40 @@ impl<T: Drop, S: RingSlots<T>> Fixed<T, S> {
         let place = self.slots.place(self.start, last);
         self.len = last;
         Some(self.slots.take(place))
+    }
+
+    /// Puts an item before the first. At the capacity the last item gives way, and is handed back.
+    #[inline]
+    pub fn push_front(&mut self, item: T, capacity: usize) -> Option<T>
+        requires sound { IsSound S.seen S.is_size self.old }
+        requires some { 0 < capacity }
+        requires within { length (view_of S.seen self.old).items ≤ capacity }
+        requires room { capacity ≤ room_of S.seen self.old }
+        ensures value { result ≡ slice_get (item ∷ (view_of S.seen self.old).items) capacity }
+        ensures after { ChangesTo S.seen S.is_size self.old self.new
+            (after_push_front capacity (view_of S.seen self.old) item) }
+    {
+        if self.len == capacity {
+            let old = self.pop_back();
+            self.put_first(item);
+            return old;
+        }
+        self.put_first(item);
+        None
+    }
+
+    // Puts an item before the first, where there is room for one.
+    #[inline]
+    pub(crate) fn put_first(&mut self, item: T)
+        requires sound { IsSound S.seen S.is_size self.old }
+        requires room { length (view_of S.seen self.old).items < room_of S.seen self.old }
+        ensures { ChangesTo S.seen S.is_size self.old self.new
+            (after_put_first (view_of S.seen self.old) item) }
+    {
+        let place = self.slots.place(self.start, self.slots.size() - 1);
+        self.slots.put(place, item);
+        self.start = place;
+        self.len += 1;
     }
 
     /// Returns the item at an index below the length.

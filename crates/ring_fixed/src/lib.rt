@@ -3,6 +3,7 @@
 
 mod bulk;
 mod fixed;
+mod middle;
 mod parts;
 mod slices;
 

@@ -5,12 +5,13 @@ ghost use Rattle.std.specs.Cmp.Lexicographic.{pointwise};
 ghost use Rattle.std.specs.Int.{IsPowerOfTwo};
 ghost use Rattle.std.specs.List.{AllZip};
 
-use crate::fixed::{Fixed, Span};
+use crate::fixed::Fixed;
 use ring_slots::{HeapSlots, RingSlots};
 
 impl<T: Drop> Fixed<T, HeapSlots<T>> {
     ghost use Rattle.ring_fixed.specs.fixed.Sound.{view_of, IsSound};
-    ghost use Rattle.ring_fixed.specs.slices.Straight.{beside, lends_straight, straight_start, turned};
+    ghost use Rattle.ring_fixed.specs.slices.Straight.{beside, lends_straight, straight_start};
+    ghost use Rattle.ring_fixed.specs.View.{turned};
 
     /// Returns the items in two slices: those up to the last slot, and those that go on at the first.
     #[inline]
@@ -73,22 +74,11 @@ impl<T: Drop> Fixed<T, HeapSlots<T>> {
             self.new.start (turned result (view_of (λ s. s) self.old).items) }
         ensures counted { self.new.slots.changes ≡ self.old.slots.changes + 2 * result }
     {
-        let (mut start, len) = (self.start, self.len);
-        let first = self.slots.size() - start;
-        if len <= first {
+        let first = self.slots.size() - self.start;
+        if self.len <= first {
             return 0;
         }
-        for _ in 0..first {
-            let (next, item) = Self::take_from(&mut self.slots, start);
-            let end = self.slots.place(next, len - 1);
-            let others = Span {
-                start: next,
-                len: len - 1,
-            };
-            Self::put_at(&mut self.slots, others, end, item);
-            start = next;
-        }
-        self.start = start;
+        self.turn_left(first);
         first
     }
 }

@@ -1,4 +1,5 @@
 pub mod Conversions
+mod CopiedOut
 pub mod Poured
 mod Words
 pub use Rattle.ring_core.proofs.Drained

@@ -1,5 +1,5 @@
 //! The ring in an array.
-ghost use Rattle.std.specs.Prelude.{◌≡◌, ◌+◌, ◌-◌, ◌<◌, ◌≤◌, [], ◌∷◌, ◌++◌, length, refl, IfErr, IfOk, IfSome, IsOk, IsSome, OnOk, Some, option_to_list, slice_get};
+ghost use Rattle.std.specs.Prelude.{◌≡◌, ◌↔◌, ◌+◌, ◌-◌, ◌<◌, ◌≤◌, [], ◌∷◌, ◌++◌, drop, length, min, refl, take, IsErr, IfErr, IfOk, IfSome, IsOk, IsSome, OnOk, Some, option_to_list, slice_get};
 ghost use Rattle.std.specs.Borrow.{Lends, sem};
 ghost use Rattle.std.specs.Cmp.{on_per};
 ghost use Rattle.std.specs.Cmp.Lexicographic.{lists_per, pointwise};
@@ -7,9 +7,10 @@ ghost use Rattle.std.specs.List.{AllZip};
 ghost use Rattle.std.proofs.lemmas.Cmp.{lists_equiv, on_equiv};
 ghost use Rattle.ring_core.specs.Contents.{ChangesSlots, IsWithin, keep_last, overwritten, index_at, Pushes};
 ghost use Rattle.ring_core.specs.Walk.{DrainsInOrder, ReadsInOrder, ReadsInReverse, StartsOver, UnpacksInOrder, into_iter_to_come, iterator_to_come};
-ghost use Rattle.ring_fixed.specs.View.{View, after_keep_newest, after_pop, after_push, after_truncate, after_write};
+ghost use Rattle.ring_fixed.specs.View.{View, after_extend_from_slice, after_keep_newest, after_pop, after_push, after_push_front, after_put, after_takes, after_truncate, after_write};
 
 mod convert;
+mod middle;
 
 use ring_core::{
     RingBuffer, RingBufferDrainingIterator, RingBufferIntoIterator, RingBufferIterator,
@@ -186,6 +187,35 @@ impl<T: Drop, const CAP: usize> ConstGenericRingBuffer<T, CAP> {
         self.ring.at_mut(index)
     }
 
+    /// Puts the item last if there is room for it, and overwrites nothing.
+    ///
+    /// # Errors
+    ///
+    /// Hands `item` back if the ring is full, which stays as it was.
+    #[inline]
+    pub fn try_push(&mut self, item: T) -> Result<(), T>
+        ensures ok { OnOk result (self.new ≡ after_put self.old item) }
+        ensures err { IfErr result (λ back. (back ≡ item) × (self.new ≡ self.old)) }
+        ensures full { IsErr result ↔ (length self.old.items ≡ CAP) }
+    {
+        if self.is_full() {
+            return Err(item);
+        }
+        let _ = self.push(item);
+        Ok(())
+    }
+
+    /// Puts the item first. A ring that is full hands back its newest item, which gave way for it.
+    #[inline]
+    pub fn push_front(&mut self, item: T) -> Option<T>
+        ensures value { result ≡ slice_get (item ∷ self.old.items) CAP }
+        ensures after { self.new ≡ after_push_front CAP self.old item }
+    {
+        // For the proof: the contents are within the limit.
+        let _ = self.len();
+        self.ring.push_front(item, CAP)
+    }
+
     /// Takes out the newest item, if there is one.
     #[inline]
     #[tactic(auto, using(ring_fixed::proofs::RepeatedSteps::last_behind))]
@@ -209,6 +239,45 @@ impl<T: Drop, const CAP: usize> ConstGenericRingBuffer<T, CAP> {
         ensures { self.new ≡ after_keep_newest len self.old }
     {
         self.ring.keep_newest(len);
+    }
+}
+
+impl<T: Copy + Drop, const CAP: usize> ConstGenericRingBuffer<T, CAP> {
+    /// Pushes copies of a slice's items in order, as `extend` would: the oldest items give way. Items of the slice that
+    /// later ones would overwrite are passed over.
+    pub fn extend_from_slice(&mut self, items: &[T])
+        ensures { self.new ≡ after_extend_from_slice CAP self.old items.now }
+    {
+        let (_, newest) = items.split_at(items.len().saturating_sub(CAP));
+        self.ring.extend(newest.iter().copied(), CAP);
+    }
+
+    /// Copies the oldest items to the first places of a slice, as many as it has, and returns how many.
+    pub fn copy_to_slice(&self, output: &mut [T]) -> usize
+        ensures count { result ≡ min (length output.old) (length self.now.items) }
+        ensures copied { output.new ≡ take result self.now.items ++ drop result output.old }
+    {
+        let len = self.len();
+        let mut count = 0;
+        for place in output.iter_mut() {
+            if count == len {
+                break;
+            }
+            *place = *self.ring.at(count);
+            count += 1;
+        }
+        count
+    }
+
+    /// Takes out the oldest items, as many as a slice has places, copies them to its first places, and returns how many.
+    pub fn dequeue_into(&mut self, output: &mut [T]) -> usize
+        ensures count { result ≡ min (length output.old) (length self.old.items) }
+        ensures copied { output.new ≡ take result self.old.items ++ drop result output.old }
+        ensures rest { self.new ≡ after_takes result self.old }
+    {
+        let count = self.copy_to_slice(output);
+        self.ring.drop_first(count);
+        count
     }
 }
 
@@ -339,6 +408,17 @@ impl<T: Clone + Drop, const CAP: usize> ConstGenericRingBuffer<T, CAP> {
         let mut ring = Self::new();
         extend_cloned(&mut ring, self.iter())?;
         Ok(ring)
+    }
+}
+
+/// As the method `clone` of the ring.
+impl<T: Clone + Drop, const CAP: usize> Clone for ConstGenericRingBuffer<T, CAP> {
+    ghost is_clone = { λ ring made. AllZip T.is_clone ring.items made.items };
+
+    ghost is_infallible = { λ _. (x : T) → T.is_infallible x };
+
+    fn clone(&self) -> Result<Self, AllocError> {
+        ConstGenericRingBuffer::clone(self)
     }
 }
 

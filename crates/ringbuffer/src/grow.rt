@@ -10,6 +10,7 @@ ghost use Rattle.ring_core.specs.Contents.{keep_last};
 ghost use Rattle.ring_core.specs.Walk.{DrainsInOrder, ReadsInOrder, ReadsInReverse, StartsOver, UnpacksInOrder, into_iter_to_come, iterator_to_come};
 
 mod convert;
+mod order;
 
 use ring_core::{
     RingBuffer, RingBufferDrainingIterator, RingBufferIntoIterator, RingBufferIterator,
@@ -484,6 +485,17 @@ impl<T: Clone + Drop> GrowableAllocRingBuffer<T> {
         Ok(GrowableAllocRingBuffer {
             deque: self.deque.clone()?,
         })
+    }
+}
+
+/// As the method `clone` of the ring.
+impl<T: Clone + Drop> Clone for GrowableAllocRingBuffer<T> {
+    ghost is_clone = { AllZip T.is_clone };
+
+    ghost is_infallible = { λ ring. ring ≡ [] };
+
+    fn clone(&self) -> Result<Self, AllocError> {
+        GrowableAllocRingBuffer::clone(self)
     }
 }
 

@@ -1,21 +1,22 @@
 //! The ring on the heap.
-ghost use Rattle.std.specs.Prelude.{◌≡◌, ◌↔◌, ◌+◌, ◌-◌, ◌^◌, ◌<◌, ◌≤◌, [], ◌∷◌, ◌++◌, length, refl, ◌&&◌, nat_eq, IfOk, IsErr, IsOk, Some, option_to_list, slice_get, drop, min, take};
+ghost use Rattle.std.specs.Prelude.{◌≡◌, ◌↔◌, ◌+◌, ◌-◌, ◌^◌, ◌<◌, ◌≤◌, [], ◌∷◌, ◌++◌, length, refl, ◌&&◌, nat_eq, IfErr, IfOk, IsErr, IsOk, OnErr, OnOk, Some, option_to_list, slice_get, drop, min, take};
 ghost use Rattle.std.specs.Borrow.{Lends, sem};
 ghost use Rattle.std.specs.Int.{IsNextPowerOfTwo};
 ghost use Rattle.std.specs.Cmp.{and_per, on_per, partial_equiv_from_equiv};
 ghost use Rattle.std.specs.Cmp.Lexicographic.{lists_per, pointwise};
 ghost use Rattle.std.specs.List.{AllZip};
 ghost use Rattle.std.proofs.lemmas.Cmp.{and_equiv, lists_equiv, nat_eq_equiv, on_equiv};
-ghost use Rattle.ring_core.specs.Contents.{IsWithin, overwritten, index_at};
+ghost use Rattle.ring_core.specs.Contents.{IsWithin, index_at, keep_last, overwritten};
 ghost use Rattle.ring_core.specs.Walk.{DrainsInOrder, ReadsInOrder, ReadsInReverse, StartsOver, UnpacksInOrder, into_iter_to_come, iterator_to_come};
-ghost use Rattle.ring_fixed.specs.View.{after_extend_from_slice, after_keep_newest, after_pop, after_push, after_takes, after_truncate, after_write};
+ghost use Rattle.ring_fixed.specs.View.{after_extend_from_slice, after_keep_newest, after_pop, after_push, after_push_front, after_put, after_takes, after_truncate, after_write};
 
 mod convert;
+mod middle;
 
 use core::mem::replace_with;
 use ring_core::{
     RingBuffer, RingBufferDrainingIterator, RingBufferIntoIterator, RingBufferIterator,
-    RingBufferMutIterator,
+    RingBufferMutIterator, move_all,
 };
 use ring_fixed::{Fixed, clone_slices, copy_slices, index_at, same_in_slices, signed_index_at};
 use ring_slots::{HeapSlots, RingSlots};
@@ -255,6 +256,54 @@ impl<T: Drop> AllocRingBuffer<T> {
         self.ring.at_mut(index)
     }
 
+    /// Puts the item last if there is room for it, and overwrites nothing.
+    ///
+    /// # Errors
+    ///
+    /// Hands `item` back if the ring is full, which stays as it was.
+    #[inline]
+    pub fn try_push(&mut self, item: T) -> Result<(), T>
+        ensures ok { OnOk result (self.new ≡ after_put self.old item) }
+        ensures err { IfErr result (λ back. (back ≡ item) × (self.new ≡ self.old)) }
+        ensures full { IsErr result ↔ (length self.old.items ≡ self.old.capacity) }
+    {
+        if self.is_full() {
+            return Err(item);
+        }
+        let _ = self.push(item);
+        Ok(())
+    }
+
+    /// Puts the item first. A ring that is full hands back its newest item, which gave way for it.
+    #[inline]
+    pub fn push_front(&mut self, item: T) -> Option<T>
+        ensures value { result ≡ slice_get (item ∷ self.old.items) self.old.capacity }
+        ensures after { self.new ≡ after_push_front self.old.capacity self.old item }
+    {
+        let capacity = self.capacity;
+        self.ring.push_front(item, capacity)
+    }
+
+    /// Moves the items into memory for another capacity, and keeps the newest if they are more. The count of slot changes
+    /// begins anew.
+    ///
+    /// # Errors
+    ///
+    /// Where memory was refused or the bytes can't be asked for, and for every capacity above the greatest power of two.
+    /// The ring stays as it was.
+    pub fn set_capacity(&mut self, capacity: usize) -> Result<(), AllocError>
+        requires { 0 < capacity }
+        ensures items { OnOk result (self.new.items ≡ keep_last (Some capacity) self.old.items) }
+        ensures capacity { OnOk result (self.new.capacity ≡ capacity) }
+        ensures err { OnErr result (self.new ≡ self.old) }
+        ensures too_large { 2 ^ 63 < capacity → IsErr result }
+    {
+        let mut other = Self::new(self.alloc, capacity)?;
+        let _ = move_all(&mut other, self);
+        *self = other;
+        Ok(())
+    }
+
     /// Takes out the newest item, if there is one.
     #[inline]
     #[tactic(auto, using(ring_fixed::proofs::RepeatedSteps::last_behind))]
@@ -456,6 +505,16 @@ impl<'a, T: Drop> IntoIterator for &'a AllocRingBuffer<T> {
     #[inline]
     fn into_iter(self) -> RingBufferIterator<'a, T, AllocRingBuffer<T>> {
         self.iter()
+    }
+}
+
+/// As the method `clone` of the ring.
+impl<T: Clone + Drop> Clone for AllocRingBuffer<T> {
+    ghost is_clone = { λ ring made. AllZip T.is_clone ring.items made.items
+        × (made.capacity ≡ ring.capacity) };
+
+    fn clone(&self) -> Result<Self, AllocError> {
+        AllocRingBuffer::clone(self)
     }
 }
 

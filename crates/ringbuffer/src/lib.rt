@@ -3,6 +3,7 @@
 #![tactic(auto)]
 
 mod array;
+mod bytes;
 mod grow;
 mod heap;
 

@@ -1,5 +1,5 @@
 -- A ring over heap slots whose items lie side by side, and what it ends as where they are lent for writing.
-use Rattle.std.specs.Prelude.{ℕ, ◌+◌, ◌-◌, ◌*◌, List, ◌++◌, drop, length, map, nat_le, replicate, take, if◌then◌else◌, Option, Some, None}
+use Rattle.std.specs.Prelude.{ℕ, ◌+◌, ◌-◌, ◌*◌, List, ◌++◌, length, map, nat_le, replicate, if◌then◌else◌, Option, Some, None}
 use Rattle.std.specs.List.{refill}
 use Rattle.std.specs.Borrow.{Array, Fml, Lends, MutBor, RattleType}
 use Rattle.ring_slots.specs.Slots.{Slots}
@@ -9,10 +9,6 @@ use Rattle.ring_fixed.specs.contracts.fixed.Fixed.{the_row}
 use Rattle.ring_fixed.specs.fixed.Sound.{view_of}
 
 module _ {X : Type 0} where
-  -- the items after n of them went from the front to the back, one by one
-  abbrev pub turned : ℕ → List X → List X
-  turned n xs = drop n xs ++ take n xs
-
   -- `size` slots, where those from a place on hold these items, and all others nothing
   abbrev pub beside : ℕ → ℕ → List X → List (Option X)
   beside size start items = replicate start None ++ (map Some items ++ replicate (size - (start + length items)) None)

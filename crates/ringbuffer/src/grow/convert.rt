@@ -192,3 +192,12 @@ impl<T: Drop> From<VecDeque<T>> for GrowableAllocRingBuffer<T> {
         GrowableAllocRingBuffer { deque }
     }
 }
+
+impl<T: Drop> From<Vec<T>> for GrowableAllocRingBuffer<T> {
+    ghost from_gives = { λ items ring. ring ≡ items.items };
+
+    /// Makes a ring of a vector's items, in its memory.
+    fn from(items: Vec<T>) -> Self {
+        GrowableAllocRingBuffer::from(VecDeque::from(items))
+    }
+}

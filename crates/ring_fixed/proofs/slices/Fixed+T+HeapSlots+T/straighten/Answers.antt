@@ -1,5 +1,5 @@
 use Rattle.ring_fixed.proofs.Words.{◌≡◌, ◌+◌, ◌≤◌, ◌∙◌, ap, arith, beside, drop, items_from, length, sym, take_at, turned}
-use Rattle.ring_fixed.proofs.RepeatedSteps.{length-turned, turned_back}
+use Rattle.ring_fixed.proofs.Turns.{length-turned, turned_back}
 use Rattle.ring_fixed.proofs.Stretches.{stretch_is}
 use Rattle.ring_fixed.proofs.Straight.{beside-refilled, beside-stretch, straight_fits}
 use Rattle.ring_fixed.proofs.slices.Fixed+T+HeapSlots+T.straighten.Goals as goal

@@ -1,0 +1,131 @@
+//! The calls of a ring of a fixed capacity at an index, and turns of its items.
+ghost use Rattle.std.specs.Prelude.{◌≡◌, ◌+◌, ◌-◌, ◌%◌, ◌<◌, ◌≤◌, Some, length, slice_get};
+ghost use Rattle.ring_fixed.specs.View.{after_insert, after_pop, after_put, after_put_first, after_remove, after_rotate, after_turn_left, after_turn_right};
+
+use crate::fixed::{Fixed, Span};
+use ring_slots::RingSlots;
+
+impl<T: Drop, S: RingSlots<T>> Fixed<T, S> {
+    ghost use Rattle.ring_fixed.specs.fixed.Sound.{room_of, view_of, ChangesTo, IsSound};
+
+    /// Moves the first items behind the others, as many as `count` says.
+    pub fn rotate_left(&mut self, count: usize)
+        requires sound { IsSound S.seen S.is_size self.old }
+        requires some { count ≤ length (view_of S.seen self.old).items }
+        ensures { ChangesTo S.seen S.is_size self.old self.new
+            (after_rotate count (view_of S.seen self.old)) }
+    {
+        let others = self.len - count;
+        if count <= others {
+            self.turn_left(count);
+        } else {
+            self.turn_right(others);
+        }
+    }
+
+    /// Takes out the item at an index below the length.
+    pub fn remove(&mut self, index: usize) -> Option<T>
+        requires sound { IsSound S.seen S.is_size self.old }
+        requires within { index < length (view_of S.seen self.old).items }
+        ensures value { result ≡ slice_get (view_of S.seen self.old).items index }
+        ensures after { ChangesTo S.seen S.is_size self.old self.new
+            (after_remove index (view_of S.seen self.old)) }
+    {
+        let behind = self.len - 1 - index;
+        if index <= behind {
+            self.turn_left(index);
+            let item = self.dequeue();
+            self.turn_right(index);
+            return item;
+        }
+        self.turn_right(behind);
+        let item = self.pop_back();
+        self.turn_left(behind);
+        item
+    }
+
+    /// Puts an item at an index up to the length, before the items from there on. There must be room for it.
+    pub fn insert(&mut self, index: usize, item: T)
+        requires sound { IsSound S.seen S.is_size self.old }
+        requires within { index ≤ length (view_of S.seen self.old).items }
+        requires room { length (view_of S.seen self.old).items < room_of S.seen self.old }
+        ensures { ChangesTo S.seen S.is_size self.old self.new
+            (after_insert index item (view_of S.seen self.old)) }
+    {
+        let behind = self.len - index;
+        if index <= behind {
+            self.turn_left(index);
+            self.put_first(item);
+            self.turn_right(index);
+        } else {
+            self.turn_right(behind);
+            self.put_last(item);
+            self.turn_left(behind);
+        }
+    }
+
+    // Moves the first items behind the others, one by one, as many as `count` says.
+    pub(crate) fn turn_left(&mut self, count: usize)
+        requires sound { IsSound S.seen S.is_size self.old }
+        requires some { count ≤ length (view_of S.seen self.old).items }
+        ensures after { ChangesTo S.seen S.is_size self.old self.new
+            (after_turn_left count (view_of S.seen self.old)) }
+        ensures start { self.new.start ≡ (self.old.start + count) % room_of S.seen self.old }
+    {
+        let (mut start, len) = (self.start, self.len);
+        for _ in 0..count {
+            let (next, item) = Self::take_from(&mut self.slots, start);
+            let end = self.slots.place(next, len - 1);
+            let others = Span {
+                start: next,
+                len: len - 1,
+            };
+            Self::put_at(&mut self.slots, others, end, item);
+            start = next;
+        }
+        self.start = start;
+    }
+
+    // Moves the last items before the others, one by one, as many as `count` says.
+    fn turn_right(&mut self, count: usize)
+        requires sound { IsSound S.seen S.is_size self.old }
+        requires some { count ≤ length (view_of S.seen self.old).items }
+        ensures { ChangesTo S.seen S.is_size self.old self.new
+            (after_turn_right count (view_of S.seen self.old)) }
+    {
+        for _ in 0..count {
+            self.last_to_first();
+        }
+    }
+
+    // Moves the last item before the first.
+    #[inline]
+    fn last_to_first(&mut self)
+        requires sound { IsSound S.seen S.is_size self.old }
+        requires some { 0 < length (view_of S.seen self.old).items }
+        ensures { (x : T)
+            × (slice_get (view_of S.seen self.old).items
+            (length (view_of S.seen self.old).items - 1) ≡ Some x)
+            × ChangesTo S.seen S.is_size self.old self.new
+            (after_put_first (after_pop (view_of S.seen self.old)) x) }
+    {
+        if let Some(item) = self.pop_back() {
+            self.put_first(item);
+        }
+    }
+
+    // Puts an item after the last, where there is room for one.
+    fn put_last(&mut self, item: T)
+        requires sound { IsSound S.seen S.is_size self.old }
+        requires room { length (view_of S.seen self.old).items < room_of S.seen self.old }
+        ensures { ChangesTo S.seen S.is_size self.old self.new
+            (after_put (view_of S.seen self.old) item) }
+    {
+        // For the proof: the number of slots fits a word.
+        let _ = self.slots.size();
+        let span = self.span();
+        let end = self.slots.place(span.start, span.len);
+        Self::put_at(&mut self.slots, span, end, item);
+        self.len += 1;
+    }
+}

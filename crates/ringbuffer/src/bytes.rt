@@ -1,0 +1,220 @@
+//! Rings of bytes as readers and writers of `std::io`.
+ghost use Rattle.std.specs.Prelude.{◌≡◌, ◌-◌, [], ◌++◌, drop, length, min, take, None, Ok, Some, IfSome, IsOk, IfOk, IfErr, OnErr, OnOk};
+ghost use Rattle.std.specs.IoError.{error_kind};
+ghost use Rattle.ringbuffer.specs.contracts.grow.GrowableAllocRingBuffer.{the_row as growable_row};
+ghost use Rattle.std.specs.Borrow.{sem, u8 as byte};
+ghost use Rattle.std.specs.Io.{ReadsAtMost, StartsWith, WritesAtMost};
+ghost use Rattle.std.specs.Io.BufRead.{DropsConsumable, FillKeeps, Rests, drop_through, take_through};
+ghost use Rattle.ringbuffer.specs.contracts.array.ConstGenericRingBuffer.{the_row as array_row};
+ghost use Rattle.std.specs.Io.KnownBytes.{Keeps, ReadConsumes, WriteAppends};
+ghost use Rattle.ring_core.specs.Contents.{IsWithin};
+ghost use Rattle.ring_fixed.specs.View.{after_extend_from_slice, after_takes};
+ghost use Rattle.ringbuffer.specs.contracts.heap.AllocRingBuffer.{the_row as heap_row};
+
+use crate::array::ConstGenericRingBuffer;
+use crate::grow::GrowableAllocRingBuffer;
+use crate::heap::AllocRingBuffer;
+use ring_core::RingBuffer;
+use std::io::{BufRead, ErrorKind, Read, Result, Write};
+use std::slice;
+
+// Returns how many of the bytes of `buf` fit into a ring below its limit.
+fn count_that_fits<R: RingBuffer<u8>>(ring: &R, buf: &[u8]) -> usize
+    ensures count { IfSome (R.limit ring.now)
+        (λ n. result ≡ min (length buf.now) (n - length (R.contents ring.now))) }
+    ensures within { IsWithin (R.contents ring.now) (R.limit ring.now) }
+{
+    buf.len().min(ring.capacity() - ring.len())
+}
+
+/// A read takes out the oldest bytes, as many as `buf` has places. An empty ring has ended.
+impl<const CAP: usize> Read for ConstGenericRingBuffer<u8, CAP> {
+    ghost remaining = { λ ring. Some ring.items };
+
+    fn read(&mut self, buf: &mut [u8]) -> Result<usize>
+        ensures bound { ReadsAtMost result buf.new }
+        ensures bytes { ReadConsumes (Some self.old.items) (Some self.new.items) result buf.new }
+        ensures count { result ≡ Ok (min (length buf.old) (length self.old.items)) }
+        ensures rest { IfOk result (λ n. self.new ≡ after_takes n self.old) }
+        ensures others { IfOk result (λ n. drop n buf.new ≡ drop n buf.old) }
+    {
+        Ok(self.dequeue_into(buf))
+    }
+}
+
+/// `fill_buf` lends the oldest byte alone, since each byte of an array ring lies in a slot of its own.
+impl<const CAP: usize> BufRead for ConstGenericRingBuffer<u8, CAP> {
+    fn fill_buf(&mut self) -> Result<&[u8]>
+        ensures front { IfOk result (λ s. StartsWith self.old.items s.now) }
+        ensures end { IfOk result (λ s. length s.now ≡ 0 → self.old.items ≡ []) }
+        ensures* after_borrow { sem 𝓛 (Rests (array_row byte CAP.row) self.entry (λ new.
+            FillKeeps (Some self.old.items) (Some new.items) None result)) }
+        ensures ok { IsOk result }
+    {
+        match self.front() {
+            Some(first) => Ok(slice::from_ref(first)),
+            None => Ok(&[]),
+        }
+    }
+
+    fn consume(&mut self, amount: usize)
+        ensures bytes { DropsConsumable (Some self.old.items) (Some self.new.items) None amount }
+        ensures rest { self.new.items ≡ drop amount self.old.items }
+    {
+        let kept = self.len().saturating_sub(amount);
+        self.keep_newest(kept);
+    }
+}
+
+/// A write puts in as many bytes as there is room for, and overwrites none: onto a full ring it puts 0, which ends
+/// `write_all` with the error `WriteZero`.
+impl<const CAP: usize> Write for ConstGenericRingBuffer<u8, CAP> {
+    ghost contents = { λ ring. Some ring.items };
+
+    fn write(&mut self, buf: &[u8]) -> Result<usize>
+        ensures bound { WritesAtMost result buf.now }
+        ensures bytes { WriteAppends (Some self.old.items) (Some self.new.items) result buf.now }
+        ensures count { result ≡ Ok (min (length buf.now) (CAP - length self.old.items)) }
+        ensures after { IfOk result (λ n. self.new
+            ≡ after_extend_from_slice CAP self.old (take n buf.now)) }
+    {
+        let count = count_that_fits(self, buf);
+        self.extend_from_slice(&buf[..count]);
+        Ok(count)
+    }
+
+    fn flush(&mut self) -> Result<()>
+        ensures bytes { Keeps (Some self.old.items) (Some self.new.items) }
+        ensures ok { IsOk result }
+        ensures unchanged { self.new ≡ self.old }
+    {
+        Ok(())
+    }
+}
+
+/// A read takes out the oldest bytes, as many as `buf` has places. An empty ring has ended.
+impl Read for AllocRingBuffer<u8> {
+    ghost remaining = { λ ring. Some ring.items };
+
+    fn read(&mut self, buf: &mut [u8]) -> Result<usize>
+        ensures bound { ReadsAtMost result buf.new }
+        ensures bytes { ReadConsumes (Some self.old.items) (Some self.new.items) result buf.new }
+        ensures count { result ≡ Ok (min (length buf.old) (length self.old.items)) }
+        ensures rest { IfOk result (λ n. self.new ≡ after_takes n self.old) }
+        ensures others { IfOk result (λ n. drop n buf.new ≡ drop n buf.old) }
+    {
+        Ok(self.dequeue_into(buf))
+    }
+}
+
+/// `fill_buf` lends the oldest bytes, up to the last slot.
+impl BufRead for AllocRingBuffer<u8> {
+    fn fill_buf(&mut self) -> Result<&[u8]>
+        ensures front { IfOk result (λ s. StartsWith self.old.items s.now) }
+        ensures end { IfOk result (λ s. length s.now ≡ 0 → self.old.items ≡ []) }
+        ensures* after_borrow { sem 𝓛 (Rests (heap_row byte) self.entry (λ new.
+            FillKeeps (Some self.old.items) (Some new.items) None result)) }
+        ensures ok { IsOk result }
+    {
+        let (first, _) = self.as_slices();
+        Ok(first)
+    }
+
+    fn consume(&mut self, amount: usize)
+        ensures bytes { DropsConsumable (Some self.old.items) (Some self.new.items) None amount }
+        ensures rest { self.new.items ≡ drop amount self.old.items }
+        ensures capacity { self.new.capacity ≡ self.old.capacity }
+    {
+        let kept = self.len().saturating_sub(amount);
+        self.keep_newest(kept);
+    }
+}
+
+/// A write puts in as many bytes as there is room for, and overwrites none: onto a full ring it puts 0, which ends
+/// `write_all` with the error `WriteZero`.
+impl Write for AllocRingBuffer<u8> {
+    ghost contents = { λ ring. Some ring.items };
+
+    fn write(&mut self, buf: &[u8]) -> Result<usize>
+        ensures bound { WritesAtMost result buf.now }
+        ensures bytes { WriteAppends (Some self.old.items) (Some self.new.items) result buf.now }
+        ensures count { result
+            ≡ Ok (min (length buf.now) (self.old.capacity - length self.old.items)) }
+        ensures after { IfOk result (λ n. self.new
+            ≡ after_extend_from_slice self.old.capacity self.old (take n buf.now)) }
+    {
+        let count = count_that_fits(self, buf);
+        self.extend_from_slice(&buf[..count]);
+        Ok(count)
+    }
+
+    fn flush(&mut self) -> Result<()>
+        ensures bytes { Keeps (Some self.old.items) (Some self.new.items) }
+        ensures ok { IsOk result }
+        ensures unchanged { self.new ≡ self.old }
+    {
+        Ok(())
+    }
+}
+
+/// A read takes out the oldest bytes, as many as `buf` has places. An empty ring has ended.
+impl Read for GrowableAllocRingBuffer<u8> {
+    ghost remaining = { λ ring. Some ring };
+
+    fn read(&mut self, buf: &mut [u8]) -> Result<usize>
+        ensures bound { ReadsAtMost result buf.new }
+        ensures bytes { ReadConsumes (Some self.old) (Some self.new) result buf.new }
+        ensures count { result ≡ Ok (min (length buf.old) (length self.old)) }
+        ensures rest { IfOk result (λ n. self.new ≡ drop n self.old) }
+        ensures others { IfOk result (λ n. drop n buf.new ≡ drop n buf.old) }
+    {
+        Ok(self.dequeue_into(buf))
+    }
+}
+
+/// `fill_buf` lends the oldest bytes, up to the end of the memory that they lie in.
+impl BufRead for GrowableAllocRingBuffer<u8> {
+    fn fill_buf(&mut self) -> Result<&[u8]>
+        ensures front { IfOk result (λ s. StartsWith self.old s.now) }
+        ensures end { IfOk result (λ s. length s.now ≡ 0 → self.old ≡ []) }
+        ensures* after_borrow { sem 𝓛 (Rests (growable_row byte) self.entry (λ new.
+            FillKeeps (Some self.old) (Some new) None result)) }
+        ensures ok { IsOk result }
+    {
+        let (first, _) = self.as_slices();
+        Ok(first)
+    }
+
+    fn consume(&mut self, amount: usize)
+        ensures bytes { DropsConsumable (Some self.old) (Some self.new) None amount }
+        ensures rest { self.new ≡ drop amount self.old }
+    {
+        let kept = self.len().saturating_sub(amount);
+        self.keep_newest(kept);
+    }
+}
+
+/// A write puts in all bytes, or none if memory was refused.
+impl Write for GrowableAllocRingBuffer<u8> {
+    ghost contents = { λ ring. Some ring };
+
+    fn write(&mut self, buf: &[u8]) -> Result<usize>
+        ensures bound { WritesAtMost result buf.now }
+        ensures bytes { WriteAppends (Some self.old) (Some self.new) result buf.now }
+        ensures count { IfOk result (λ n. n ≡ length buf.now) }
+        ensures ok { OnOk result (self.new ≡ self.old ++ buf.now) }
+        ensures err { OnErr result (self.new ≡ self.old) }
+        ensures kind { IfErr result (λ e. error_kind e ≡ ErrorKind.OutOfMemory) }
+    {
+        self.extend_from_slice(buf)?;
+        Ok(buf.len())
+    }
+
+    fn flush(&mut self) -> Result<()>
+        ensures bytes { Keeps (Some self.old) (Some self.new) }
+        ensures ok { IsOk result }
+        ensures unchanged { self.new ≡ self.old }
+    {
+        Ok(())
+    }
+}
