@@ -34,7 +34,7 @@ pub fn push_through<T: Drop, R: RingBuffer<T>, S: RingBuffer<T>>(near: &mut R, f
         ≡ keep_last (S.limit far.old) (S.contents far.old ++ oldest ∷ [])) }
     ensures limits { (R.limit near.new ≡ R.limit near.old) × (S.limit far.new ≡ S.limit far.old) }
 {
-    // Brings in that the limit is above zero.
+    // For the proof: the contents are within the limit.
     let _ = near.len();
     if let Ok(Some(oldest)) = near.push(item) {
         let _ = far.push(oldest);
@@ -54,14 +54,14 @@ pub fn push_then_replace<T: Drop, R: RingBuffer<T>>(ring: &mut R, x: T, y: T)
     }
 }
 
-/// The item that stands so many places behind the oldest, by a walk.
+/// Returns the item that stands `places` places behind the oldest, by a walk.
 pub fn item_behind_oldest<R: RingBuffer<u32>>(ring: &R, places: usize) -> Option<u32>
     ensures { result ≡ slice_get (R.contents ring.now) places }
 {
     RingBufferIterator::new(ring).nth(places).copied()
 }
 
-/// The sum of the items.
+/// Adds up the items.
 pub fn total<R: RingBuffer<u32>>(ring: &R) -> u32
     requires { sum (R.contents ring.now) < 2 ^ 32 }
     ensures { result ≡ sum (R.contents ring.now) }
@@ -69,7 +69,7 @@ pub fn total<R: RingBuffer<u32>>(ring: &R) -> u32
     RingBufferIterator::new(ring).copied().sum()
 }
 
-/// The two oldest items, taken out by a drain that is then dropped.
+/// Takes out the two oldest items, by a drain that is then dropped.
 pub fn drain_two<T: Drop, R: RingBuffer<T>>(ring: &mut R)
     ensures contents { R.contents ring.new ≡ drop 2 (R.contents ring.old) }
     ensures limit { R.limit ring.new ≡ R.limit ring.old }
@@ -90,7 +90,7 @@ pub fn replace_oldest<T: Drop, R: RingBuffer<T>>(ring: &mut R, x: T)
     }
 }
 
-/// The items, newest first.
+/// Lists the items, newest first.
 pub fn newest_first<R: RingBuffer<u32>>(alloc: Global, ring: &R) -> Result<Vec<u32>, AllocError>
     ensures { IfOk result (λ v. v.items ≡ reverse (R.contents ring.now)) }
 {
@@ -108,7 +108,7 @@ pub fn increment_each<R: RingBuffer<u32>>(ring: &mut R)
     }
 }
 
-/// The least item and the greatest, or `None` if the ring is empty: two walks with a branch between them.
+/// Returns the least item and the greatest, or `None` if the ring is empty: two walks with a branch between them.
 pub fn range<R: RingBuffer<u32>>(ring: &R) -> Option<(u32, u32)>
     ensures none { IsNone result → R.contents ring.now ≡ [] }
     ensures least { IfSome result (λ r. Any (λ x. x ≡ r.0) (R.contents ring.now)) }
@@ -120,7 +120,7 @@ pub fn range<R: RingBuffer<u32>>(ring: &R) -> Option<(u32, u32)>
     Some((least, greatest))
 }
 
-/// The same of an array ring that is lent for writing.
+/// Returns the least and the greatest item of an array ring that is lent for writing.
 pub fn range_in_array(ring: &mut ConstGenericRingBuffer<u32, 4>) -> Option<(u32, u32)>
     ensures ring { ring.new ≡ ring.old }
     ensures between { IfSome result (λ r. All (λ x. (r.0 ≤ x) × (x ≤ r.1)) ring.old.items) }
@@ -130,7 +130,7 @@ pub fn range_in_array(ring: &mut ConstGenericRingBuffer<u32, 4>) -> Option<(u32,
     Some((least, greatest))
 }
 
-/// The same of a heap ring that is lent for writing.
+/// Returns the least and the greatest item of a heap ring that is lent for writing.
 pub fn range_on_heap(ring: &mut AllocRingBuffer<u32>) -> Option<(u32, u32)>
     ensures ring { ring.new ≡ ring.old }
     ensures between { IfSome result (λ r. All (λ x. (r.0 ≤ x) × (x ≤ r.1)) ring.old.items) }
@@ -140,7 +140,7 @@ pub fn range_on_heap(ring: &mut AllocRingBuffer<u32>) -> Option<(u32, u32)>
     Some((least, greatest))
 }
 
-/// The same of a growable ring that is lent for writing.
+/// Returns the least and the greatest item of a growable ring that is lent for writing.
 pub fn range_in_growable(ring: &mut GrowableAllocRingBuffer<u32>) -> Option<(u32, u32)>
     ensures ring { ring.new ≡ ring.old }
     ensures between { IfSome result (λ r. All (λ x. (r.0 ≤ x) × (x ≤ r.1)) ring.old) }
@@ -150,7 +150,7 @@ pub fn range_in_growable(ring: &mut GrowableAllocRingBuffer<u32>) -> Option<(u32
     Some((least, greatest))
 }
 
-/// The least and the greatest of the last two of three numbers, by a local array ring.
+/// Returns the least and the greatest of the last two of three numbers, by a local array ring.
 pub fn range_in_local_array(x: u32, y: u32, z: u32) -> Option<(u32, u32)>
     ensures { IsSome result }
 {
@@ -163,7 +163,7 @@ pub fn range_in_local_array(x: u32, y: u32, z: u32) -> Option<(u32, u32)>
     Some((least, greatest))
 }
 
-/// The same by a local heap ring.
+/// Returns the lesser and the greater of two numbers, by a local heap ring.
 pub fn range_in_local_heap(alloc: Global, x: u32, y: u32) -> Result<Option<(u32, u32)>, AllocError>
     ensures { IfOk result (λ range. IsSome range) }
 {
@@ -179,7 +179,7 @@ pub fn range_in_local_heap(alloc: Global, x: u32, y: u32) -> Result<Option<(u32,
     Ok(Some((least, greatest)))
 }
 
-/// The same by a local growable ring, or `None` if it was refused memory.
+/// Returns the lesser and the greater of two numbers, by a local growable ring, or `None` if it was refused memory.
 pub fn range_in_local_growable(alloc: Global, x: u32, y: u32) -> Option<(u32, u32)> {
     let mut ring = GrowableAllocRingBuffer::new(alloc);
     ring.push(x).ok()?;
@@ -202,7 +202,7 @@ pub fn replace_and_take_two<R: RingBuffer<u32>>(ring: &mut R, x: u32, y: u32) ->
     Some((first, second))
 }
 
-/// The same in an array ring.
+/// Replaces the oldest item of an array ring, twice, and takes out the two oldest.
 pub fn replace_and_take_two_in_array(
     ring: &mut ConstGenericRingBuffer<u32, 4>,
     x: u32,
@@ -218,7 +218,7 @@ pub fn replace_and_take_two_in_array(
     Some((first, second))
 }
 
-/// The same on the heap.
+/// Replaces the oldest item of a heap ring, twice, and takes out the two oldest.
 pub fn replace_and_take_two_on_heap(
     ring: &mut AllocRingBuffer<u32>,
     x: u32,
@@ -234,7 +234,7 @@ pub fn replace_and_take_two_on_heap(
     Some((first, second))
 }
 
-/// The same in a growable ring.
+/// Replaces the oldest item of a growable ring, twice, and takes out the two oldest.
 pub fn replace_and_take_two_in_growable(
     ring: &mut GrowableAllocRingBuffer<u32>,
     x: u32,
@@ -280,8 +280,7 @@ pub fn array_into_growable(
     move_all(to, from)
 }
 
-/// The same by an extension by the drain. It says as much of the ring that is extended, and nothing of the one that is
-/// drained.
+/// Extends a ring by the drain of another. It says what `move_all` does of the ring `to`, and nothing of `from`.
 pub fn extend_by_drain<T: Drop, A: RingBuffer<T>, B: RingBuffer<T>>(
     to: &mut A,
     from: &mut B,
@@ -294,7 +293,7 @@ pub fn extend_by_drain<T: Drop, A: RingBuffer<T>, B: RingBuffer<T>>(
     to.extend(RingBufferDrainingIterator::new(from))
 }
 
-/// The bytes of a heap ring, copied a slice at a time.
+/// Copies the bytes of a heap ring, a slice at a time.
 pub fn bytes_on_heap(alloc: Global, ring: &AllocRingBuffer<u8>) -> Result<Vec<u8>, AllocError>
     ensures { IfOk result (λ bytes. bytes.items ≡ ring.now.items) }
 {
@@ -305,7 +304,7 @@ pub fn bytes_on_heap(alloc: Global, ring: &AllocRingBuffer<u8>) -> Result<Vec<u8
     Ok(bytes)
 }
 
-/// The bytes of a growable ring, copied a slice at a time.
+/// Copies the bytes of a growable ring, a slice at a time.
 pub fn bytes_in_growable(
     alloc: Global,
     ring: &GrowableAllocRingBuffer<u8>,

@@ -1,7 +1,7 @@
 use Rattle.std.proofs.Common.{◌+◌, ◌%◌, ◌^◌, ◌∙◌}
 use Rattle.std.proofs.lemmas.List.{length-set}
 use Rattle.ringbuffer.proofs.Walks.{map-step}
-use Rattle.ring_callers.proofs.callers.increment_each.Goals as goal
+use Rattle.ring_uses.proofs.callers.increment_each.Goals as goal
 
 pub loop-item-preserved : goal.loop-item-preserved
 loop-item-preserved g c =

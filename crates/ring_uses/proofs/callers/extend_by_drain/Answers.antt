@@ -1,5 +1,5 @@
 use Rattle.ringbuffer.proofs.Drained.{extended_by_drain}
-use Rattle.ring_callers.proofs.callers.extend_by_drain.Goals as goal
+use Rattle.ring_uses.proofs.callers.extend_by_drain.Goals as goal
 
 pub returns-clause-moved : goal.returns-clause-moved
 returns-clause-moved g c =

@@ -3,7 +3,7 @@
 ghost use Rattle.std.specs.Prelude.{◌≡◌, ◌++◌, IsSome, Some, length, map};
 ghost use Rattle.ringbuffer.specs.Contents.{ChangesSlots};
 ghost use Rattle.ringbuffer.specs.History.{contents_after, pushed, replies_of, steps};
-ghost use Rattle.ring_callers.specs.Survivors.{HoldsSurvivors, IsCheap, RepliesByNumber};
+ghost use Rattle.ring_uses.specs.Survivors.{HoldsSurvivors, IsCheap, RepliesByNumber};
 
 use ringbuffer::{Command, Reply, RingBuffer, run_into, runs_join};
 
@@ -46,8 +46,9 @@ pub fn run_twice_on_fixed<T: Drop, R: RingBuffer<T>>(
         ChangesSlots (R.slot_changes ring.old) (R.contents ring.old) (R.slot_changes ring.new)
         (R.contents ring.new) (length (pushed (steps all))) }
 {
-    // Brings in that the contents are within the limit, and that runs join.
+    // For the proof: the contents are within the limit.
     let _ = ring.len();
+    // For the proof: runs join.
     runs_join::<T>();
     let _ = run_into(ring, first, replies);
     let _ = run_into(ring, second, later);

@@ -1,5 +1,5 @@
 use Rattle.std.proofs.Common.{◌≡◌, ◌+◌, ◌-◌, ◌%◌, ◌^◌, ◌++◌, drop, length, map, take}
-use Rattle.ring_callers.proofs.callers.increment_each.Given as goal
+use Rattle.ring_uses.proofs.callers.increment_each.Given as goal
 
 -- once the items from the cursor on are incremented, all are
 abbrev pub invariant-loop-item : goal.invariant-loop-item

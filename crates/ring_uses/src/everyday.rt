@@ -18,7 +18,7 @@ pub fn queue_job(queue: &mut AllocRingBuffer<u32>, job: u32) -> Result<(), u32>
     Ok(())
 }
 
-/// As `queue_job`, with a queue in an array.
+/// Hands a job back if the queue in an array is full, and else takes it in.
 pub fn queue_job_in_array(queue: &mut ConstGenericRingBuffer<u32, 4>, job: u32) -> Result<(), u32>
     ensures taken { OnOk result (queue.new.items ≡ queue.old.items ++ job ∷ []) }
     ensures refused { IfErr result (λ back. (back ≡ job) × (queue.new ≡ queue.old)) }
@@ -30,7 +30,7 @@ pub fn queue_job_in_array(queue: &mut ConstGenericRingBuffer<u32, 4>, job: u32) 
     Ok(())
 }
 
-/// As `queue_job`, with any ring that has a limit.
+/// Hands a job back if the ring with a limit is full, and else takes it in.
 pub fn queue_job_in_ring<T: Drop, R: RingBuffer<T>>(queue: &mut R, job: T) -> Result<(), T>
     requires { IsSome (R.limit queue.old) }
     ensures taken { OnOk result (R.contents queue.new ≡ R.contents queue.old ++ job ∷ []) }

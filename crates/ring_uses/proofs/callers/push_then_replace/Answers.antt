@@ -1,6 +1,6 @@
 use Rattle.std.proofs.Common.{◌∙◌, rules}
 use Rattle.ringbuffer.proofs.Limits.{newest_replaced}
-use Rattle.ring_callers.proofs.callers.push_then_replace.Goals as goal
+use Rattle.ring_uses.proofs.callers.push_then_replace.Goals as goal
 
 pub returns-in-Some-clause-contents : goal.returns-in-Some-clause-contents
 returns-in-Some-clause-contents g c =

@@ -2,7 +2,7 @@
 use Rattle.std.proofs.Common.{◌≡◌, map, Some, rules, arith, length-append, refl}
 use Rattle.std.proofs.lemmas.List.{map-append}
 use Rattle.ringbuffer.specs.History.{contents_after, pushed, replies_of, steps}
-use Rattle.ring_callers.proofs.headline.run_twice_on_fixed.Goals as goal
+use Rattle.ring_uses.proofs.headline.run_twice_on_fixed.Goals as goal
 
 pub returns-clause-replies : goal.returns-clause-replies
 returns-clause-replies g c =

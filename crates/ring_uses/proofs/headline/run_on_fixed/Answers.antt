@@ -2,7 +2,7 @@ use Rattle.std.proofs.Common.{◌≡◌, ℕ, zero, suc, ◌+◌, List, [], ◌�
 use Rattle.std.specs.List.{enumerate_from, slice_get}
 use Rattle.std.proofs.lemmas.Option.{slice_get-map}
 use Rattle.ringbuffer.specs.History.{replies_of}
-use Rattle.ring_callers.proofs.headline.run_on_fixed.Goals as goal
+use Rattle.ring_uses.proofs.headline.run_on_fixed.Goals as goal
 
 -- an item stands beside its number
 slice_get-enumerate_from : {A : Type 0} (n : ℕ) (xs : List A) (k : ℕ) (x : A) → slice_get xs k ≡ Some x → slice_get (enumerate_from n xs) k ≡ Some (n + k, x)
