@@ -8,7 +8,7 @@ use ringbuffer::{AllocRingBuffer, RingBuffer};
 use std::alloc::{AllocError, Global};
 use std::marker::Model;
 
-/// The latest samples of a signal, which come in at a rate: a number a second.
+/// The latest samples of a signal that has `rate` samples a second.
 #[derive(Drop)]
 pub struct SampleBuffer {
     samples: AllocRingBuffer<i32>,
@@ -24,7 +24,7 @@ impl Model for SampleBuffer {
 }
 
 impl SampleBuffer {
-    /// Makes a buffer of no samples, for `seconds` seconds of a signal of which `rate` samples come in a second.
+    /// Makes a buffer of no samples, for `seconds` seconds of a signal that has `rate` samples a second.
     ///
     /// # Errors
     ///
