@@ -2,7 +2,6 @@
 
 ghost use Rattle.std.specs.Prelude.{None, refl, slice_set};
 
-use ring_test_support::rings::Twin;
 use ringbuffer::{GrowableAllocRingBuffer, RingBuffer};
 use std::alloc::{AllocError, Global};
 
@@ -21,14 +20,6 @@ impl<T: Drop> OwnRing<T> {
         OwnRing {
             ring: GrowableAllocRingBuffer::new(alloc),
         }
-    }
-}
-
-impl<T: Clone + Drop> Twin for OwnRing<T> {
-    fn twin(&self) -> Result<OwnRing<T>, AllocError> {
-        Ok(OwnRing {
-            ring: self.ring.clone()?,
-        })
     }
 }
 
