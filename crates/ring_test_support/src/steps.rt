@@ -57,7 +57,7 @@ pub enum Outcome {
     Refused,
     /// No item has the position.
     NoItem,
-    /// There are so many items, and not as many as in the step.
+    /// The number of items, which is not that of the step.
     OfLength(usize),
     /// The first place at which the items are others, with the item there.
     Differs(usize, Option<i64>),
@@ -192,7 +192,7 @@ fn written(step: Step, place: Option<&mut i64>, item: i64) -> Outcome {
     }
 }
 
-// The step is what was answered, if the item that is lent is the one that was read.
+// Answers with the step, if the item that is lent is the one that was read.
 fn found(step: Step, read: Option<i64>, lent: Option<&mut i64>) -> Outcome {
     let lent = lent.copied();
     if lent == read {

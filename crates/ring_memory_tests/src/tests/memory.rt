@@ -2,7 +2,6 @@
 
 use super::{assert_equal, assert_holds, drought, push_all};
 use ring_test_support::commands::{REPLIES_OF_TWO, every_command};
-use ring_test_support::drought::Drought;
 use ring_test_support::own_calls::OwnCalls;
 use ring_test_support::steps::Step::{
     Back, Clear, Contains, Dequeue, DequeueAll, Enqueue, Extend, Fill, FillDefault, FillWith,
@@ -12,7 +11,7 @@ use ring_test_support::steps::Step::{
 use ring_test_support::steps::{Outcome, Step, first_fault};
 use ring_test_support::{on_each, on_fixed, on_growable};
 use ringbuffer::{
-    AllocRingBuffer, Command, ConstGenericRingBuffer, GrowableAllocRingBuffer, Reply, RingBuffer,
+    AllocRingBuffer, Command, GrowableAllocRingBuffer, Reply, RingBuffer,
     RingBufferDrainingIterator, RingBufferIntoIterator, RingBufferIterator, RingBufferMutIterator,
     RunFault, apply, move_all, run, run_into,
 };
@@ -145,7 +144,7 @@ fn assert_extension_refused<R: RingBuffer<i64> + Drop>(
 
 /// Moves 1, 2 and 3 in a drought onto a ring that has no room. The first comes back.
 fn assert_move_refused<R: RingBuffer<i64> + Drop>(rt: &(impl Abort + AllocGlobal), mut to: R) {
-    let mut from = ConstGenericRingBuffer::<i64, 3>::new();
+    let mut from = AllocRingBuffer::new(rt.alloc(), 3).expect(rt, "memory");
     push_all(rt, &mut from, &[1, 2, 3]);
     let drought = drought(rt, 0);
     let moved = move_all(&mut to, &mut from);

@@ -204,7 +204,7 @@ fn assert_holds_all<R: RingBuffer<i64>>(rt: &impl Abort, ring: &R, times: usize,
     }
 }
 
-// A fill puts into a ring what it had room for before, so memory is refused to nothing except a clone.
+/// Fills a ring in a drought, with what it had room for before: so memory is refused to nothing except a clone.
 fn assert_fills_take_none<R: RingBuffer<i64> + Drop>(rt: &(impl Abort + AllocGlobal), mut ring: R) {
     push_all(rt, &mut ring, &[1, 2]);
     let capacity = ring.capacity();

@@ -151,7 +151,7 @@ fn walks_meet_in_the_middle(rt: HostRuntime) {
 /// A step of a reading walk that may pass over items.
 #[derive(Clone, Copy)]
 enum Pass {
-    /// From the front, beyond so many.
+    /// From the front, beyond this number of items.
     Beyond(usize),
     From(End),
 }
