@@ -49,7 +49,10 @@ fn is_copied<'a, R: RingBuffer<Counted<'a>> + Twin + Drop>(
     spare: Option<usize>,
 ) -> bool {
     hold_first(rt, ring, supply, 3, most);
-    let drought = spare.map(|spare| drought(rt, spare));
+    let drought = match spare {
+        Some(bytes) => Some(drought(rt, bytes)),
+        None => None,
+    };
     let is_made = match copying {
         Copying::Ring => {
             let made = ring.twin();
