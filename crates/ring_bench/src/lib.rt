@@ -1,4 +1,5 @@
-//! The tests of the rings by their public calls, and those callers of which wrong bodies are tried.
+//! Tests of the calls of rings, of runs, of moves and of uses; functions whose contracts show how often slots are changed;
+//! and callers of which wrong bodies are tried.
 #![tactic(auto)]
 
 pub mod conditions;

@@ -21,7 +21,7 @@ pub fn slide<R: RingBuffer<i64>>(window: &mut WindowSum<R>, sample: i64) -> i128
     window.sum()
 }
 
-/// For each sample of a series, the sum of the last `n` up to it, or of all where there are fewer.
+/// Returns for each sample of a series the sum of the last `n` up to it, or of all where there are fewer.
 ///
 /// # Errors
 ///

@@ -1,4 +1,5 @@
-//! Tests of what takes memory and what takes none: makers, conversions, runs, moves, and calls in a drought.
+//! Tests of memory and of what becomes of items: what asks for memory, what a refusal leaves, and that each item is dropped
+//! exactly once.
 #![tactic(auto)]
 
 #[cfg(test)]

@@ -1,6 +1,9 @@
 //! What the tests of several crates share. No library stands on it.
 #![tactic(auto)]
 
+pub mod commands;
+pub mod counted;
 pub mod drought;
+pub mod own_calls;
 pub mod rings;
 pub mod steps;

@@ -1,64 +1,45 @@
-//! A test on a ring of each type.
+//! A test on a ring of each type: a generic function, and one call of a macro.
 
-ghost use Rattle.std.specs.Prelude.{◌<◌, ◌^◌};
-
-use ringbuffer::{AllocRingBuffer, ConstGenericRingBuffer, GrowableAllocRingBuffer, RingBuffer};
-use std::alloc::AllocError;
-
-/// What a test does with a ring of any type that is new. By `Rt` it asserts, which a library may not do.
-pub trait Case<Rt> {
-    /// Does it with this ring.
-    fn on<R: RingBuffer<i64> + Drop>(&self, rt: &Rt, ring: R) -> Result<(), AllocError>;
+/// Calls a generic function on a new array ring of this capacity: with the runtime, the ring and these arguments.
+#[macro_export]
+macro_rules! on_array {
+    ($rt:expr, $capacity:literal, $test:ident $(, $argument:expr)*) => {
+        $test($rt, ringbuffer::ConstGenericRingBuffer::<_, $capacity>::new() $(, $argument)*);
+    };
 }
 
-/// New rings of this capacity.
-pub struct Rings<const CAP: usize>;
-
-impl<const CAP: usize> Rings<CAP> {
-    /// The case on a ring of each type that has a limit.
-    pub fn fixed<Rt: AllocGlobal>(rt: &Rt, case: &impl Case<Rt>) -> Result<(), AllocError>
-        requires some { 0 < CAP }
-        requires few { CAP < 2 ^ 16 }
-    {
-        case.on(rt, ConstGenericRingBuffer::<i64, CAP>::new())?;
-        case.on(rt, AllocRingBuffer::new(rt.alloc(), CAP)?)
-    }
-
-    /// The case on a growable ring, which has room for so many items.
-    pub fn growable<Rt: AllocGlobal>(rt: &Rt, case: &impl Case<Rt>) -> Result<(), AllocError> {
-        case.on(rt, GrowableAllocRingBuffer::with_capacity(rt.alloc(), CAP)?)
-    }
-
-    /// The case on a ring of each type.
-    pub fn each<Rt: AllocGlobal>(rt: &Rt, case: &impl Case<Rt>) -> Result<(), AllocError>
-        requires some { 0 < CAP }
-        requires few { CAP < 2 ^ 16 }
-    {
-        Self::fixed(rt, case)?;
-        Self::growable(rt, case)
-    }
+/// Calls a generic function on a new heap ring of this capacity.
+#[macro_export]
+macro_rules! on_heap {
+    ($rt:expr, $capacity:literal, $test:ident $(, $argument:expr)*) => {
+        let made = ringbuffer::AllocRingBuffer::new($rt.alloc(), $capacity);
+        $test($rt, made.expect($rt, "memory") $(, $argument)*);
+    };
 }
 
-/// A ring that can be cloned. Each type has a `clone` of its own, and no trait that the rings share has it.
-pub trait Twin: Sized {
-    /// The ring's clone.
-    fn twin(&self) -> Result<Self, AllocError>;
+/// Calls a generic function on a new growable ring with this room.
+#[macro_export]
+macro_rules! on_growable {
+    ($rt:expr, $room:literal, $test:ident $(, $argument:expr)*) => {
+        let made = ringbuffer::GrowableAllocRingBuffer::with_capacity($rt.alloc(), $room);
+        $test($rt, made.expect($rt, "memory") $(, $argument)*);
+    };
 }
 
-impl<T: Clone + Drop, const CAP: usize> Twin for ConstGenericRingBuffer<T, CAP> {
-    fn twin(&self) -> Result<Self, AllocError> {
-        self.clone()
-    }
+/// Calls a generic function on a new ring of each type that has a limit.
+#[macro_export]
+macro_rules! on_fixed {
+    ($rt:expr, $capacity:literal, $test:ident $(, $argument:expr)*) => {
+        $crate::on_array!($rt, $capacity, $test $(, $argument)*);
+        $crate::on_heap!($rt, $capacity, $test $(, $argument)*);
+    };
 }
 
-impl<T: Clone + Drop> Twin for AllocRingBuffer<T> {
-    fn twin(&self) -> Result<Self, AllocError> {
-        self.clone()
-    }
-}
-
-impl<T: Clone + Drop> Twin for GrowableAllocRingBuffer<T> {
-    fn twin(&self) -> Result<Self, AllocError> {
-        self.clone()
-    }
+/// Calls a generic function on a new ring of each type.
+#[macro_export]
+macro_rules! on_each {
+    ($rt:expr, $capacity:literal, $test:ident $(, $argument:expr)*) => {
+        $crate::on_fixed!($rt, $capacity, $test $(, $argument)*);
+        $crate::on_growable!($rt, $capacity, $test $(, $argument)*);
+    };
 }

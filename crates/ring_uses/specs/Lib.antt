@@ -4,3 +4,4 @@ pub mod Log
 pub mod Readings
 pub mod Signal
 pub mod States
+pub mod Survivors

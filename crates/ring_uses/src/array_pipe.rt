@@ -20,7 +20,7 @@ impl<const CAP: usize> Model for ArrayPipe<CAP> {
 }
 
 impl<const CAP: usize> ArrayPipe<CAP> {
-    /// A pipe with no byte on its way.
+    /// Makes a pipe with no byte on its way.
     pub fn new() -> Self
         requires { 0 < CAP }
         ensures { result ≡ [] }

@@ -7,7 +7,7 @@ ghost use Rattle.ringbuffer.specs.Contents.{keep_last};
 use ringbuffer::{AllocRingBuffer, RingBuffer};
 use std::alloc::{AllocError, Global};
 
-/// The last `n` lines of a text, in order, or all of them where there are fewer.
+/// Returns the last `n` lines of a text, in order, or all of them where there are fewer.
 ///
 /// # Errors
 ///

@@ -1,9 +1,13 @@
-//! Uses of ring buffers, each as a user would write it, and proved from the library's public contracts alone.
+//! Callers of ring buffers in a user's words, each proved from the library's public contracts alone: uses, the lines that a
+//! user writes first, and generic code.
 #![tactic(auto)]
 
 pub mod array_pipe;
 pub mod average;
+pub mod callers;
 pub mod events;
+pub mod everyday;
+pub mod headline;
 pub mod last_lines;
 pub mod last_two;
 pub mod limiter;

@@ -21,7 +21,7 @@ impl Model for Pipe {
 }
 
 impl Pipe {
-    /// A pipe with no byte on its way and room for `capacity` of them.
+    /// Makes a pipe with no byte on its way and room for `capacity` of them.
     ///
     /// # Errors
     ///

@@ -8,7 +8,7 @@ use ringbuffer::{AllocRingBuffer, RingBuffer};
 use std::alloc::{AllocError, Global};
 use std::marker::Model;
 
-/// The latest samples of a signal, of which so many come in a second.
+/// The latest samples of a signal that has `rate` samples a second.
 #[derive(Drop)]
 pub struct SampleBuffer {
     samples: AllocRingBuffer<i32>,
@@ -24,7 +24,7 @@ impl Model for SampleBuffer {
 }
 
 impl SampleBuffer {
-    /// A buffer for so many seconds of a signal, with no sample in it.
+    /// Makes a buffer of no samples, for `seconds` seconds of a signal that has `rate` samples a second.
     ///
     /// # Errors
     ///
@@ -39,7 +39,7 @@ impl SampleBuffer {
         Ok(SampleBuffer { samples, rate })
     }
 
-    /// How many samples come in a second.
+    /// Returns how many samples come in a second.
     pub fn rate(&self) -> u32
         ensures { result ≡ self.now.rate }
     {
@@ -54,7 +54,7 @@ impl SampleBuffer {
         let _ = self.samples.push(sample);
     }
 
-    /// The last `k` samples, oldest first, or all where there are fewer.
+    /// Returns the last `k` samples, oldest first, or all where there are fewer.
     ///
     /// # Errors
     ///
@@ -70,7 +70,7 @@ impl SampleBuffer {
         Ok(last)
     }
 
-    /// The sample at a time, counted in samples from now: -1 is the newest. `None` before the oldest, and from 0 on.
+    /// Returns the sample at a time, counted in samples from now: -1 is the newest. `None` before the oldest, and from 0 on.
     pub fn at(&self, time: isize) -> Option<i32>
         ensures { result ≡ sample_at self.now.samples time }
     {

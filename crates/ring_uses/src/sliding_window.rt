@@ -6,7 +6,7 @@ ghost use Rattle.ringbuffer.specs.Contents.{keep_last};
 use std::marker::Model;
 use window::{ConstGenericWindowMax, ConstGenericWindowMin};
 
-/// The last samples of a series, at most `N`, oldest first. It takes no memory but its own.
+/// The last samples of a series, at most `N`, oldest first. It takes no memory of the heap.
 #[derive(Drop)]
 pub struct Window<const N: usize> {
     lows: ConstGenericWindowMin<i64, N>,
@@ -24,7 +24,7 @@ impl<const N: usize> Model for Window<N> {
 }
 
 impl<const N: usize> Window<N> {
-    /// A window that has seen no sample.
+    /// Makes a window that has seen no sample.
     pub fn new() -> Self
         requires { 0 < N }
         ensures { result ≡ [] }
@@ -47,14 +47,14 @@ impl<const N: usize> Window<N> {
     pub fn extend(&mut self, series: &[i64])
         ensures { self.new ≡ keep_last (Some N) (self.old ++ series.now) }
     {
-        // Brings in that the window holds at most `N` samples.
+        // For the proof: the contents are within the limit.
         let _ = self.count();
         for sample in series {
             self.push(*sample);
         }
     }
 
-    /// How many samples the window holds.
+    /// Counts the samples that the window holds.
     pub fn count(&self) -> usize
         ensures value { result ≡ length self.now }
         ensures within { result ≤ N }
@@ -62,7 +62,7 @@ impl<const N: usize> Window<N> {
         self.lows.len()
     }
 
-    /// The least sample, or `None` before the first.
+    /// Returns the least sample, or `None` before the first.
     pub fn least(&self) -> Option<i64>
         ensures none { IsNone result ↔ (self.now ≡ []) }
         ensures held { IfSome result (Contains self.now) }
@@ -72,7 +72,7 @@ impl<const N: usize> Window<N> {
         Some(*least)
     }
 
-    /// The greatest sample, or `None` before the first.
+    /// Returns the greatest sample, or `None` before the first.
     pub fn greatest(&self) -> Option<i64>
         ensures none { IsNone result ↔ (self.now ≡ []) }
         ensures held { IfSome result (Contains self.now) }

@@ -8,7 +8,7 @@ use ringbuffer::{AllocRingBuffer, RingBuffer, RingBufferIterator};
 use std::alloc::{AllocError, Global};
 use std::marker::Model;
 
-/// The last lines that were fed to it, at most so many, oldest first.
+/// The last lines that were fed to it, up to a limit, oldest first.
 #[derive(Drop)]
 pub struct LogTail {
     lines: AllocRingBuffer<String>,
@@ -24,7 +24,7 @@ impl Model for LogTail {
 }
 
 impl LogTail {
-    /// No lines yet, and room for `limit` of them.
+    /// Makes a log of no lines, with room for `limit` of them.
     ///
     /// # Errors
     ///
@@ -46,7 +46,7 @@ impl LogTail {
         let _ = self.lines.push(line);
     }
 
-    /// A walk over the lines, oldest first.
+    /// Walks over the lines, oldest first.
     pub fn iter(&self) -> RingBufferIterator<'_, String, AllocRingBuffer<String>>
         ensures left { map string_bytes
             (iterator_to_come ⟦<AllocRingBuffer<String> as RingBuffer<String>>⟧.contents result)

@@ -22,7 +22,7 @@ impl<T> Model for History<T> {
 }
 
 impl<T: Drop> History<T> {
-    /// A history of no states, which is to keep at most `depth`. It asks for memory here and in no other call.
+    /// Makes a history of no states, which is to keep at most `depth`. It asks for memory here and in no other call.
     ///
     /// # Errors
     ///
@@ -36,7 +36,7 @@ impl<T: Drop> History<T> {
         })
     }
 
-    /// How many states the history keeps at most.
+    /// Returns how many states the history keeps at most.
     pub fn depth(&self) -> usize
         ensures value { result ≡ self.now.depth }
         ensures within { length self.now.states ≤ result }

@@ -1,9 +1,8 @@
-//! Tests of walks and comparison by public calls.
+//! Tests of walks, lists and comparison by public calls.
 //!
-//! The body of a test is generic over the ring, and a driver gives it a ring of each type.
+//! A test is a function that is generic over the ring. A macro of `ring_test_support` calls it on a new ring of each type.
 
 mod comparison;
-mod debug;
 mod walks;
 
 use ring_test_support::steps::{Step, first_fault};
@@ -11,13 +10,13 @@ use ringbuffer::RingBuffer;
 use std::fmt::Debug;
 use std::process::Abort;
 
-/// Both are equal. A call of it is proved at once, where each `assert_eq!` takes a second or two: use `assert_eq!` only
-/// where the proof goes on from what it found. A failure names the test and both values, not the line.
+/// Asserts that both are equal. A call of it is proved at once, where each `assert_eq!` takes a second or two: use
+/// `assert_eq!` only where the proof goes on from what it found. A failure names the test and both values, not the line.
 fn assert_equal<T: PartialEq + Debug + Drop>(rt: &impl Abort, found: T, wanted: T) {
     assert_eq!(rt; found, wanted);
 }
 
-/// Each of the calls answers what its step says.
+/// Asserts that each of the calls answers what its step says.
 fn assert_steps<R: RingBuffer<i64>>(rt: &impl Abort, ring: &mut R, steps: &[Step]) {
     assert_equal(rt, first_fault(ring, steps), None);
 }
@@ -29,7 +28,7 @@ fn push_all<R: RingBuffer<i64>>(rt: &impl Abort, ring: &mut R, items: &[i64]) {
     }
 }
 
-/// The ring holds these items and no other, in order.
+/// Asserts that the ring holds these items and no other, in order.
 fn assert_holds<R: RingBuffer<i64>>(rt: &impl Abort, ring: &R, items: &[i64]) {
     assert_equal(rt, ring.len(), items.len());
     for (i, item) in items.iter().enumerate() {

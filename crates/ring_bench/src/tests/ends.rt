@@ -1,61 +1,11 @@
 //! Taking the newest item, and keeping the items of one end.
 
 use super::{STARTS, assert_equal, assert_steps, lay};
+use ring_test_support::on_each;
+use ring_test_support::own_calls::OwnCalls;
 use ring_test_support::steps::Step::{DequeueAll, Holds, PushAll, Skip};
-use ringbuffer::{AllocRingBuffer, ConstGenericRingBuffer, GrowableAllocRingBuffer, RingBuffer};
-use std::alloc::AllocError;
+use ringbuffer::RingBuffer;
 use std::process::Abort;
-
-/// The calls that each ring has of its own and no trait of the library has.
-trait Ends: RingBuffer<i64> {
-    fn pop_back(&mut self) -> Option<i64>;
-
-    fn truncate(&mut self, len: usize);
-
-    fn keep_newest(&mut self, len: usize);
-}
-
-impl<const CAP: usize> Ends for ConstGenericRingBuffer<i64, CAP> {
-    fn pop_back(&mut self) -> Option<i64> {
-        ConstGenericRingBuffer::pop_back(self)
-    }
-
-    fn truncate(&mut self, len: usize) {
-        ConstGenericRingBuffer::truncate(self, len);
-    }
-
-    fn keep_newest(&mut self, len: usize) {
-        ConstGenericRingBuffer::keep_newest(self, len);
-    }
-}
-
-impl Ends for AllocRingBuffer<i64> {
-    fn pop_back(&mut self) -> Option<i64> {
-        AllocRingBuffer::pop_back(self)
-    }
-
-    fn truncate(&mut self, len: usize) {
-        AllocRingBuffer::truncate(self, len);
-    }
-
-    fn keep_newest(&mut self, len: usize) {
-        AllocRingBuffer::keep_newest(self, len);
-    }
-}
-
-impl Ends for GrowableAllocRingBuffer<i64> {
-    fn pop_back(&mut self) -> Option<i64> {
-        GrowableAllocRingBuffer::pop_back(self)
-    }
-
-    fn truncate(&mut self, len: usize) {
-        GrowableAllocRingBuffer::truncate(self, len);
-    }
-
-    fn keep_newest(&mut self, len: usize) {
-        GrowableAllocRingBuffer::keep_newest(self, len);
-    }
-}
 
 /// The items of a ring, what `pop_back` answers, and what is left.
 const POPS: &[(&[i64], Option<i64>, &[i64])] = &[
@@ -85,70 +35,45 @@ const KEPT: &[(&[i64], usize, &[i64], &[i64])] = &[
     ),
 ];
 
-/// The ring holds these items and no other, and an item that is pushed then comes behind them.
+/// Asserts that the ring holds these items and no other, and that an item that is pushed then comes behind them.
 fn assert_left<R: RingBuffer<i64>>(rt: &impl Abort, ring: &mut R, items: &'static [i64]) {
-    let steps = [Holds(items), Skip, PushAll(&[8])];
-    assert_steps(rt, ring, &steps);
+    assert_steps(rt, ring, &[Holds(items), Skip, PushAll(&[8])]);
     for item in items.iter().skip(1) {
         assert_equal(rt, ring.dequeue(), Some(*item));
     }
     assert_steps(rt, ring, &[DequeueAll(&[8])]);
 }
 
-/// What a test does with a ring that is new.
-trait EndsCase {
-    fn on<R: Ends + Drop>(&self, rt: &impl Abort, ring: R);
-}
-
-/// The case on a ring of each type. On the heap one ring has spare slots, and one has none.
-fn on_each(rt: &(impl Abort + AllocGlobal), case: &impl EndsCase) -> Result<(), AllocError> {
-    case.on(rt, ConstGenericRingBuffer::<i64, 5>::new());
-    case.on(rt, ConstGenericRingBuffer::<i64, 8>::new());
-    case.on(rt, AllocRingBuffer::new(rt.alloc(), 5)?);
-    case.on(rt, AllocRingBuffer::new(rt.alloc(), 8)?);
-    case.on(rt, GrowableAllocRingBuffer::new(rt.alloc()));
-    Ok(())
-}
-
-/// `pop_back` on the items of each row, which begin at each place.
-struct Pops;
-
-impl EndsCase for Pops {
-    fn on<R: Ends + Drop>(&self, rt: &impl Abort, mut ring: R) {
-        for (items, popped, left) in POPS {
-            for start in 0..STARTS {
-                lay(rt, &mut ring, start, items);
-                assert_equal(rt, (start, ring.pop_back()), (start, *popped));
-                assert_left(rt, &mut ring, left);
-            }
+/// Asserts what `pop_back` does on the items of each row, which begin at each place.
+fn assert_pops<R: OwnCalls + Drop>(rt: &impl Abort, mut ring: R) {
+    for (items, popped, left) in POPS {
+        for start in 0..STARTS {
+            lay(rt, &mut ring, start, items);
+            assert_equal(rt, (start, ring.pop_back()), (start, *popped));
+            assert_left(rt, &mut ring, left);
         }
     }
 }
 
-#[test]
-fn pop_back_takes_the_newest(rt: HostRuntime) -> Result<(), AllocError> {
-    on_each(&rt, &Pops)
-}
-
-/// `truncate` and `keep_newest` on the items of each row, which begin at each place.
-struct Keeps;
-
-impl EndsCase for Keeps {
-    fn on<R: Ends + Drop>(&self, rt: &impl Abort, mut ring: R) {
-        for (items, len, oldest, newest) in KEPT {
-            for start in 0..STARTS {
-                lay(rt, &mut ring, start, items);
-                ring.truncate(*len);
-                assert_left(rt, &mut ring, oldest);
-                lay(rt, &mut ring, start, items);
-                ring.keep_newest(*len);
-                assert_left(rt, &mut ring, newest);
-            }
+/// Asserts what `truncate` and `keep_newest` do on the items of each row, which begin at each place.
+fn assert_keeps<R: OwnCalls + Drop>(rt: &impl Abort, mut ring: R) {
+    for (items, len, oldest, newest) in KEPT {
+        for start in 0..STARTS {
+            lay(rt, &mut ring, start, items);
+            ring.truncate(*len);
+            assert_left(rt, &mut ring, oldest);
+            lay(rt, &mut ring, start, items);
+            ring.keep_newest(*len);
+            assert_left(rt, &mut ring, newest);
         }
     }
 }
 
+// On the heap a ring of five has spare slots, and one of eight has none.
 #[test]
-fn items_of_one_end_are_kept(rt: HostRuntime) -> Result<(), AllocError> {
-    on_each(&rt, &Keeps)
+fn the_newest_item_is_taken_and_either_end_kept(rt: HostRuntime) {
+    on_each!(&rt, 5, assert_pops);
+    on_each!(&rt, 8, assert_pops);
+    on_each!(&rt, 5, assert_keeps);
+    on_each!(&rt, 8, assert_keeps);
 }

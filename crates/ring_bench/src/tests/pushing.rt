@@ -1,175 +1,170 @@
-//! Pushing, taking and sizes.
+//! Pushing, taking, sizes and slots.
 
-ghost use Rattle.std.specs.Prelude.{◌-◌, ◌<◌, ◌^◌};
+ghost use Rattle.std.specs.Prelude.{◌-◌, ◌<◌};
 ghost use Rattle.std.specs.Iterator.{at_most};
 
-use super::{InSlots, Steps, assert_equal, assert_steps, each, fixed, growable, on_heap, push_all};
-use ring_test_support::rings::{Case, Rings};
+use super::{answers, answers_in_slots, assert_equal, assert_steps, push_all};
 use ring_test_support::steps::Step;
 use ring_test_support::steps::Step::{
-    Back, Capacity, Clear, Dequeue, DequeueAll, Enqueue, Extend, GetSigned, Holds, IsEmpty, IsFull,
-    Len, Peek, Push, PushAll, Skip,
+    Back, Capacity, Clear, Dequeue, DequeueAll, Enqueue, Extend, Fill, Front, GetSigned, Holds,
+    IsEmpty, IsFull, Len, Push, PushAll, PushToLen, Skip,
 };
+use ring_test_support::{on_array, on_each, on_fixed, on_growable, on_heap};
 use ringbuffer::{AllocRingBuffer, ConstGenericRingBuffer, RingBuffer};
-use std::alloc::AllocError;
 use std::process::Abort;
 
-/// A ring of capacity 2 that has overwritten an item.
-struct KeepsTheNewest;
-
-const KEEPS_THE_NEWEST: &[Step] = &[
+/// Calls of a ring of two that overwrites an item.
+const OVERWRITES_THE_FIRST: &[Step] = &[
     PushAll(&[5]),
     Back(Some(5)),
     PushAll(&[42]),
-    Peek(Some(5)),
+    Front(Some(5)),
     IsFull(true),
     PushAll(&[1]),
+    Holds(&[42, 1]),
 ];
 
-impl<Rt: Abort + AllocGlobal> Case<Rt> for KeepsTheNewest {
-    fn on<R: RingBuffer<i64> + Drop>(&self, rt: &Rt, mut ring: R) -> Result<(), AllocError> {
-        assert_steps(rt, &mut ring, KEEPS_THE_NEWEST);
-        let items = ring.to_vec(rt.alloc())?;
-        assert_equal(rt, items.as_slice(), [42, 1].as_slice());
-        Ok(())
-    }
-}
-
-#[test]
-fn a_full_ring_keeps_the_newest(rt: HostRuntime) {
-    Rings::<2>::fixed(&rt, &KeepsTheNewest).expect(&rt, "memory");
-    with_capacity(&rt, 2, &KeepsTheNewest);
-}
-
-/// The case on a heap ring that was made `with_capacity`.
-fn with_capacity<Rt: Abort + AllocGlobal>(rt: &Rt, capacity: usize, case: &impl Case<Rt>)
-    requires some { 0 < capacity }
-{
-    let ring = AllocRingBuffer::with_capacity(rt.alloc(), capacity).expect(rt, "memory");
-    case.on(rt, ring).expect(rt, "memory");
-}
-
-#[test]
-fn a_push_hands_back_what_it_overwrote(rt: HostRuntime) {
-    fixed::<2>(
-        &rt,
+/// Calls of a fixed ring of two.
+const FIXED_OF_TWO: &[(&str, &[Step])] = &[
+    ("a full ring keeps the newest", OVERWRITES_THE_FIRST),
+    (
+        "a push hands back what it overwrote",
         &[
-            Push(5, None),
-            Push(42, None),
-            Push(1, Some(5)),
-            Enqueue(6, Some(42)),
-            Enqueue(7, Some(1)),
+            Push(&[(5, None), (42, None), (1, Some(5))]),
+            Enqueue(&[(6, Some(42)), (7, Some(1))]),
         ],
-    );
-}
+    ),
+    (
+        "a push after a clear hands nothing back",
+        &[
+            Push(&[(0, None), (1, None)]),
+            Clear,
+            Push(&[(2, None), (3, None)]),
+            Holds(&[2, 3]),
+            Push(&[(4, Some(2))]),
+            Holds(&[3, 4]),
+            DequeueAll(&[3, 4]),
+        ],
+    ),
+    (
+        "length stops at the capacity",
+        &[Len(0), PushToLen(&[1, 2, 2, 2])],
+    ),
+    (
+        "a ring is full at its capacity alone",
+        &[
+            IsFull(false),
+            PushAll(&[1]),
+            IsFull(false),
+            PushAll(&[2]),
+            IsFull(true),
+            PushAll(&[3]),
+            IsFull(true),
+            PushAll(&[4]),
+            Skip,
+            IsFull(false),
+        ],
+    ),
+    (
+        "an overwritten item does not leave",
+        &[
+            PushAll(&[0, 1, 2]),
+            DequeueAll(&[1, 2]),
+            PushAll(&[0, 1, 2]),
+            DequeueAll(&[1, 2]),
+        ],
+    ),
+];
 
-#[test]
-fn a_push_after_a_dequeue_hands_nothing_back(rt: HostRuntime) {
-    fixed::<3>(
-        &rt,
+const FIXED_OF_THREE: &[(&str, &[Step])] = &[
+    (
+        "a push after a dequeue hands nothing back",
         &[
             PushAll(&[0, 1]),
             Dequeue(Some(0)),
-            Push(2, None),
-            Push(3, None),
-            Push(4, Some(1)),
+            Push(&[(2, None), (3, None)]),
+            Holds(&[1, 2, 3]),
+            Push(&[(4, Some(1))]),
+            Holds(&[2, 3, 4]),
             DequeueAll(&[2, 3, 4]),
         ],
-    );
-}
-
-#[test]
-fn a_push_after_a_clear_hands_nothing_back(rt: HostRuntime) {
-    fixed::<2>(
-        &rt,
+    ),
+    (
+        "an empty source changes nothing",
         &[
-            Push(0, None),
-            Push(1, None),
-            Clear,
-            Push(2, None),
-            Push(3, None),
-            Push(4, Some(2)),
-            DequeueAll(&[3, 4]),
+            PushAll(&[1, 2]),
+            Extend(&[]),
+            Holds(&[1, 2]),
+            Extend(&[3, 4, 5, 6, 7]),
+            Holds(&[5, 6, 7]),
         ],
-    );
-}
+    ),
+];
+
+const ROUND_THE_SLOTS: &[Step] = &[
+    PushAll(&[0, 1, 2, 3, 4, 5, 6, 7, 8]),
+    Holds(&[4, 5, 6, 7, 8]),
+    Dequeue(Some(4)),
+    PushAll(&[9, 10]),
+    Holds(&[6, 7, 8, 9, 10]),
+];
 
 #[test]
-fn a_push_without_a_limit_hands_nothing_back(rt: HostRuntime) {
-    growable::<2>(
-        &rt,
+fn a_fixed_ring_overwrites_its_oldest_item(rt: HostRuntime) {
+    let source = &[Extend(&[1, 2, 3]), Holds(&[3])];
+    on_fixed!(&rt, 1, answers, "one slot keeps the last", source);
+    for (name, steps) in FIXED_OF_TWO {
+        on_fixed!(&rt, 2, answers, name, steps);
+    }
+    for (name, steps) in FIXED_OF_THREE {
+        on_fixed!(&rt, 3, answers, name, steps);
+    }
+    on_fixed!(&rt, 5, answers, "round the slots", ROUND_THE_SLOTS);
+}
+
+/// Calls of a growable ring with room for two.
+const GROWABLE: &[(&str, &[Step])] = &[
+    (
+        "a push hands nothing back",
         &[
-            Push(1, None),
-            Push(2, None),
-            Push(3, None),
+            Push(&[(1, None), (2, None), (3, None)]),
             DequeueAll(&[1, 2, 3]),
         ],
-    );
-}
+    ),
+    ("length grows", &[Len(0), PushToLen(&[1, 2, 3])]),
+    (
+        "nothing is overwritten",
+        &[
+            PushAll(&[0, 1, 2]),
+            DequeueAll(&[0, 1, 2]),
+            PushAll(&[0, 1, 2]),
+            DequeueAll(&[0, 1, 2]),
+        ],
+    ),
+    (
+        "a source is taken whole",
+        &[
+            Extend(&[]),
+            Holds(&[]),
+            Extend(&[1, 2, 3]),
+            Extend(&[4, 5]),
+            Holds(&[1, 2, 3, 4, 5]),
+        ],
+    ),
+];
 
 #[test]
-fn a_new_ring_is_empty(rt: HostRuntime) {
-    let new = Steps {
-        steps: &[Capacity(8), Len(0)],
-    };
-    Rings::<8>::fixed(&rt, &new).expect(&rt, "memory");
-    with_capacity(&rt, 8, &new);
-    new.on(&rt, ConstGenericRingBuffer::<i64, 8>::default())
-        .expect(&rt, "memory");
-}
-
-#[test]
-fn a_capacity_may_be_given_as_a_power_of_two(rt: HostRuntime) -> Result<(), AllocError> {
-    for (exponent, capacity) in [(0, 1), (2, 4), (10, 1024)] {
-        let mut ring = AllocRingBuffer::with_capacity_power_of_2(rt.alloc(), exponent)?;
-        assert_steps(&rt, &mut ring, &[Capacity(capacity), Len(0)]);
+fn a_growable_ring_overwrites_nothing(rt: HostRuntime) {
+    for (name, steps) in GROWABLE {
+        on_growable!(&rt, 2, answers, name, steps);
     }
-    Ok(())
 }
 
-#[test]
-fn length_counts_the_pushes(rt: HostRuntime) {
-    each::<8>(&rt, &[Len(0), PushAll(&[1]), Len(1), PushAll(&[2]), Len(2)]);
-}
-
-#[test]
-fn length_stops_at_the_capacity(rt: HostRuntime) {
-    fixed::<2>(
-        &rt,
-        &[
-            Len(0),
-            PushAll(&[1]),
-            Len(1),
-            PushAll(&[2]),
-            Len(2),
-            PushAll(&[3]),
-            Len(2),
-            PushAll(&[4]),
-            Len(2),
-        ],
-    );
-}
-
-#[test]
-fn length_grows_without_a_limit(rt: HostRuntime) {
-    growable::<2>(
-        &rt,
-        &[
-            Len(0),
-            PushAll(&[0]),
-            Len(1),
-            PushAll(&[1]),
-            Len(2),
-            PushAll(&[2]),
-            Len(3),
-        ],
-    );
-}
-
-#[test]
-fn a_cleared_ring_is_empty(rt: HostRuntime) {
-    each::<8>(
-        &rt,
+/// Calls of a ring that has room for what is pushed.
+const ROOMY: &[(&str, &[Step])] = &[
+    ("length counts the pushes", &[Len(0), PushToLen(&[1, 2])]),
+    (
+        "a cleared ring is empty",
         &[
             IsEmpty(true),
             PushAll(&[1, 2, 3]),
@@ -178,32 +173,9 @@ fn a_cleared_ring_is_empty(rt: HostRuntime) {
             IsEmpty(true),
             Len(0),
         ],
-    );
-}
-
-#[test]
-fn a_ring_is_full_at_its_capacity_alone(rt: HostRuntime) {
-    fixed::<2>(
-        &rt,
-        &[
-            IsFull(false),
-            PushAll(&[1]),
-            IsFull(false),
-            PushAll(&[2]),
-            IsFull(true),
-            PushAll(&[3]),
-            IsFull(true),
-            PushAll(&[4]),
-            Skip,
-            IsFull(false),
-        ],
-    );
-}
-
-#[test]
-fn items_leave_in_the_order_of_their_pushes(rt: HostRuntime) {
-    each::<8>(
-        &rt,
+    ),
+    (
+        "items leave in the order of their pushes",
         &[
             PushAll(&[0, 1]),
             Len(2),
@@ -212,78 +184,129 @@ fn items_leave_in_the_order_of_their_pushes(rt: HostRuntime) {
             Len(0),
             Dequeue(None),
         ],
-    );
-}
-
-#[test]
-fn skip_drops_the_oldest(rt: HostRuntime) {
-    each::<8>(&rt, &[PushAll(&[0, 1]), Skip, Holds(&[1]), Skip, Len(0)]);
-}
-
-#[test]
-fn skip_does_nothing_to_an_empty_ring(rt: HostRuntime) {
-    each::<2>(
-        &rt,
-        &[
-            Skip,
-            Skip,
-            Skip,
-            PushAll(&[1]),
-            Dequeue(Some(1)),
-            Dequeue(None),
-            Skip,
-            Dequeue(None),
-        ],
-    );
-}
-
-#[test]
-fn an_emptied_ring_is_used_again(rt: HostRuntime) {
-    each::<8>(
-        &rt,
+    ),
+    (
+        "a skip drops the oldest",
+        &[PushAll(&[0, 1]), Skip, Holds(&[1]), Skip, Len(0)],
+    ),
+    (
+        "an emptied ring is used again",
         &[
             PushAll(&[0, 1]),
             DequeueAll(&[0, 1]),
             PushAll(&[0, 1]),
             DequeueAll(&[0, 1]),
-            Enqueue(0, None),
-            Enqueue(1, None),
+            Enqueue(&[(0, None), (1, None)]),
             DequeueAll(&[0, 1]),
-            Enqueue(0, None),
-            Enqueue(1, None),
+            Enqueue(&[(0, None), (1, None)]),
             DequeueAll(&[0, 1]),
         ],
-    );
+    ),
+];
+
+const SKIPS_NOTHING: &[Step] = &[
+    Skip,
+    Skip,
+    Skip,
+    PushAll(&[1]),
+    DequeueAll(&[1]),
+    Skip,
+    Dequeue(None),
+];
+
+#[test]
+fn items_go_in_and_out_in_order(rt: HostRuntime) {
+    for (name, steps) in ROOMY {
+        on_each!(&rt, 8, answers, name, steps);
+    }
+    on_each!(&rt, 2, answers, "an empty ring is skipped", SKIPS_NOTHING);
+}
+
+/// The capacity that is asked for on the heap, and the slots that are made.
+const SLOTS: &[(usize, usize)] = &[
+    (1, 1),
+    (2, 2),
+    (3, 4),
+    (4, 4),
+    (5, 8),
+    (8, 8),
+    (9, 16),
+    (1000, 1024),
+];
+
+#[test]
+fn a_new_ring_is_empty_and_has_its_capacity(rt: HostRuntime) {
+    let new = &[Capacity(8), Len(0)];
+    on_fixed!(&rt, 8, answers, "new", new);
+    let array = ConstGenericRingBuffer::<i64, 8>::default();
+    answers(&rt, array, "default", new);
+    let heap = AllocRingBuffer::with_capacity(rt.alloc(), 8).expect(&rt, "memory");
+    answers(&rt, heap, "with_capacity", new);
+    let heap = AllocRingBuffer::with_capacity(rt.alloc(), 2).expect(&rt, "memory");
+    answers(&rt, heap, "with_capacity of two", OVERWRITES_THE_FIRST);
+    for (exponent, capacity) in [(0, 1), (2, 4), (10, 1024)] {
+        let heap = AllocRingBuffer::with_capacity_power_of_2(rt.alloc(), exponent);
+        let steps = &[Capacity(capacity), Len(0)];
+        answers(&rt, heap.expect(&rt, "memory"), "a power of two", steps);
+    }
+    for (capacity, slots) in SLOTS {
+        assert!(&rt; 0 < *capacity);
+        let heap = AllocRingBuffer::new(rt.alloc(), *capacity).expect(&rt, "memory");
+        answers_in_slots(&rt, heap, *slots, &[Capacity(*capacity)]);
+    }
+}
+
+/// Calls of a heap ring of five, in eight slots.
+const IN_EIGHT_SLOTS: &[&[Step]] = &[
+    &[
+        PushAll(&[0, 1, 2, 3, 4, 5, 6]),
+        IsFull(true),
+        Holds(&[2, 3, 4, 5, 6]),
+    ],
+    &[
+        PushAll(&[0, 1, 2, 3, 4, 5, 6]),
+        Fill(4),
+        Holds(&[4, 4, 4, 4, 4]),
+        IsFull(true),
+        Capacity(5),
+    ],
+];
+
+/// Calls of a heap ring of three, in four slots.
+const IN_FOUR_SLOTS: &[&[Step]] = &[
+    &[PushAll(&[1, 2, 3]), IsFull(true), Holds(&[1, 2, 3])],
+    &[PushAll(&[1, 2, 3, 4]), IsFull(true), Holds(&[2, 3, 4])],
+];
+
+/// Calls of a ring of one slot.
+const IN_ONE_SLOT: &[&[Step]] = &[
+    &[PushAll(&[1, 2]), Holds(&[2])],
+    &[PushAll(&[0, 1, 2, 3, 4, 5, 6, 7, 8, 9]), Holds(&[9])],
+];
+
+/// Pushes a thousand items onto a heap ring of three.
+fn keeps_the_last_three<R: RingBuffer<i64> + Drop>(rt: &impl Abort, mut ring: R) {
+    for item in 0..1000 {
+        push_all(rt, &mut ring, &[item]);
+    }
+    answers_in_slots(rt, ring, 4, &[Holds(&[997, 998, 999])]);
 }
 
 #[test]
-fn an_overwritten_item_does_not_leave(rt: HostRuntime) {
-    fixed::<2>(
-        &rt,
-        &[
-            PushAll(&[0, 1, 2]),
-            DequeueAll(&[1, 2]),
-            PushAll(&[0, 1, 2]),
-            DequeueAll(&[1, 2]),
-        ],
-    );
+fn spare_slots_hold_no_items(rt: HostRuntime) {
+    for steps in IN_ONE_SLOT {
+        on_fixed!(&rt, 1, answers_in_slots, 1, steps);
+    }
+    for steps in IN_FOUR_SLOTS {
+        on_heap!(&rt, 3, answers_in_slots, 4, steps);
+    }
+    for steps in IN_EIGHT_SLOTS {
+        on_heap!(&rt, 5, answers_in_slots, 8, steps);
+    }
+    let steps = &[Capacity(50), PushAll(&[5]), Holds(&[5])];
+    on_array!(&rt, 50, answers_in_slots, 50, steps);
+    on_heap!(&rt, 3, keeps_the_last_three);
 }
-
-#[test]
-fn a_growable_ring_overwrites_nothing(rt: HostRuntime) {
-    growable::<2>(
-        &rt,
-        &[
-            PushAll(&[0, 1, 2]),
-            DequeueAll(&[0, 1, 2]),
-            PushAll(&[0, 1, 2]),
-            DequeueAll(&[0, 1, 2]),
-        ],
-    );
-}
-
-/// Thousands of items, of which a ring of capacity 10 keeps the last.
-struct KeepsTheLastTen;
 
 const LAST_TEN: &[Step] = &[
     IsFull(true),
@@ -291,26 +314,17 @@ const LAST_TEN: &[Step] = &[
     IsEmpty(true),
 ];
 
-impl<Rt: Abort + AllocGlobal> Case<Rt> for KeepsTheLastTen {
-    fn on<R: RingBuffer<i64> + Drop>(&self, rt: &Rt, mut ring: R) -> Result<(), AllocError> {
-        for _ in 0..100 {
-            for item in 0..1000 {
-                assert!(rt; ring.enqueue(item).is_ok());
-            }
-            assert_steps(rt, &mut ring, LAST_TEN);
+/// Pushes thousands of items, of which a ring of ten keeps the last.
+fn keeps_the_last_ten<R: RingBuffer<i64> + Drop>(rt: &impl Abort, mut ring: R) {
+    for _ in 0..100 {
+        for item in 0..1000 {
+            assert!(rt; ring.enqueue(item).is_ok());
         }
-        Ok(())
+        assert_steps(rt, &mut ring, LAST_TEN);
     }
 }
 
-#[test]
-fn the_last_of_many_stay(rt: HostRuntime) {
-    Rings::<10>::fixed(&rt, &KeepsTheLastTen).expect(&rt, "memory");
-}
-
 /// Pushes of 1 and 2, between which the two oldest items leave, which are 1 and 2 as well.
-struct ComesAndGoes;
-
 const COMES_AND_GOES: &[Step] = &[
     PushAll(&[1, 2]),
     Dequeue(Some(1)),
@@ -323,51 +337,16 @@ const COMES_AND_GOES: &[Step] = &[
     GetSigned(-2, Some(1)),
 ];
 
-impl<Rt: Abort + AllocGlobal> Case<Rt> for ComesAndGoes {
-    fn on<R: RingBuffer<i64> + Drop>(&self, rt: &Rt, mut ring: R) -> Result<(), AllocError> {
-        for _ in 0..100_000 {
-            assert_steps(rt, &mut ring, COMES_AND_GOES);
-        }
-        Ok(())
+fn comes_and_goes<R: RingBuffer<i64> + Drop>(rt: &impl Abort, mut ring: R) {
+    for _ in 0..100_000 {
+        assert_steps(rt, &mut ring, COMES_AND_GOES);
     }
 }
 
 #[test]
 fn items_come_and_go_for_long(rt: HostRuntime) {
-    Rings::<8>::each(&rt, &ComesAndGoes).expect(&rt, "memory");
-}
-
-#[test]
-fn an_empty_source_changes_nothing(rt: HostRuntime) {
-    fixed::<3>(
-        &rt,
-        &[
-            PushAll(&[1, 2]),
-            Extend(&[]),
-            Holds(&[1, 2]),
-            Extend(&[3, 4, 5, 6, 7]),
-            Holds(&[5, 6, 7]),
-        ],
-    );
-}
-
-#[test]
-fn one_slot_keeps_the_last_of_a_source(rt: HostRuntime) {
-    fixed::<1>(&rt, &[Extend(&[1, 2, 3]), Holds(&[3])]);
-}
-
-#[test]
-fn a_growable_ring_takes_a_whole_source(rt: HostRuntime) {
-    growable::<2>(
-        &rt,
-        &[
-            Extend(&[]),
-            Holds(&[]),
-            Extend(&[1, 2, 3]),
-            Extend(&[4, 5]),
-            Holds(&[1, 2, 3, 4, 5]),
-        ],
-    );
+    on_fixed!(&rt, 10, keeps_the_last_ten);
+    on_each!(&rt, 8, comes_and_goes);
 }
 
 /// A source of one's own: the numbers from `next` up to `end`.
@@ -392,160 +371,16 @@ impl Iterator for Numbers {
     }
 }
 
-struct ExtendsByNumbers;
-
-impl<Rt: Abort + AllocGlobal> Case<Rt> for ExtendsByNumbers {
-    fn on<R: RingBuffer<i64> + Drop>(&self, rt: &Rt, mut ring: R) -> Result<(), AllocError> {
-        let numbers = Numbers {
-            next: 0,
-            end: 10_000,
-        };
-        assert!(rt; ring.extend(numbers).is_ok());
-        assert_steps(rt, &mut ring, &[Holds(&[9998, 9999])]);
-        Ok(())
-    }
-}
-
-#[test]
-fn extend_takes_any_source_that_ends(rt: HostRuntime) {
-    Rings::<2>::fixed(&rt, &ExtendsByNumbers).expect(&rt, "memory");
-}
-
-#[test]
-fn a_taken_item_makes_room(rt: HostRuntime) {
-    fixed::<3>(
-        &rt,
-        &[
-            PushAll(&[0, 1]),
-            Dequeue(Some(0)),
-            PushAll(&[2, 3]),
-            Holds(&[1, 2, 3]),
-            PushAll(&[4]),
-            Holds(&[2, 3, 4]),
-        ],
-    );
-}
-
-#[test]
-fn a_clear_makes_room(rt: HostRuntime) {
-    fixed::<2>(
-        &rt,
-        &[
-            PushAll(&[0, 1]),
-            Clear,
-            PushAll(&[2, 3]),
-            Holds(&[2, 3]),
-            PushAll(&[4]),
-            Holds(&[3, 4]),
-        ],
-    );
-}
-
-#[test]
-fn items_go_round_the_slots(rt: HostRuntime) {
-    fixed::<5>(
-        &rt,
-        &[
-            PushAll(&[0, 1, 2, 3, 4, 5, 6, 7, 8]),
-            Holds(&[4, 5, 6, 7, 8]),
-            Dequeue(Some(4)),
-            PushAll(&[9, 10]),
-            Holds(&[6, 7, 8, 9, 10]),
-        ],
-    );
-}
-
-#[test]
-fn a_ring_may_have_one_slot(rt: HostRuntime) {
-    let cases: [&'static [Step]; 2] = [
-        &[PushAll(&[1, 2]), Holds(&[2])],
-        &[PushAll(&[0, 1, 2, 3, 4, 5, 6, 7, 8, 9]), Holds(&[9])],
-    ];
-    for steps in cases {
-        Rings::<1>::fixed(&rt, &InSlots { slots: 1, steps }).expect(&rt, "memory");
-    }
-}
-
-/// The case on an array ring of this capacity.
-fn on_array<const CAP: usize, Rt: Abort + AllocGlobal>(rt: &Rt, case: &impl Case<Rt>)
-    requires some { 0 < CAP }
-    requires few { CAP < 2 ^ 16 }
-{
-    let ring = ConstGenericRingBuffer::<i64, CAP>::new();
-    case.on(rt, ring).expect(rt, "memory");
-}
-
-#[test]
-fn an_array_ring_has_as_many_slots_as_items(rt: HostRuntime) {
-    let case = InSlots {
-        slots: 50,
-        steps: &[Capacity(50), PushAll(&[5]), Holds(&[5])],
+fn takes_ten_thousand_numbers<R: RingBuffer<i64> + Drop>(rt: &impl Abort, mut ring: R) {
+    let numbers = Numbers {
+        next: 0,
+        end: 10_000,
     };
-    on_array::<50, _>(&rt, &case);
+    assert!(rt; ring.extend(numbers).is_ok());
+    assert_steps(rt, &mut ring, &[Holds(&[9998, 9999])]);
 }
 
 #[test]
-fn a_heap_ring_has_a_power_of_two_of_slots(rt: HostRuntime) -> Result<(), AllocError> {
-    let cases = [
-        (1, 1),
-        (2, 2),
-        (3, 4),
-        (4, 4),
-        (5, 8),
-        (8, 8),
-        (9, 16),
-        (1000, 1024),
-    ];
-    for (capacity, slots) in cases {
-        let ring = AllocRingBuffer::<i64>::new(rt.alloc(), capacity)?;
-        assert_equal(
-            &rt,
-            (ring.capacity(), ring.buffer_size()),
-            (capacity, slots),
-        );
-    }
-    Ok(())
-}
-
-#[test]
-fn spare_slots_hold_no_items(rt: HostRuntime) {
-    let of_five = InSlots {
-        slots: 8,
-        steps: &[
-            PushAll(&[0, 1, 2, 3, 4, 5, 6]),
-            IsFull(true),
-            Holds(&[2, 3, 4, 5, 6]),
-        ],
-    };
-    on_heap::<5, _>(&rt, &of_five);
-    let full = InSlots {
-        slots: 4,
-        steps: &[PushAll(&[1, 2, 3]), IsFull(true), Holds(&[1, 2, 3])],
-    };
-    on_heap::<3, _>(&rt, &full);
-    let of_three = InSlots {
-        slots: 4,
-        steps: &[PushAll(&[1, 2, 3, 4]), IsFull(true), Holds(&[2, 3, 4])],
-    };
-    on_heap::<3, _>(&rt, &of_three);
-}
-
-struct PushesAThousand;
-
-impl<Rt: Abort + AllocGlobal> Case<Rt> for PushesAThousand {
-    fn on<R: RingBuffer<i64> + Drop>(&self, rt: &Rt, mut ring: R) -> Result<(), AllocError> {
-        for item in 0..1000 {
-            push_all(rt, &mut ring, &[item]);
-        }
-        let last = InSlots {
-            slots: 4,
-            steps: &[Holds(&[997, 998, 999])],
-        };
-        last.on(rt, ring)
-    }
-}
-
-#[test]
-fn a_heap_ring_keeps_the_last_of_a_thousand(rt: HostRuntime) {
-    on_heap::<3, _>(&rt, &PushesAThousand);
+fn an_extension_takes_any_source_that_ends(rt: HostRuntime) {
+    on_fixed!(&rt, 2, takes_ten_thousand_numbers);
 }

@@ -1,6 +1,7 @@
 //! Whole slices in and out.
 
 use super::{STARTS, assert_equal, assert_gives, assert_holds, lay, push_all};
+use ring_test_support::{on_growable, on_heap};
 use ringbuffer::{AllocRingBuffer, GrowableAllocRingBuffer, RingBuffer};
 use std::alloc::AllocError;
 use std::process::Abort;
@@ -81,7 +82,7 @@ const COPIES: &[(&[i64], usize, &[i64])] = &[
     (&[1, 2, 3, 4, 5], 5, &[1, 2, 3, 4, 5, 9]),
 ];
 
-/// An extension by a slice, or by its items, leaves the last of all items that the limit allows.
+/// Extends by a slice, or by its items, and finds the last of all items that the limit allows.
 fn assert_extended<R: Slices>(
     rt: &impl Abort,
     ring: &mut R,
@@ -102,25 +103,21 @@ fn assert_extended<R: Slices>(
     Ok(())
 }
 
-fn assert_extends<R: Slices + Drop>(
-    rt: &impl Abort,
-    mut ring: R,
-    limit: usize,
-) -> Result<(), AllocError> {
+/// Extends by the slice of each row.
+fn assert_extends<R: Slices + Drop>(rt: &impl Abort, mut ring: R, limit: usize) {
     for (items, slice, all) in EXTENSIONS {
-        assert_extended(rt, &mut ring, limit, items, slice, all)?;
+        assert_extended(rt, &mut ring, limit, items, slice, all).expect(rt, "memory");
     }
-    Ok(())
 }
 
 #[test]
-fn slices_are_put_behind_the_items(rt: HostRuntime) -> Result<(), AllocError> {
-    assert_extends(&rt, AllocRingBuffer::new(rt.alloc(), 4)?, 4)?;
-    assert_extends(&rt, AllocRingBuffer::new(rt.alloc(), 5)?, 5)?;
-    assert_extends(&rt, GrowableAllocRingBuffer::new(rt.alloc()), usize::MAX)
+fn slices_are_put_behind_the_items(rt: HostRuntime) {
+    on_heap!(&rt, 4, assert_extends, 4);
+    on_heap!(&rt, 5, assert_extends, 5);
+    on_growable!(&rt, 0, assert_extends, usize::MAX);
 }
 
-/// `copy_to_slice` and `dequeue_into` on the items of a row, and what the second leaves.
+/// Asserts what `copy_to_slice` and `dequeue_into` do on the items of a row, and what the second leaves.
 fn assert_copied<R: Slices>(
     rt: &impl Abort,
     ring: &mut R,
@@ -143,13 +140,14 @@ fn assert_copied<R: Slices>(
     assert_gives(rt, ring, &[8]);
 }
 
-/// Takes out the items of a list but for so many of its first.
+/// Takes out the items of a list after its first `count`.
 fn assert_dequeues<R: Slices>(rt: &impl Abort, ring: &mut R, items: &[i64], count: usize) {
     for item in items.iter().skip(count) {
         assert_equal(rt, ring.dequeue(), Some(*item));
     }
 }
 
+/// Copies the items of each row, which begin at each place.
 fn assert_copies<R: Slices + Drop>(rt: &impl Abort, mut ring: R) {
     for (items, count, copied) in COPIES {
         for start in 0..STARTS {
@@ -159,15 +157,14 @@ fn assert_copies<R: Slices + Drop>(rt: &impl Abort, mut ring: R) {
 }
 
 #[test]
-fn items_are_copied_to_slices(rt: HostRuntime) -> Result<(), AllocError> {
-    assert_copies(&rt, AllocRingBuffer::new(rt.alloc(), 6)?);
-    assert_copies(&rt, AllocRingBuffer::new(rt.alloc(), 8)?);
-    assert_copies(&rt, GrowableAllocRingBuffer::new(rt.alloc()));
-    Ok(())
+fn items_are_copied_to_slices(rt: HostRuntime) {
+    on_heap!(&rt, 6, assert_copies);
+    on_heap!(&rt, 8, assert_copies);
+    on_growable!(&rt, 0, assert_copies);
 }
 
-/// Items of a heap ring in two slices only where they go round its slots, and then in one, which is turned round before
-/// one more is pushed.
+/// Finds the items of a heap ring in two slices only where they go round its slots, and then in one, which is turned round
+/// before one more is pushed.
 fn assert_turned(rt: &impl Abort, ring: &mut AllocRingBuffer<i64>, start: usize, items: &[i64]) {
     lay(rt, ring, start, items);
     // The number of slots is a power of two.
@@ -190,7 +187,7 @@ fn assert_turned(rt: &impl Abort, ring: &mut AllocRingBuffer<i64>, start: usize,
     assert_gives(rt, ring, &[9]);
 }
 
-/// As many items as a heap ring may hold, up to 8, from every start.
+/// Makes one slice of none to eight items, as many as a heap ring may hold, from every start.
 fn assert_one_slice(rt: &impl Abort, mut ring: AllocRingBuffer<i64>) {
     for len in 0..=ring.capacity().min(8) {
         let (items, _) = [1, 2, 3, 4, 5, 6, 7, 8].split_at(len);
@@ -201,15 +198,10 @@ fn assert_one_slice(rt: &impl Abort, mut ring: AllocRingBuffer<i64>) {
 }
 
 #[test]
-fn items_of_a_heap_ring_are_made_one_slice(rt: HostRuntime) -> Result<(), AllocError> {
+fn items_are_made_one_slice(rt: HostRuntime) -> Result<(), AllocError> {
     for capacity in [1, 2, 3, 5, 8] {
         assert_one_slice(&rt, AllocRingBuffer::new(rt.alloc(), capacity)?);
     }
-    Ok(())
-}
-
-#[test]
-fn items_of_a_growable_ring_are_made_one_slice(rt: HostRuntime) -> Result<(), AllocError> {
     let mut ring = GrowableAllocRingBuffer::with_capacity(rt.alloc(), 5)?;
     for start in 0..STARTS {
         lay(&rt, &mut ring, start, &[1, 2, 3, 4, 5]);

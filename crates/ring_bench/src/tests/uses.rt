@@ -62,6 +62,7 @@ fn last_two_of_three_events(rt: HostRuntime) -> Result<(), AllocError> {
     Ok(())
 }
 
+/// Returns what a window shows: how many samples it holds, the least and the greatest.
 fn shown(window: &Window<3>) -> (usize, Option<i64>, Option<i64>) {
     (window.count(), window.least(), window.greatest())
 }
@@ -91,7 +92,7 @@ fn tails_of_a_log(rt: HostRuntime) -> Result<(), Fail> {
     Ok(())
 }
 
-/// The log has these lines and no other, in order.
+/// Asserts that the log has these lines and no other, in order.
 fn assert_lines(rt: &impl Abort, log: &LogTail, lines: &[&str]) {
     let mut found = log.iter();
     for line in lines {
@@ -122,7 +123,7 @@ fn record_all(history: &mut History<&'static str>, texts: &[&'static str]) {
     }
 }
 
-/// Each undo takes back the text that stands in its place.
+/// Asserts that each undo takes back the text that stands in its place.
 fn assert_undoes(
     rt: &impl Abort,
     history: &mut History<&'static str>,
@@ -158,14 +159,14 @@ fn undo_of_many_keystrokes(rt: HostRuntime) -> Result<(), AllocError> {
     Ok(())
 }
 
-/// The pipe takes in so many bytes of each input.
+/// Asserts how many bytes of each input the pipe takes in.
 fn assert_receives(rt: &impl Abort, pipe: &mut Pipe, inputs: &[(&[u8], usize)]) {
     for (input, count) in inputs {
         assert_equal(rt, (*input, pipe.receive(input)), (*input, *count));
     }
 }
 
-/// The pipe puts so many bytes at the front of an output that has this room, and all ten bytes are then as shown.
+/// Asserts how many bytes the pipe puts at the front of an output that has `room` places, and what all ten bytes are then.
 fn assert_sends(
     rt: &impl Abort,
     pipe: &mut Pipe,
@@ -219,7 +220,7 @@ fn request_through_pipes(rt: HostRuntime) -> Result<(), AllocError> {
     Ok(())
 }
 
-/// The last samples of the buffer, so many, are these.
+/// Asserts what the last `count` samples of the buffer are.
 fn assert_last(
     rt: &(impl Abort + AllocGlobal),
     buffer: &SampleBuffer,
@@ -230,7 +231,7 @@ fn assert_last(
     assert_equal(rt, (count, last.as_slice()), (count, samples));
 }
 
-/// The buffer has these samples at these times.
+/// Asserts which samples the buffer has at these times.
 fn assert_at(rt: &impl Abort, buffer: &SampleBuffer, samples: &[(isize, Option<i32>)]) {
     for (time, sample) in samples {
         assert_equal(rt, (*time, buffer.at(*time)), (*time, *sample));

@@ -1,9 +1,8 @@
 //! Windows over each type of ring.
 
-use super::{assert_equal, on_heap, push_all};
-use ring_test_support::rings::{Case, Rings};
+use super::{assert_equal, push_all};
+use ring_test_support::{on_each, on_fixed, on_growable, on_heap};
 use ringbuffer::RingBuffer;
-use std::alloc::AllocError;
 use std::process::Abort;
 use window::WindowSum;
 
@@ -17,22 +16,18 @@ enum Slide {
     Len(usize),
 }
 
-/// These calls of a window over a ring that holds these samples.
-#[derive(Drop)]
-struct Slides {
-    held: &'static [i64],
-    slides: &'static [Slide],
-}
-
-impl<Rt: Abort + AllocGlobal> Case<Rt> for Slides {
-    fn on<R: RingBuffer<i64> + Drop>(&self, rt: &Rt, mut ring: R) -> Result<(), AllocError> {
-        push_all(rt, &mut ring, self.held);
-        let mut window = WindowSum::new(ring);
-        for (i, slide) in self.slides.iter().enumerate() {
-            let found = answered(rt, &mut window, *slide);
-            assert_equal(rt, (i, found), (i, *slide));
-        }
-        Ok(())
+/// Asserts what the calls of a window over a ring that holds these samples answer.
+fn assert_slides<R: RingBuffer<i64> + Drop>(
+    rt: &impl Abort,
+    mut ring: R,
+    held: &[i64],
+    slides: &[Slide],
+) {
+    push_all(rt, &mut ring, held);
+    let mut window = WindowSum::new(ring);
+    for (i, slide) in slides.iter().enumerate() {
+        let found = answered(rt, &mut window, *slide);
+        assert_equal(rt, (i, found), (i, *slide));
     }
 }
 
@@ -48,78 +43,54 @@ fn answered<R: RingBuffer<i64>>(rt: &impl Abort, window: &mut WindowSum<R>, slid
     }
 }
 
-#[test]
-fn three_samples_and_one_more(rt: HostRuntime) {
-    let case = Slides {
-        held: &[],
-        slides: &[
-            Slide::Push(5, None),
-            Slide::Push(7, None),
-            Slide::Push(9, None),
-            Slide::Sum(21),
-            Slide::Push(1, Some(5)),
-            Slide::Sum(17),
-            Slide::ForgetOldest(Some(7)),
-            Slide::Sum(10),
-            Slide::Len(2),
-        ],
-    };
-    on_heap::<3, _>(&rt, &case);
-}
+const OF_THREE: &[Slide] = &[
+    Slide::Push(5, None),
+    Slide::Push(7, None),
+    Slide::Push(9, None),
+    Slide::Sum(21),
+    Slide::Push(1, Some(5)),
+    Slide::Sum(17),
+    Slide::ForgetOldest(Some(7)),
+    Slide::Sum(10),
+    Slide::Len(2),
+];
+
+/// Samples whose sum is past an i64.
+const LARGE: &[Slide] = &[
+    Slide::Push(9223372036854775807, None),
+    Slide::Push(9223372036854775807, None),
+    Slide::Sum(18446744073709551614),
+    Slide::Push(-9223372036854775808, Some(9223372036854775807)),
+    Slide::Sum(-1),
+];
+
+const OVER_A_FULL_RING: &[Slide] = &[Slide::Sum(17), Slide::Push(1, Some(8)), Slide::Sum(10)];
+
+const WITHOUT_A_LIMIT: &[Slide] = &[
+    Slide::Sum(6),
+    Slide::Push(4, None),
+    Slide::Sum(10),
+    Slide::Len(4),
+];
+
+const OF_NOTHING: &[Slide] = &[Slide::Sum(0), Slide::ForgetOldest(None), Slide::Sum(0)];
 
 #[test]
-fn sums_past_an_i64(rt: HostRuntime) {
-    let case = Slides {
-        held: &[],
-        slides: &[
-            Slide::Push(9223372036854775807, None),
-            Slide::Push(9223372036854775807, None),
-            Slide::Sum(18446744073709551614),
-            Slide::Push(-9223372036854775808, Some(9223372036854775807)),
-            Slide::Sum(-1),
-        ],
-    };
-    Rings::<2>::fixed(&rt, &case).expect(&rt, "memory");
+fn a_window_sums_what_its_ring_holds(rt: HostRuntime) {
+    on_heap!(&rt, 3, assert_slides, &[], OF_THREE);
+    on_fixed!(&rt, 2, assert_slides, &[], LARGE);
+    on_fixed!(&rt, 2, assert_slides, &[8, 9], OVER_A_FULL_RING);
+    on_growable!(&rt, 2, assert_slides, &[1, 2, 3], WITHOUT_A_LIMIT);
+    on_each!(&rt, 2, assert_slides, &[], OF_NOTHING);
 }
 
-#[test]
-fn window_over_a_full_ring(rt: HostRuntime) {
-    let case = Slides {
-        held: &[8, 9],
-        slides: &[Slide::Sum(17), Slide::Push(1, Some(8)), Slide::Sum(10)],
-    };
-    Rings::<2>::fixed(&rt, &case).expect(&rt, "memory");
-}
-
-#[test]
-fn window_over_a_ring_without_a_limit(rt: HostRuntime) {
-    let case = Slides {
-        held: &[1, 2, 3],
-        slides: &[
-            Slide::Sum(6),
-            Slide::Push(4, None),
-            Slide::Sum(10),
-            Slide::Len(4),
-        ],
-    };
-    Rings::<2>::growable(&rt, &case).expect(&rt, "memory");
-}
-
-#[test]
-fn window_over_an_empty_ring(rt: HostRuntime) {
-    let case = Slides {
-        held: &[],
-        slides: &[Slide::Sum(0), Slide::ForgetOldest(None), Slide::Sum(0)],
-    };
-    Rings::<2>::each(&rt, &case).expect(&rt, "memory");
-}
-
-/// How many samples are averaged, of how many.
+/// How many samples are averaged: as many as the rings hold that are averaged over.
 const AVERAGED: usize = 10;
 
+/// How many samples there are.
 const SERIES: usize = 300;
 
-/// Samples from all over the range of an i64.
+/// Returns samples from all over the range of an i64.
 fn series() -> [i64; SERIES] {
     let mut samples = [0i64; SERIES];
     let mut state = 1i64;
@@ -132,7 +103,7 @@ fn series() -> [i64; SERIES] {
     samples
 }
 
-/// The sum and the number of the samples up to one, of which the last are averaged.
+/// Returns the sum and the number of the last samples up to one, which are averaged.
 fn averaged(samples: &[i64], newest: usize) -> (i128, i128) {
     let mut sum = 0i128;
     let mut count = 0i128;
@@ -148,31 +119,23 @@ fn averaged(samples: &[i64], newest: usize) -> (i128, i128) {
     (sum, count)
 }
 
-struct MovingAverage;
-
-impl<Rt: Abort + AllocGlobal> Case<Rt> for MovingAverage {
-    fn on<R: RingBuffer<i64> + Drop>(&self, rt: &Rt, ring: R) -> Result<(), AllocError> {
-        let samples = series();
-        let mut window = WindowSum::new(ring);
-        for (i, sample) in samples.iter().enumerate() {
-            assert!(rt; window.push(*sample).is_ok());
-            // Only a ring without a limit has too many.
-            if window.len() > AVERAGED {
-                let _ = window.forget_oldest();
-            }
-            let (sum, count) = averaged(&samples, i);
-            let mean = window.sum().checked_div(window.len() as i128);
-            assert_equal(
-                rt,
-                (i, window.sum(), mean),
-                (i, sum, sum.checked_div(count)),
-            );
+fn assert_averages<R: RingBuffer<i64> + Drop>(rt: &impl Abort, ring: R) {
+    let samples = series();
+    let mut window = WindowSum::new(ring);
+    for (i, sample) in samples.iter().enumerate() {
+        assert!(rt; window.push(*sample).is_ok());
+        // Only a ring without a limit has too many.
+        if window.len() > AVERAGED {
+            let _ = window.forget_oldest();
         }
-        Ok(())
+        let (sum, count) = averaged(&samples, i);
+        let mean = window.sum().checked_div(window.len() as i128);
+        let found = (i, window.sum(), mean);
+        assert_equal(rt, found, (i, sum, sum.checked_div(count)));
     }
 }
 
 #[test]
-fn moving_average(rt: HostRuntime) {
-    Rings::<AVERAGED>::each(&rt, &MovingAverage).expect(&rt, "memory");
+fn a_window_has_a_moving_average(rt: HostRuntime) {
+    on_each!(&rt, 10, assert_averages);
 }

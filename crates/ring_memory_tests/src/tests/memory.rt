@@ -1,38 +1,35 @@
 //! How large a ring may be, memory that is refused to it, and calls that ask for none.
 
-use super::runs::{REPLIES_OF_TWO, every_command};
-use super::{assert_equal, assert_holds, on_growable, push_all};
-use ring_test_support::drought::Drought;
-use ring_test_support::rings::{Case, Rings};
+use super::{assert_equal, assert_holds, drought, push_all};
+use ring_test_support::commands::{REPLIES_OF_TWO, every_command};
+use ring_test_support::own_calls::OwnCalls;
 use ring_test_support::steps::Step::{
     Back, Clear, Contains, Dequeue, DequeueAll, Enqueue, Extend, Fill, FillDefault, FillWith,
-    Front, Get, GetSigned, Holds, IsEmpty, Len, Peek, Push, PushAll, Skip, Write, WriteBack,
-    WriteFront, WriteSigned,
+    Front, Get, GetSigned, Holds, IsEmpty, Len, Push, PushAll, Skip, Write, WriteBack, WriteFront,
+    WriteSigned,
 };
 use ring_test_support::steps::{Outcome, Step, first_fault};
+use ring_test_support::{on_each, on_fixed, on_growable};
 use ringbuffer::{
-    AllocRingBuffer, Command, ConstGenericRingBuffer, GrowableAllocRingBuffer, Reply, RingBuffer,
+    AllocRingBuffer, Command, GrowableAllocRingBuffer, Reply, RingBuffer,
     RingBufferDrainingIterator, RingBufferIntoIterator, RingBufferIterator, RingBufferMutIterator,
-    RunFault, apply, run, run_into,
+    RunFault, apply, move_all, run, run_into,
 };
 use std::alloc::AllocError;
 use std::mem::size_of;
 use std::process::Abort;
 
 #[test]
-fn capacities_above_the_greatest_power_of_two_are_refused(rt: HostRuntime) {
+fn more_than_there_can_be_is_refused(rt: HostRuntime) {
+    let alloc = rt.alloc();
     for capacity in [(1 << 63) + 1, usize::MAX] {
-        assert!(rt; AllocRingBuffer::<u8>::new(rt.alloc(), capacity).is_err());
-        assert!(rt; AllocRingBuffer::<()>::new(rt.alloc(), capacity).is_err());
-        assert!(rt; AllocRingBuffer::<u8>::with_capacity(rt.alloc(), capacity).is_err());
+        assert!(rt; AllocRingBuffer::<u8>::new(alloc, capacity).is_err());
+        assert!(rt; AllocRingBuffer::<()>::new(alloc, capacity).is_err());
+        assert!(rt; AllocRingBuffer::<u8>::with_capacity(alloc, capacity).is_err());
     }
-}
-
-#[test]
-fn more_bytes_than_there_can_be_are_refused(rt: HostRuntime) {
-    assert!(rt; AllocRingBuffer::<u64>::with_capacity_power_of_2(rt.alloc(), 63).is_err());
-    assert!(rt; AllocRingBuffer::<u64>::new(rt.alloc(), 1 << 44).is_err());
-    assert!(rt; GrowableAllocRingBuffer::<i64>::with_capacity(rt.alloc(), usize::MAX).is_err());
+    assert!(rt; AllocRingBuffer::<u64>::with_capacity_power_of_2(alloc, 63).is_err());
+    assert!(rt; AllocRingBuffer::<u64>::new(alloc, 1 << 44).is_err());
+    assert!(rt; GrowableAllocRingBuffer::<i64>::with_capacity(alloc, usize::MAX).is_err());
 }
 
 // No item is written, so they take addresses and no memory: more than there are addresses for, if none were given back.
@@ -45,82 +42,67 @@ fn rings_of_a_gibibyte_give_back_their_memory(rt: HostRuntime) -> Result<(), All
     Ok(())
 }
 
+fn assert_takes_two<R: RingBuffer<i64> + Drop>(rt: &impl Abort, mut ring: R) {
+    push_all(rt, &mut ring, &[1, 2]);
+    assert_holds(rt, &ring, &[1, 2]);
+}
+
 #[test]
 fn large_capacities_are_had_where_there_is_memory(rt: HostRuntime) -> Result<(), AllocError> {
-    fn on<R: RingBuffer<i64> + Drop>(rt: &impl Abort, mut ring: R) {
-        push_all(rt, &mut ring, &[1, 2]);
-        assert_holds(rt, &ring, &[1, 2]);
-    }
     for capacity in [(1 << 16) + 1, (1 << 20) + 1, 1 << 24, (1 << 24) + 1] {
         let heap = AllocRingBuffer::new(rt.alloc(), capacity)?;
         assert_equal(&rt, heap.capacity(), capacity);
-        on(&rt, heap);
+        assert_takes_two(&rt, heap);
         let growable = GrowableAllocRingBuffer::with_capacity(rt.alloc(), capacity)?;
         assert!(rt; growable.capacity() >= capacity);
-        on(&rt, growable);
+        assert_takes_two(&rt, growable);
     }
     Ok(())
 }
 
-#[test]
-fn items_may_be_large(rt: HostRuntime) -> Result<(), AllocError> {
-    fn on<R: RingBuffer<[u64; 512]> + Drop>(rt: &impl Abort, mut ring: R) {
-        assert!(rt; ring.push([1; 512]).is_ok());
-        assert!(rt; ring.push([2; 512]).is_ok());
-        assert_equal(rt, ring.back().map(|item| item[511]), Some(2));
-        assert_equal(rt, ring.dequeue().map(|item| item[0]), Some(1));
-    }
-    on(&rt, ConstGenericRingBuffer::<[u64; 512], 2>::new());
-    on(&rt, AllocRingBuffer::new(rt.alloc(), 2)?);
-    on(&rt, GrowableAllocRingBuffer::new(rt.alloc()));
-    Ok(())
+fn assert_takes_large<R: RingBuffer<[u64; 512]> + Drop>(rt: &impl Abort, mut ring: R) {
+    assert!(rt; ring.push([1; 512]).is_ok());
+    assert!(rt; ring.push([2; 512]).is_ok());
+    assert_equal(rt, ring.back().map(|item| item[511]), Some(2));
+    assert_equal(rt, ring.dequeue().map(|item| item[0]), Some(1));
 }
 
 #[test]
-fn a_ring_of_items_without_size_has_any_capacity(rt: HostRuntime) -> Result<(), AllocError> {
-    let greatest = 1 << 63;
-    let cases = [
-        (5, 8),
-        ((1 << 16) + 1, 1 << 17),
-        ((1 << 32) + 1, 1 << 33),
-        (greatest - 1, greatest),
-        (greatest, greatest),
-    ];
-    for (capacity, slots) in cases {
-        let ring = AllocRingBuffer::<()>::new(rt.alloc(), capacity)?;
-        assert_equal(&rt, ring.capacity(), capacity);
-        assert_equal(&rt, ring.buffer_size(), slots);
+fn items_may_be_large(rt: HostRuntime) {
+    on_fixed!(&rt, 2, assert_takes_large);
+    on_growable!(&rt, 0, assert_takes_large);
+}
+
+/// Capacities of heap rings of items without size, and the slots that they have.
+const WITHOUT_SIZE: &[(usize, usize)] = &[
+    (5, 8),
+    ((1 << 16) + 1, 1 << 17),
+    ((1 << 32) + 1, 1 << 33),
+    ((1 << 63) - 1, 1 << 63),
+    (1 << 63, 1 << 63),
+];
+
+#[test]
+fn a_ring_of_items_without_size_has_any_capacity_and_no_memory(
+    rt: HostRuntime,
+) -> Result<(), AllocError> {
+    for (capacity, slots) in WITHOUT_SIZE {
+        assert!(rt; 0 < *capacity);
+        let ring = AllocRingBuffer::<()>::new(rt.alloc(), *capacity)?;
+        let found = (ring.capacity(), ring.buffer_size());
+        assert_equal(&rt, found, (*capacity, *slots));
     }
     let ring = AllocRingBuffer::<()>::with_capacity_power_of_2(rt.alloc(), 63)?;
-    assert_equal(&rt, ring.capacity(), greatest);
-    Ok(())
-}
-
-#[test]
-fn makers_answer_that_memory_was_refused(rt: HostRuntime) -> Result<(), AllocError> {
-    let drought = Drought::total(rt.alloc())?;
-    let heap = AllocRingBuffer::<i64>::new(rt.alloc(), 8);
-    let heap_too = AllocRingBuffer::<i64>::with_capacity_power_of_2(rt.alloc(), 3);
-    let growable = GrowableAllocRingBuffer::<i64>::with_capacity(rt.alloc(), 8);
-    drop(drought);
-    assert!(rt; heap.is_err());
-    assert!(rt; heap_too.is_err());
-    assert!(rt; growable.is_err());
-    Ok(())
-}
-
-#[test]
-fn ring_of_items_without_size_asks_for_no_memory(rt: HostRuntime) -> Result<(), AllocError> {
-    let drought = Drought::total(rt.alloc())?;
+    assert_equal(&rt, ring.capacity(), 1 << 63);
+    let drought = drought(&rt, 0);
     let made = AllocRingBuffer::<()>::new(rt.alloc(), 5);
     drop(drought);
     let mut ring = made?;
     for _ in 0..7 {
         assert!(rt; ring.push(()).is_ok());
     }
-    assert_equal(&rt, ring.len(), 5);
-    assert_equal(&rt, ring.capacity(), 5);
-    assert_equal(&rt, ring.buffer_size(), 8);
+    let found = (ring.len(), ring.capacity(), ring.buffer_size());
+    assert_equal(&rt, found, (5, 5, 8));
     for _ in 0..5 {
         assert_equal(&rt, ring.dequeue(), Some(()));
     }
@@ -128,66 +110,62 @@ fn ring_of_items_without_size_asks_for_no_memory(rt: HostRuntime) -> Result<(), 
     Ok(())
 }
 
-#[test]
-fn a_refused_push_can_be_tried_again(rt: HostRuntime) -> Result<(), AllocError> {
-    let drought = Drought::total(rt.alloc())?;
-    let mut ring = GrowableAllocRingBuffer::new(rt.alloc());
-    let refused = ring.push(7);
+/// Pushes and extends in a drought, and then again. The ring has no room.
+fn assert_refused<R: RingBuffer<i64> + Drop>(rt: &(impl Abort + AllocGlobal), mut ring: R) {
+    let drought = drought(rt, 0);
+    let pushed = ring.push(7);
+    let by_push = first_fault(&mut ring, &[Len(0), Push(&[(1, None)])]);
+    let by_pushes = first_fault(&mut ring, &[PushAll(&[1])]);
+    let by_extension = first_fault(&mut ring, &[Extend(&[1])]);
     drop(drought);
-    assert_equal(&rt, refused.err(), Some(7));
-    let again = first_fault(&mut ring, &[Len(0), Push(7, None), Holds(&[7])]);
-    assert_equal(&rt, again, None);
-    Ok(())
+    assert_equal(rt, pushed, Err(7));
+    assert_equal(rt, by_push, Some((1, Outcome::Refused)));
+    assert_equal(rt, by_pushes, Some((0, Outcome::Refused)));
+    assert_equal(rt, by_extension, Some((0, Outcome::Refused)));
+    let again = first_fault(&mut ring, &[Len(0), Push(&[(7, None)]), Holds(&[7])]);
+    assert_equal(rt, again, None);
 }
 
-struct StepsRefused;
-
-impl<Rt: Abort + AllocGlobal> Case<Rt> for StepsRefused {
-    fn on<R: RingBuffer<i64> + Drop>(&self, rt: &Rt, mut ring: R) -> Result<(), AllocError> {
-        let drought = Drought::total(rt.alloc())?;
-        let by_push = first_fault(&mut ring, &[Len(0), Push(1, None)]);
-        let by_pushes = first_fault(&mut ring, &[PushAll(&[1])]);
-        let by_extension = first_fault(&mut ring, &[Extend(&[1])]);
-        drop(drought);
-        assert_equal(rt, by_push, Some((1, Outcome::Refused)));
-        assert_equal(rt, by_pushes, Some((0, Outcome::Refused)));
-        assert_equal(rt, by_extension, Some((0, Outcome::Refused)));
-        Ok(())
-    }
+/// Extends 1 and 2 in a drought. The ring has no room before.
+fn assert_extension_refused<R: RingBuffer<i64> + Drop>(
+    rt: &(impl Abort + AllocGlobal),
+    mut ring: R,
+) {
+    push_all(rt, &mut ring, &[1, 2]);
+    let drought = drought(rt, 0);
+    let extended = ring.extend([3, 4, 5]);
+    drop(drought);
+    assert!(rt; extended.is_err());
+    let held = ring.len();
+    assert!(rt; 2 <= held);
+    assert!(rt; held < 5);
+    assert_holds(rt, &ring, &[1, 2, 3, 4][..held]);
 }
 
-#[test]
-fn a_step_that_is_refused_is_found(rt: HostRuntime) {
-    on_growable(&rt, &StepsRefused);
-}
-
-struct ExtensionRefused;
-
-impl<Rt: Abort + AllocGlobal> Case<Rt> for ExtensionRefused {
-    fn on<R: RingBuffer<i64> + Drop>(&self, rt: &Rt, mut ring: R) -> Result<(), AllocError> {
-        push_all(rt, &mut ring, &[1, 2]);
-        let drought = Drought::total(rt.alloc())?;
-        let extended = ring.extend([3, 4, 5]);
-        drop(drought);
-        assert!(rt; extended.is_err());
-        let held = ring.len();
-        assert!(rt; 2 <= held);
-        assert!(rt; held < 5);
-        assert_holds(rt, &ring, &[1, 2, 3, 4][..held]);
-        Ok(())
-    }
+/// Moves 1, 2 and 3 in a drought onto a ring that has no room. The first comes back.
+fn assert_move_refused<R: RingBuffer<i64> + Drop>(rt: &(impl Abort + AllocGlobal), mut to: R) {
+    let mut from = AllocRingBuffer::new(rt.alloc(), 3).expect(rt, "memory");
+    push_all(rt, &mut from, &[1, 2, 3]);
+    let drought = drought(rt, 0);
+    let moved = move_all(&mut to, &mut from);
+    drop(drought);
+    assert_equal(rt, moved, Err(1));
+    assert_holds(rt, &to, &[]);
+    assert_holds(rt, &from, &[2, 3]);
 }
 
 #[test]
-fn a_refused_extension_keeps_what_there_was_room_for(rt: HostRuntime) {
-    on_growable(&rt, &ExtensionRefused);
+fn a_refused_call_leaves_what_there_was_room_for(rt: HostRuntime) {
+    on_growable!(&rt, 0, assert_refused);
+    on_growable!(&rt, 0, assert_extension_refused);
+    on_growable!(&rt, 0, assert_move_refused);
 }
 
 #[test]
 fn a_refused_slice_leaves_a_growable_ring(rt: HostRuntime) -> Result<(), AllocError> {
     let mut ring = GrowableAllocRingBuffer::with_capacity(rt.alloc(), 3)?;
     push_all(&rt, &mut ring, &[1, 2]);
-    let drought = Drought::total(rt.alloc())?;
+    let drought = drought(&rt, 0);
     let refused = ring.extend_from_slice(&[3, 4, 5]);
     let fitting = ring.extend_from_slice(&[6]);
     drop(drought);
@@ -197,7 +175,7 @@ fn a_refused_slice_leaves_a_growable_ring(rt: HostRuntime) -> Result<(), AllocEr
     Ok(())
 }
 
-/// The ring is empty, and has this much room. Then it holds 1, 2 and 3.
+/// Asserts that the ring is empty and has this much room, and pushes 1, 2 and 3.
 fn assert_emptied(
     rt: &(impl Abort + AllocGlobal),
     ring: &mut GrowableAllocRingBuffer<i64>,
@@ -231,7 +209,7 @@ fn slices_of_a_heap_ring_take_no_memory(rt: HostRuntime) -> Result<(), AllocErro
     let mut ring = AllocRingBuffer::new(rt.alloc(), 3)?;
     push_all(&rt, &mut ring, &[1, 2]);
     let mut output = [0; 2];
-    let drought = Drought::total(rt.alloc())?;
+    let drought = drought(&rt, 0);
     ring.extend_from_slice(&[3, 4, 5, 6]);
     ring.make_contiguous().reverse();
     let count = ring.dequeue_into(&mut output);
@@ -242,120 +220,79 @@ fn slices_of_a_heap_ring_take_no_memory(rt: HostRuntime) -> Result<(), AllocErro
     Ok(())
 }
 
-/// Calls in a drought on a ring that holds these items.
-#[derive(Drop)]
-struct TakesNone {
-    items: &'static [i64],
-    steps: &'static [Step],
+/// Pushes the items, and does the calls in a drought.
+fn assert_takes_none<R: RingBuffer<i64> + Drop>(
+    rt: &(impl Abort + AllocGlobal),
+    mut ring: R,
+    items: &[i64],
+    steps: &[Step],
+) {
+    push_all(rt, &mut ring, items);
+    let drought = drought(rt, 0);
+    let fault = first_fault(&mut ring, steps);
+    drop(drought);
+    assert_equal(rt, fault, None);
 }
 
-impl<Rt: Abort + AllocGlobal> Case<Rt> for TakesNone {
-    fn on<R: RingBuffer<i64> + Drop>(&self, rt: &Rt, mut ring: R) -> Result<(), AllocError> {
-        push_all(rt, &mut ring, self.items);
-        let drought = Drought::total(rt.alloc())?;
-        let fault = first_fault(&mut ring, self.steps);
-        drop(drought);
-        assert_equal(rt, fault, None);
-        Ok(())
-    }
-}
+/// Changes a fixed ring of two.
+const CHANGES_OF_TWO: &[Step] = &[
+    PushAll(&[1, 2, 3]),
+    Enqueue(&[(4, Some(2))]),
+    Extend(&[5, 6, 7]),
+    Holds(&[6, 7]),
+    FillDefault,
+    DequeueAll(&[0, 0]),
+    Fill(9),
+    DequeueAll(&[9, 9]),
+    FillWith(8),
+    DequeueAll(&[8, 8]),
+];
 
-#[test]
-fn fixed_rings_take_no_memory(rt: HostRuntime) {
-    let calls = TakesNone {
-        items: &[],
-        steps: &[
-            PushAll(&[1, 2, 3]),
-            Enqueue(4, Some(2)),
-            Extend(&[5, 6, 7]),
-            Holds(&[6, 7]),
-            FillDefault,
-            DequeueAll(&[0, 0]),
-            Fill(9),
-            DequeueAll(&[9, 9]),
-            FillWith(8),
-            DequeueAll(&[8, 8]),
-        ],
-    };
-    Rings::<2>::fixed(&rt, &calls).expect(&rt, "memory");
-}
+/// Looks at a ring of 1, 2 and 3.
+const LOOKS: &[Step] = &[
+    IsEmpty(false),
+    Get(4, Some(2)),
+    GetSigned(-1, Some(3)),
+    Front(Some(1)),
+    Back(Some(3)),
+    Contains(2, true),
+    Contains(4, false),
+    Holds(&[1, 2, 3]),
+];
 
-/// What a ring has of room takes no memory to know.
-struct RoomTakesNone;
+/// Writes to a ring of 1, 2 and 3, and takes from it.
+const WRITES_AND_TAKES: &[Step] = &[
+    Write(4, 5),
+    WriteSigned(-1, 6),
+    Holds(&[1, 5, 6]),
+    WriteFront(4),
+    WriteBack(7),
+    Holds(&[4, 5, 7]),
+    Skip,
+    Dequeue(Some(5)),
+    Clear,
+    IsEmpty(true),
+    Skip,
+    Dequeue(None),
+];
 
-impl<Rt: Abort + AllocGlobal> Case<Rt> for RoomTakesNone {
-    fn on<R: RingBuffer<i64> + Drop>(&self, rt: &Rt, mut ring: R) -> Result<(), AllocError> {
-        push_all(rt, &mut ring, &[1, 2, 3]);
-        let drought = Drought::total(rt.alloc())?;
-        let (len, capacity) = (ring.len(), ring.capacity());
-        let (is_full, slots) = (ring.is_full(), ring.buffer_size());
-        drop(drought);
-        assert_equal(rt, (len, is_full), (3, len == capacity));
-        assert!(rt; slots >= 3);
-        Ok(())
-    }
-}
-
-#[test]
-fn looking_at_a_ring_takes_no_memory(rt: HostRuntime) {
-    let looks = TakesNone {
-        items: &[1, 2, 3],
-        steps: &[
-            IsEmpty(false),
-            Get(4, Some(2)),
-            GetSigned(-1, Some(3)),
-            Peek(Some(1)),
-            Front(Some(1)),
-            Back(Some(3)),
-            Contains(2, true),
-            Contains(4, false),
-            Holds(&[1, 2, 3]),
-        ],
-    };
-    Rings::<3>::each(&rt, &looks).expect(&rt, "memory");
-    Rings::<3>::each(&rt, &RoomTakesNone).expect(&rt, "memory");
+/// Asks in a drought what room there is.
+fn assert_room_takes_none<R: RingBuffer<i64> + Drop>(rt: &(impl Abort + AllocGlobal), mut ring: R) {
+    push_all(rt, &mut ring, &[1, 2, 3]);
+    let drought = drought(rt, 0);
+    let (len, capacity) = (ring.len(), ring.capacity());
+    let (is_full, slots) = (ring.is_full(), ring.buffer_size());
+    drop(drought);
+    assert_equal(rt, (len, is_full), (3, len == capacity));
+    assert!(rt; slots >= 3);
 }
 
 #[test]
-fn writing_and_taking_take_no_memory(rt: HostRuntime) {
-    let changes = TakesNone {
-        items: &[1, 2, 3],
-        steps: &[
-            Write(4, 5),
-            WriteSigned(-1, 6),
-            Holds(&[1, 5, 6]),
-            WriteFront(4),
-            WriteBack(7),
-            Holds(&[4, 5, 7]),
-            Skip,
-            Dequeue(Some(5)),
-            Clear,
-            IsEmpty(true),
-            Skip,
-            Dequeue(None),
-        ],
-    };
-    Rings::<3>::each(&rt, &changes).expect(&rt, "memory");
-}
-
-struct WalksTakeNone;
-
-impl<Rt: Abort + AllocGlobal> Case<Rt> for WalksTakeNone {
-    fn on<R: RingBuffer<i64> + Drop>(&self, rt: &Rt, mut ring: R) -> Result<(), AllocError> {
-        push_all(rt, &mut ring, &[1, 2, 3]);
-        let _drought = Drought::total(rt.alloc())?;
-        assert_read(rt, RingBufferIterator::new(&ring), [1, 2, 3]);
-        *RingBufferMutIterator::new(&mut ring)
-            .next_back()
-            .expect(rt, "a last item") = 9;
-        assert!(rt; RingBufferDrainingIterator::new(&mut ring).eq([1, 2, 9]));
-        Ok(())
-    }
-}
-
-#[test]
-fn walks_take_no_memory(rt: HostRuntime) -> Result<(), AllocError> {
-    Rings::<3>::each(&rt, &WalksTakeNone)
+fn calls_that_are_never_refused_take_no_memory(rt: HostRuntime) {
+    on_fixed!(&rt, 2, assert_takes_none, &[], CHANGES_OF_TWO);
+    on_each!(&rt, 3, assert_takes_none, &[1, 2, 3], LOOKS);
+    on_each!(&rt, 3, assert_takes_none, &[1, 2, 3], WRITES_AND_TAKES);
+    on_each!(&rt, 3, assert_room_takes_none);
 }
 
 fn assert_read<R: RingBuffer<i64>>(
@@ -366,60 +303,48 @@ fn assert_read<R: RingBuffer<i64>>(
     assert!(rt; walk.copied().eq(items));
 }
 
-fn write_first<R: RingBuffer<i64>>(rt: &impl Abort, mut walk: RingBufferMutIterator<'_, i64, R>) {
-    *walk.next().expect(rt, "an item") = 4;
+fn write<R: RingBuffer<i64>>(rt: &impl Abort, mut walk: RingBufferMutIterator<'_, i64, R>) {
+    *walk.next().expect(rt, "a first item") = 4;
+    *walk.next_back().expect(rt, "a last item") = 9;
 }
 
 fn assert_drains_first<R: RingBuffer<i64>>(
     rt: &impl Abort,
     mut walk: RingBufferDrainingIterator<'_, i64, R>,
+    item: i64,
 ) {
-    assert_equal(rt, walk.next(), Some(4));
+    assert_equal(rt, walk.next(), Some(item));
 }
 
 fn assert_rest<R: RingBuffer<i64> + Drop>(rt: &impl Abort, walk: RingBufferIntoIterator<i64, R>) {
-    assert!(rt; walk.eq([5, 3]));
+    assert!(rt; walk.eq([9]));
 }
 
-// No trait that the rings share has the indexes, `iter`, `iter_mut`, `drain` and `into_iter`, so the body is a macro.
-macro_rules! assert_own_calls_take_none {
-    ($rt:ident, $ring:expr) => {
-        let mut ring = $ring;
-        push_all(&$rt, &mut ring, &[1, 2, 3]);
-        assert!($rt; ring.len() == 3);
-        let _drought = Drought::total($rt.alloc())?;
-        assert!($rt; ring[4] == 2);
-        ring[4] = 5;
-        assert_read(&$rt, ring.iter(), [1, 5, 3]);
-        write_first(&$rt, ring.iter_mut());
-        assert_drains_first(&$rt, ring.drain());
-        assert_rest(&$rt, ring.into_iter());
-    };
-}
-
-#[test]
-fn calls_of_an_array_ring_alone_take_no_memory(rt: HostRuntime) -> Result<(), AllocError> {
-    assert_own_calls_take_none!(rt, ConstGenericRingBuffer::<i64, 3>::new());
-    Ok(())
+/// Indexes a ring and walks over it in a drought.
+fn assert_walks_take_none<R: OwnCalls + Drop>(rt: &(impl Abort + AllocGlobal), mut ring: R) {
+    push_all(rt, &mut ring, &[1, 2, 3]);
+    let _drought = drought(rt, 0);
+    assert_read(rt, RingBufferIterator::new(&ring), [1, 2, 3]);
+    assert_equal(rt, ring.item(4), Some(2));
+    *ring.item_mut(4).expect(rt, "an item") = 5;
+    assert_read(rt, ring.iter(), [1, 5, 3]);
+    write(rt, ring.iter_mut());
+    write(rt, RingBufferMutIterator::new(&mut ring));
+    assert_drains_first(rt, ring.drain(), 4);
+    assert_drains_first(rt, RingBufferDrainingIterator::new(&mut ring), 5);
+    assert_rest(rt, ring.into_walk());
 }
 
 #[test]
-fn calls_of_a_heap_ring_alone_take_no_memory(rt: HostRuntime) -> Result<(), AllocError> {
-    assert_own_calls_take_none!(rt, AllocRingBuffer::new(rt.alloc(), 3)?);
-    Ok(())
-}
-
-#[test]
-fn calls_of_a_growable_ring_alone_take_no_memory(rt: HostRuntime) -> Result<(), AllocError> {
-    assert_own_calls_take_none!(rt, GrowableAllocRingBuffer::with_capacity(rt.alloc(), 3)?);
-    Ok(())
+fn walks_and_indexes_take_no_memory(rt: HostRuntime) {
+    on_each!(&rt, 3, assert_walks_take_none);
 }
 
 #[test]
 fn the_deque_of_a_growable_ring_is_lent_without_memory(rt: HostRuntime) -> Result<(), AllocError> {
     let mut ring = GrowableAllocRingBuffer::with_capacity(rt.alloc(), 3)?;
     push_all(&rt, &mut ring, &[1, 2, 3]);
-    let drought = Drought::total(rt.alloc())?;
+    let drought = drought(&rt, 0);
     assert_equal(&rt, ring.as_ref().len(), 3);
     assert_equal(&rt, ring.as_mut().pop_back(), Some(3));
     drop(drought);
@@ -427,98 +352,73 @@ fn the_deque_of_a_growable_ring_is_lent_without_memory(rt: HostRuntime) -> Resul
     Ok(())
 }
 
-struct RunsTakeNone;
+/// Runs commands into places in a drought.
+fn assert_runs_take_none<R: RingBuffer<i64> + Drop>(rt: &(impl Abort + AllocGlobal), mut ring: R) {
+    let extension = vec![in rt.alloc(); 2, 3].expect(rt, "memory");
+    let commands = vec![in rt.alloc(); Command::Extend(extension), Command::Dequeue];
+    let commands = commands.expect(rt, "memory");
+    let other_extension = vec![in rt.alloc(); 4, 5].expect(rt, "memory");
+    let mut places = [const { None }; 2];
+    assert_equal(rt, commands.len(), 2);
+    let drought = drought(rt, 0);
+    let pushed = apply(&mut ring, Command::Push(1));
+    let is_run = run_into(&mut ring, commands, &mut places);
+    let extended = apply(&mut ring, Command::Extend(other_extension));
+    drop(drought);
+    assert_equal(rt, pushed, Ok(Reply::Pushed(None)));
+    assert_equal(rt, is_run, Ok(()));
+    assert_equal(rt, extended, Ok(Reply::Extended));
+    assert!(rt; places == [Some(Reply::Extended), Some(Reply::Dequeued(Some(2)))]);
+    assert_holds(rt, &ring, &[4, 5]);
+}
 
-impl<Rt: Abort + AllocGlobal> Case<Rt> for RunsTakeNone {
-    fn on<R: RingBuffer<i64> + Drop>(&self, rt: &Rt, mut ring: R) -> Result<(), AllocError> {
-        let extension = vec![in rt.alloc(); 2, 3]?;
-        let commands = vec![in rt.alloc(); Command::Extend(extension), Command::Dequeue]?;
-        let other_extension = vec![in rt.alloc(); 4, 5]?;
-        let mut places = [const { None }; 2];
-        assert_equal(rt, commands.len(), 2);
-        let drought = Drought::total(rt.alloc())?;
-        assert_equal(
-            rt,
-            apply(&mut ring, Command::Push(1)),
-            Ok(Reply::Pushed(None)),
-        );
-        assert_equal(rt, run_into(&mut ring, commands, &mut places), Ok(()));
-        assert_equal(
-            rt,
-            apply(&mut ring, Command::Extend(other_extension)),
-            Ok(Reply::Extended),
-        );
-        drop(drought);
-        assert!(rt; places == [Some(Reply::Extended), Some(Reply::Dequeued(Some(2)))]);
-        assert_holds(rt, &ring, &[4, 5]);
-        Ok(())
-    }
+/// Runs every command in a drought that spares the replies.
+fn assert_run_takes_its_replies<R: RingBuffer<i64> + Drop>(
+    rt: &(impl Abort + AllocGlobal),
+    mut ring: R,
+) {
+    let commands = every_command(rt.alloc()).expect(rt, "memory");
+    let room = size_of::<Reply<i64>>().saturating_mul(commands.len());
+    let drought = drought(rt, room);
+    let answered = run(rt.alloc(), &mut ring, commands);
+    drop(drought);
+    let replies = answered.expect(rt, "no request except for the replies");
+    assert_equal(rt, replies.as_slice(), REPLIES_OF_TWO.as_slice());
+    assert_holds(rt, &ring, &[]);
 }
 
 #[test]
-fn runs_into_places_take_no_memory(rt: HostRuntime) -> Result<(), AllocError> {
-    Rings::<2>::fixed(&rt, &RunsTakeNone)
+fn a_run_on_a_fixed_ring_asks_for_its_replies_alone(rt: HostRuntime) {
+    on_fixed!(&rt, 2, assert_runs_take_none);
+    on_fixed!(&rt, 2, assert_run_takes_its_replies);
 }
 
-struct ListRefused;
-
-impl<Rt: Abort + AllocGlobal> Case<Rt> for ListRefused {
-    fn on<R: RingBuffer<i64> + Drop>(&self, rt: &Rt, mut ring: R) -> Result<(), AllocError> {
-        push_all(rt, &mut ring, &[1, 2, 3]);
-        let drought = Drought::total(rt.alloc())?;
-        let refused = ring.to_vec(rt.alloc());
-        drop(drought);
-        assert!(rt; refused.is_err());
-        assert_holds(rt, &ring, &[1, 2, 3]);
-        Ok(())
-    }
+/// Lists the items in a drought.
+fn assert_list_refused<R: RingBuffer<i64> + Drop>(rt: &(impl Abort + AllocGlobal), mut ring: R) {
+    push_all(rt, &mut ring, &[1, 2, 3]);
+    let drought = drought(rt, 0);
+    let refused = ring.to_vec(rt.alloc());
+    drop(drought);
+    assert!(rt; refused.is_err());
+    assert_holds(rt, &ring, &[1, 2, 3]);
 }
 
-#[test]
-fn a_refused_to_vec_leaves_the_ring(rt: HostRuntime) -> Result<(), AllocError> {
-    Rings::<3>::each(&rt, &ListRefused)
-}
-
-struct RunWithoutRoom;
-
-impl<Rt: Abort + AllocGlobal> Case<Rt> for RunWithoutRoom {
-    fn on<R: RingBuffer<i64> + Drop>(&self, rt: &Rt, mut ring: R) -> Result<(), AllocError> {
-        push_all(rt, &mut ring, &[8]);
-        let commands = vec![in rt.alloc(); Command::Push(1)]?;
-        let drought = Drought::total(rt.alloc())?;
-        let refused = run(rt.alloc(), &mut ring, commands);
-        drop(drought);
-        let Err(RunFault::NoRoom(commands)) = refused else {
-            panic!(rt; "there was room for the replies");
-        };
-        assert_equal(rt, commands.as_slice(), [Command::Push(1)].as_slice());
-        assert_holds(rt, &ring, &[8]);
-        Ok(())
-    }
+/// Runs commands in a drought, which come back.
+fn assert_run_refused<R: RingBuffer<i64> + Drop>(rt: &(impl Abort + AllocGlobal), mut ring: R) {
+    push_all(rt, &mut ring, &[8]);
+    let commands = vec![in rt.alloc(); Command::Push(1)].expect(rt, "memory");
+    let drought = drought(rt, 0);
+    let refused = run(rt.alloc(), &mut ring, commands);
+    drop(drought);
+    let Err(RunFault::NoRoom(commands)) = refused else {
+        panic!(rt; "there was room for the replies");
+    };
+    assert_equal(rt, commands.as_slice(), [Command::Push(1)].as_slice());
+    assert_holds(rt, &ring, &[8]);
 }
 
 #[test]
-fn a_run_without_room_hands_its_commands_back(rt: HostRuntime) -> Result<(), AllocError> {
-    Rings::<2>::each(&rt, &RunWithoutRoom)
-}
-
-struct RunWithRoomForReplies;
-
-impl<Rt: Abort + AllocGlobal> Case<Rt> for RunWithRoomForReplies {
-    fn on<R: RingBuffer<i64> + Drop>(&self, rt: &Rt, mut ring: R) -> Result<(), AllocError> {
-        let commands = every_command(rt.alloc())?;
-        let room = size_of::<Reply<i64>>().saturating_mul(commands.len());
-        let drought = Drought::but_for(rt.alloc(), room)?;
-        let answered = run(rt.alloc(), &mut ring, commands);
-        drop(drought);
-        let replies = answered.expect(rt, "no request but for the replies");
-        assert_equal(rt, replies.as_slice(), REPLIES_OF_TWO.as_slice());
-        assert_holds(rt, &ring, &[]);
-        Ok(())
-    }
-}
-
-#[test]
-fn a_run_on_a_fixed_ring_asks_for_the_replies_alone(rt: HostRuntime) -> Result<(), AllocError> {
-    Rings::<2>::fixed(&rt, &RunWithRoomForReplies)
+fn a_refused_list_or_run_leaves_the_ring(rt: HostRuntime) {
+    on_each!(&rt, 3, assert_list_refused);
+    on_each!(&rt, 2, assert_run_refused);
 }

@@ -5,8 +5,9 @@ ghost use Rattle.std.specs.Prelude.{◌<◌};
 use super::{assert_equal, assert_holds, assert_steps, push_all};
 use End::{Back, Front};
 use Pass::{Beyond, From};
-use ring_test_support::rings::{Case, Rings};
+use ring_test_support::own_calls::OwnCalls;
 use ring_test_support::steps::Step;
+use ring_test_support::{on_each, on_fixed, on_growable};
 use ringbuffer::{
     AllocRingBuffer, ConstGenericRingBuffer, GrowableAllocRingBuffer, RingBuffer,
     RingBufferDrainingIterator, RingBufferIntoIterator, RingBufferIterator, RingBufferMutIterator,
@@ -22,12 +23,12 @@ enum End {
     Back,
 }
 
-/// So many items are still to come before this one.
+/// Asserts that `left` items are still to come before this one is found.
 fn assert_to_come(rt: &impl Abort, hint: (usize, Option<usize>), left: usize, item: Option<i64>) {
     assert_equal(rt, (item, hint), (item, (left, Some(left))));
 }
 
-/// What a step of a reading walk finds.
+/// Takes a step of a reading walk.
 fn read<R: RingBuffer<i64>>(walk: &mut RingBufferIterator<'_, i64, R>, end: End) -> Option<i64> {
     match end {
         Front => walk.next().copied(),
@@ -35,7 +36,7 @@ fn read<R: RingBuffer<i64>>(walk: &mut RingBufferIterator<'_, i64, R>, end: End)
     }
 }
 
-/// What a step of a cursor finds.
+/// Takes a step of a cursor.
 fn lend<R: RingBuffer<i64>>(walk: &mut RingBufferMutIterator<'_, i64, R>, end: End) -> Option<i64> {
     match end {
         Front => walk.next().copied(),
@@ -43,30 +44,33 @@ fn lend<R: RingBuffer<i64>>(walk: &mut RingBufferMutIterator<'_, i64, R>, end: E
     }
 }
 
-/// Steps of a reading walk over all items, each with what it finds. The number still to come is exact before each.
-fn assert_reads<R: RingBuffer<i64>>(rt: &impl Abort, ring: &R, steps: &[(End, Option<i64>)]) {
+/// Takes steps of a reading walk from these ends, which find these items and then none. The number still to come is exact
+/// before each.
+fn assert_reads<R: RingBuffer<i64>>(rt: &impl Abort, ring: &R, ends: &[End], found: &[i64]) {
     let mut walk = RingBufferIterator::new(ring);
     let mut left = ring.len();
-    for (end, found) in steps {
-        assert_to_come(rt, walk.size_hint(), left, *found);
+    for (i, end) in ends.iter().enumerate() {
+        let item = found.get(i).copied();
+        assert_to_come(rt, walk.size_hint(), left, item);
         assert_equal(rt, walk.len(), left);
-        assert_equal(rt, read(&mut walk, *end), *found);
+        assert_equal(rt, read(&mut walk, *end), item);
         left = left.saturating_sub(1);
     }
 }
 
-/// The same for a cursor.
-fn assert_lends<R: RingBuffer<i64>>(rt: &impl Abort, ring: &mut R, steps: &[(End, Option<i64>)]) {
+/// Takes steps of a cursor, as `assert_reads` does of a reading walk.
+fn assert_lends<R: RingBuffer<i64>>(rt: &impl Abort, ring: &mut R, ends: &[End], found: &[i64]) {
     let mut left = ring.len();
     let mut walk = RingBufferMutIterator::new(ring);
-    for (end, found) in steps {
-        assert_to_come(rt, walk.size_hint(), left, *found);
-        assert_equal(rt, lend(&mut walk, *end), *found);
+    for (i, end) in ends.iter().enumerate() {
+        let item = found.get(i).copied();
+        assert_to_come(rt, walk.size_hint(), left, item);
+        assert_equal(rt, lend(&mut walk, *end), item);
         left = left.saturating_sub(1);
     }
 }
 
-/// The list of all items is this one.
+/// Lists all items.
 fn assert_lists<R: RingBuffer<i64>>(rt: &(impl Abort + AllocGlobal), ring: &R, items: &[i64]) {
     let listed = ring.to_vec(rt.alloc()).expect(rt, "memory");
     assert_equal(rt, listed.as_slice(), items);
@@ -95,115 +99,64 @@ fn increment<R: RingBuffer<i64>>(rt: &impl Abort, walk: &mut RingBufferMutIterat
     assert!(rt; walk.next().is_none());
 }
 
-/// Items, and the steps of a walk over them.
-#[derive(Drop)]
-struct Steps {
-    items: &'static [i64],
-    steps: &'static [(End, Option<i64>)],
+/// Items, the ends that a walk takes its steps from, and what these find.
+const WALKS: &[(&[i64], &[End], &[i64])] = &[
+    (&[1], &[Back, Front, Back, Front], &[1]),
+    (
+        &[1, 2, 3, 4],
+        &[Back, Back, Front, Back, Back],
+        &[4, 3, 1, 2],
+    ),
+    (
+        &[1, 2, 3, 4, 5, 6, 7],
+        &[Front, Back, Front, Front, Back, Back, Front, Front],
+        &[1, 7, 2, 3, 6, 5, 4],
+    ),
+    (
+        &[1, 2, 3, 4, 5, 6, 7],
+        &[Front, Front, Front, Front, Front, Front, Front, Front],
+        &[1, 2, 3, 4, 5, 6, 7],
+    ),
+];
+
+fn assert_walks<R: RingBuffer<i64> + Drop>(
+    rt: &impl Abort,
+    mut ring: R,
+    items: &[i64],
+    ends: &[End],
+    found: &[i64],
+) {
+    push_all(rt, &mut ring, items);
+    assert_reads(rt, &ring, ends, found);
+    assert_lends(rt, &mut ring, ends, found);
 }
 
-impl<Rt: Abort + AllocGlobal> Case<Rt> for Steps {
-    fn on<R: RingBuffer<i64> + Drop>(&self, rt: &Rt, mut ring: R) -> Result<(), AllocError> {
-        push_all(rt, &mut ring, self.items);
-        assert_reads(rt, &ring, self.steps);
-        assert_lends(rt, &mut ring, self.steps);
-        Ok(())
+/// Walks over nothing.
+fn assert_nothing_to_come<R: RingBuffer<i64> + Drop>(rt: &impl Abort, mut ring: R) {
+    assert_reads(rt, &ring, &[Front, Back], &[]);
+    assert_lends(rt, &mut ring, &[Front, Back], &[]);
+    assert_drains(rt, &mut ring, &[]);
+    assert_takes(rt, RingBufferIntoIterator::new(ring), &[]);
+}
+
+#[test]
+fn walks_meet_in_the_middle(rt: HostRuntime) {
+    for (items, ends, found) in WALKS {
+        on_each!(&rt, 8, assert_walks, items, ends, found);
+        on_each!(&rt, 7, assert_walks, items, ends, found);
     }
-}
-
-#[test]
-fn walks_meet_in_the_middle(rt: HostRuntime) -> Result<(), AllocError> {
-    let items = &[1, 2, 3, 4, 5, 6, 7];
-    let steps = &[
-        (Front, Some(1)),
-        (Back, Some(7)),
-        (Front, Some(2)),
-        (Front, Some(3)),
-        (Back, Some(6)),
-        (Back, Some(5)),
-        (Front, Some(4)),
-        (Front, None),
-    ];
-    Rings::<8>::each(&rt, &Steps { items, steps })?;
-    Rings::<7>::each(&rt, &Steps { items, steps })
-}
-
-#[test]
-fn walks_begin_at_either_end(rt: HostRuntime) -> Result<(), AllocError> {
-    let items = &[1, 2, 3, 4];
-    let steps = &[
-        (Back, Some(4)),
-        (Back, Some(3)),
-        (Front, Some(1)),
-        (Back, Some(2)),
-        (Back, None),
-    ];
-    Rings::<8>::each(&rt, &Steps { items, steps })
-}
-
-#[test]
-fn an_ended_walk_stays_ended(rt: HostRuntime) -> Result<(), AllocError> {
-    let items = &[1];
-    let steps = &[(Back, Some(1)), (Front, None), (Back, None), (Front, None)];
-    Rings::<8>::each(&rt, &Steps { items, steps })
-}
-
-/// The steps of a walk that has nothing to come.
-const NOTHING: &[(End, Option<i64>)] = &[(Front, None), (Back, None)];
-
-struct NothingToCome;
-
-impl<Rt: Abort + AllocGlobal> Case<Rt> for NothingToCome {
-    fn on<R: RingBuffer<i64> + Drop>(&self, rt: &Rt, mut ring: R) -> Result<(), AllocError> {
-        assert_reads(rt, &ring, NOTHING);
-        assert_lends(rt, &mut ring, NOTHING);
-        assert_drains(rt, &mut ring, &[]);
-        assert_takes(rt, RingBufferIntoIterator::new(ring), &[]);
-        Ok(())
-    }
-}
-
-#[test]
-fn an_empty_ring_has_nothing_to_come(rt: HostRuntime) -> Result<(), AllocError> {
-    Rings::<8>::each(&rt, &NothingToCome)
-}
-
-#[test]
-fn a_walk_reads_in_order(rt: HostRuntime) -> Result<(), AllocError> {
-    let items = &[1, 2, 3, 4, 5, 6, 7];
-    let steps = &[
-        (Front, Some(1)),
-        (Front, Some(2)),
-        (Front, Some(3)),
-        (Front, Some(4)),
-        (Front, Some(5)),
-        (Front, Some(6)),
-        (Front, Some(7)),
-        (Front, None),
-    ];
-    Rings::<7>::each(&rt, &Steps { items, steps })
+    on_each!(&rt, 8, assert_nothing_to_come);
 }
 
 /// A step of a reading walk that may pass over items.
 #[derive(Clone, Copy)]
 enum Pass {
-    /// From the front, beyond so many.
+    /// From the front, beyond this number of items.
     Beyond(usize),
     From(End),
 }
 
-/// What such a step finds.
-fn found_by<R: RingBuffer<i64>>(
-    walk: &mut RingBufferIterator<'_, i64, R>,
-    step: Pass,
-) -> Option<i64> {
-    match step {
-        Beyond(count) => walk.nth(count).copied(),
-        From(end) => read(walk, end),
-    }
-}
-
-/// Steps of a reading walk, each with what it finds. The walk then counts so many that are left.
+/// Takes steps of a reading walk, each with what it finds. The walk then counts `left` items.
 fn assert_passes<R: RingBuffer<i64>>(
     rt: &impl Abort,
     ring: &R,
@@ -211,13 +164,17 @@ fn assert_passes<R: RingBuffer<i64>>(
     left: usize,
 ) {
     let mut walk = RingBufferIterator::new(ring);
-    for (step, found) in steps {
-        assert_equal(rt, found_by(&mut walk, *step), *found);
+    for (step, wanted) in steps {
+        let found = match step {
+            Beyond(count) => walk.nth(*count).copied(),
+            From(end) => read(&mut walk, *end),
+        };
+        assert_equal(rt, found, *wanted);
     }
     assert_equal(rt, walk.count(), left);
 }
 
-/// On a ring of eight slots the last of the items from 1 to 7 lie at the first slots.
+/// Leaves the items from 1 to 7. On a ring of eight slots the last of them lie at the first slots.
 const FROM_ONE_TO_SEVEN: &[Step] = &[
     Step::PushAll(&[0, 0, 0, 0, 0]),
     Step::Clear,
@@ -241,26 +198,33 @@ const OVER_SOME: &[(Pass, Option<i64>)] = &[
 
 const OVER_ALL: &[(Pass, Option<i64>)] = &[(Beyond(usize::MAX), None), (From(Back), None)];
 
-struct PassesOver;
+fn assert_passes_over<R: RingBuffer<i64> + Drop>(rt: &impl Abort, mut ring: R) {
+    assert_steps(rt, &mut ring, FROM_ONE_TO_SEVEN);
+    assert_passes(rt, &ring, OVER_SOME, 0);
+    assert_passes(rt, &ring, OVER_ALL, 0);
+    assert_passes(rt, &ring, &[(From(Front), Some(1))], 6);
+    let last = RingBufferIterator::new(&ring).last().copied();
+    assert_equal(rt, last, Some(7));
+}
 
-impl<Rt: Abort + AllocGlobal> Case<Rt> for PassesOver {
-    fn on<R: RingBuffer<i64> + Drop>(&self, rt: &Rt, mut ring: R) -> Result<(), AllocError> {
-        assert_steps(rt, &mut ring, FROM_ONE_TO_SEVEN);
-        assert_passes(rt, &ring, OVER_SOME, 0);
-        assert_passes(rt, &ring, OVER_ALL, 0);
-        assert_passes(rt, &ring, &[(From(Front), Some(1))], 6);
-        let last = RingBufferIterator::new(&ring).last().copied();
-        assert_equal(rt, last, Some(7));
-        Ok(())
+/// Reads by two walks in turn.
+fn assert_reads_twice<R: RingBuffer<i64> + Drop>(rt: &impl Abort, mut ring: R) {
+    push_all(rt, &mut ring, &[1, 2, 3]);
+    let mut one = RingBufferIterator::new(&ring);
+    let mut other = RingBufferIterator::new(&ring);
+    for item in [1, 2, 3] {
+        assert_equal(rt, read(&mut one, Front), Some(item));
+        assert_equal(rt, read(&mut other, Front), Some(item));
     }
 }
 
 #[test]
-fn a_walk_passes_over_items(rt: HostRuntime) -> Result<(), AllocError> {
-    Rings::<8>::each(&rt, &PassesOver)
+fn walks_pass_over_items_and_go_side_by_side(rt: HostRuntime) {
+    on_each!(&rt, 8, assert_passes_over);
+    on_each!(&rt, 8, assert_reads_twice);
 }
 
-/// An owning walk takes these items, and then none. The number still to come is exact before each.
+/// Takes these items by an owning walk, and then none. The number still to come is exact before each.
 fn assert_takes<R: RingBuffer<i64> + Drop>(
     rt: &impl Abort,
     mut walk: RingBufferIntoIterator<i64, R>,
@@ -276,26 +240,13 @@ fn assert_takes<R: RingBuffer<i64> + Drop>(
     assert_equal(rt, walk.next(), None);
 }
 
-struct TakesInOrder;
-
-impl<Rt: Abort + AllocGlobal> Case<Rt> for TakesInOrder {
-    fn on<R: RingBuffer<i64> + Drop>(&self, rt: &Rt, mut ring: R) -> Result<(), AllocError> {
-        push_all(rt, &mut ring, &[1, 2, 3, 4, 5, 6, 7]);
-        assert_takes(
-            rt,
-            RingBufferIntoIterator::new(ring),
-            &[1, 2, 3, 4, 5, 6, 7],
-        );
-        Ok(())
-    }
+fn assert_takes_in_order<R: RingBuffer<i64> + Drop>(rt: &impl Abort, mut ring: R) {
+    let items = &[1, 2, 3, 4, 5, 6, 7];
+    push_all(rt, &mut ring, items);
+    assert_takes(rt, RingBufferIntoIterator::new(ring), items);
 }
 
-#[test]
-fn an_owning_walk_takes_in_order(rt: HostRuntime) -> Result<(), AllocError> {
-    Rings::<8>::each(&rt, &TakesInOrder)
-}
-
-/// A ring takes three items, and a walk reads what they equal. The oldest is then written over the newest.
+/// Pushes three items, which a walk reads as their equals. The oldest is then written over the newest.
 fn assert_borrows<T: Copy + PartialEq + Debug + Drop, R: RingBuffer<T> + Drop>(
     rt: &impl Abort,
     mut ring: R,
@@ -315,168 +266,67 @@ fn assert_borrows<T: Copy + PartialEq + Debug + Drop, R: RingBuffer<T> + Drop>(
     assert_equal(rt, ring.get(1), equal.get(0));
 }
 
-/// The same on a heap ring and a growable ring, with room for so many items.
-fn assert_borrows_with_capacity<T: Copy + PartialEq + Debug + Drop>(
-    rt: &(impl Abort + AllocGlobal),
-    capacity: usize,
-    items: &[T],
-    equal: &[T],
-) -> Result<(), AllocError>
-    requires some { 0 < capacity }
-{
-    let heap = AllocRingBuffer::new(rt.alloc(), capacity)?;
-    assert_borrows(rt, heap, items, equal);
-    let growable = GrowableAllocRingBuffer::with_capacity(rt.alloc(), capacity)?;
-    assert_borrows(rt, growable, items, equal);
+#[test]
+fn items_may_be_borrowed(rt: HostRuntime) -> Result<(), AllocError> {
+    let text = String::from_str(rt.alloc(), "abc")?;
+    let letters = [&text[0..1], &text[1..2], &text[2..3]];
+    on_each!(&rt, 8, assert_borrows, &letters, &["a", "b", "c"]);
+    let numbers = [1, 2, 3];
+    let items = [&numbers[0], &numbers[1], &numbers[2]];
+    on_each!(&rt, 3, assert_borrows, &items, &[&1, &2, &3]);
     Ok(())
 }
 
-#[test]
-fn items_may_be_borrowed_texts(rt: HostRuntime) -> Result<(), AllocError> {
-    let text = String::from_str(rt.alloc(), "abc")?;
-    let letters = [&text[0..1], &text[1..2], &text[2..3]];
-    let equal = ["a", "b", "c"];
-    let array = ConstGenericRingBuffer::<&str, 8>::new();
-    assert_borrows(&rt, array, &letters, &equal);
-    assert_borrows_with_capacity(&rt, 8, &letters, &equal)
-}
-
-#[test]
-fn items_may_be_references(rt: HostRuntime) -> Result<(), AllocError> {
-    let numbers = [1, 2, 3];
-    let items = [&numbers[0], &numbers[1], &numbers[2]];
-    let equal = [&1, &2, &3];
-    let array = ConstGenericRingBuffer::<&i64, 3>::new();
-    assert_borrows(&rt, array, &items, &equal);
-    assert_borrows_with_capacity(&rt, 3, &items, &equal)
-}
-
-struct SideBySide;
-
-impl<Rt: Abort + AllocGlobal> Case<Rt> for SideBySide {
-    fn on<R: RingBuffer<i64> + Drop>(&self, rt: &Rt, mut ring: R) -> Result<(), AllocError> {
-        push_all(rt, &mut ring, &[1, 2, 3]);
-        let mut one = RingBufferIterator::new(&ring);
-        let mut other = RingBufferIterator::new(&ring);
-        for item in [1, 2, 3] {
-            assert_equal(rt, read(&mut one, Front), Some(item));
-            assert_equal(rt, read(&mut other, Front), Some(item));
-        }
-        Ok(())
-    }
-}
-
-#[test]
-fn two_walks_go_side_by_side(rt: HostRuntime) -> Result<(), AllocError> {
-    Rings::<8>::each(&rt, &SideBySide)
-}
-
 /// Pushes 1, 2 and 3. Walks and lists see what is kept of them, and then each item has one added.
-#[derive(Drop)]
-struct Seen {
-    steps: &'static [(End, Option<i64>)],
-    kept: &'static [i64],
-    incremented: &'static [i64],
+fn assert_seen<R: RingBuffer<i64> + Drop>(
+    rt: &(impl Abort + AllocGlobal),
+    mut ring: R,
+    kept: &[i64],
+    incremented: &[i64],
+) {
+    assert_lists(rt, &ring, &[]);
+    push_all(rt, &mut ring, &[1, 2, 3]);
+    assert_reads(rt, &ring, &[Front, Front, Front, Front], kept);
+    assert_lists(rt, &ring, kept);
+    increment(rt, &mut RingBufferMutIterator::new(&mut ring));
+    assert_holds(rt, &ring, incremented);
 }
 
-impl<Rt: Abort + AllocGlobal> Case<Rt> for Seen {
-    fn on<R: RingBuffer<i64> + Drop>(&self, rt: &Rt, mut ring: R) -> Result<(), AllocError> {
-        push_all(rt, &mut ring, &[1, 2, 3]);
-        assert_reads(rt, &ring, self.steps);
-        assert_lists(rt, &ring, self.kept);
-        increment(rt, &mut RingBufferMutIterator::new(&mut ring));
-        assert_holds(rt, &ring, self.incremented);
-        Ok(())
+#[test]
+fn an_overwritten_item_is_not_seen(rt: HostRuntime) {
+    on_fixed!(&rt, 2, assert_seen, &[2, 3], &[3, 4]);
+    on_growable!(&rt, 2, assert_seen, &[1, 2, 3], &[2, 3, 4]);
+    on_each!(&rt, 8, assert_seen, &[1, 2, 3], &[2, 3, 4]);
+}
+
+/// Pushes the items. A cursor adds numbers to some of them and is dropped before two.
+fn assert_adds<R: RingBuffer<i64> + Drop>(
+    rt: &impl Abort,
+    mut ring: R,
+    items: &[i64],
+    numbers: &[(End, i64)],
+    held: &[i64],
+) {
+    push_all(rt, &mut ring, items);
+    let mut walk = RingBufferMutIterator::new(&mut ring);
+    for (end, number) in numbers {
+        add(rt, &mut walk, *end, *number);
     }
+    assert_to_come(rt, walk.size_hint(), 2, None);
+    drop(walk);
+    assert_holds(rt, &ring, held);
 }
 
 #[test]
-fn an_overwritten_item_is_not_seen(rt: HostRuntime) -> Result<(), AllocError> {
-    let seen = Seen {
-        steps: &[(Front, Some(2)), (Front, Some(3)), (Front, None)],
-        kept: &[2, 3],
-        incremented: &[3, 4],
-    };
-    Rings::<2>::fixed(&rt, &seen)
+fn a_dropped_cursor_keeps_what_was_written(rt: HostRuntime) {
+    let both_ends = &[(Front, 10), (Back, 20)];
+    let items = &[1, 2, 3, 4];
+    on_each!(&rt, 4, assert_adds, items, both_ends, &[11, 2, 3, 24]);
+    let front = &[(Front, 4)];
+    on_each!(&rt, 3, assert_adds, &[1, 2, 3], front, &[5, 2, 3]);
 }
 
-#[test]
-fn all_items_of_a_growable_ring_are_seen(rt: HostRuntime) -> Result<(), AllocError> {
-    let seen = Seen {
-        steps: &[
-            (Front, Some(1)),
-            (Front, Some(2)),
-            (Front, Some(3)),
-            (Front, None),
-        ],
-        kept: &[1, 2, 3],
-        incremented: &[2, 3, 4],
-    };
-    Rings::<2>::growable(&rt, &seen)
-}
-
-struct Increments;
-
-impl<Rt: Abort + AllocGlobal> Case<Rt> for Increments {
-    fn on<R: RingBuffer<i64> + Drop>(&self, rt: &Rt, mut ring: R) -> Result<(), AllocError> {
-        push_all(rt, &mut ring, &[1, 2, 3]);
-        increment(rt, &mut RingBufferMutIterator::new(&mut ring));
-        assert_holds(rt, &ring, &[2, 3, 4]);
-        Ok(())
-    }
-}
-
-#[test]
-fn a_cursor_writes_each_item(rt: HostRuntime) -> Result<(), AllocError> {
-    Rings::<8>::each(&rt, &Increments)
-}
-
-/// Pushes the items. A cursor adds numbers to some of them and is dropped before so many.
-#[derive(Drop)]
-struct Adds {
-    items: &'static [i64],
-    numbers: &'static [(End, i64)],
-    left: usize,
-    held: &'static [i64],
-}
-
-impl<Rt: Abort + AllocGlobal> Case<Rt> for Adds {
-    fn on<R: RingBuffer<i64> + Drop>(&self, rt: &Rt, mut ring: R) -> Result<(), AllocError> {
-        push_all(rt, &mut ring, self.items);
-        let mut walk = RingBufferMutIterator::new(&mut ring);
-        for (end, number) in self.numbers {
-            add(rt, &mut walk, *end, *number);
-        }
-        assert_to_come(rt, walk.size_hint(), self.left, None);
-        drop(walk);
-        assert_holds(rt, &ring, self.held);
-        Ok(())
-    }
-}
-
-#[test]
-fn a_cursor_writes_from_both_ends(rt: HostRuntime) -> Result<(), AllocError> {
-    let adds = Adds {
-        items: &[1, 2, 3, 4],
-        numbers: &[(Front, 10), (Back, 20)],
-        left: 2,
-        held: &[11, 2, 3, 24],
-    };
-    Rings::<4>::each(&rt, &adds)
-}
-
-#[test]
-fn a_dropped_cursor_keeps_what_was_written(rt: HostRuntime) -> Result<(), AllocError> {
-    let adds = Adds {
-        items: &[1, 2, 3],
-        numbers: &[(Front, 4)],
-        left: 2,
-        held: &[5, 2, 3],
-    };
-    Rings::<3>::each(&rt, &adds)
-}
-
-/// A drain takes these items, and then none. The number still to come is exact before each.
+/// Takes these items by a drain, and then none. The number still to come is exact before each.
 fn assert_drains<R: RingBuffer<i64>>(rt: &impl Abort, ring: &mut R, items: &[i64]) {
     let mut left = ring.len();
     let mut walk = RingBufferDrainingIterator::new(ring);
@@ -488,24 +338,14 @@ fn assert_drains<R: RingBuffer<i64>>(rt: &impl Abort, ring: &mut R, items: &[i64
     assert_equal(rt, walk.next(), None);
 }
 
-struct DrainsAll;
-
-impl<Rt: Abort + AllocGlobal> Case<Rt> for DrainsAll {
-    fn on<R: RingBuffer<i64> + Drop>(&self, rt: &Rt, mut ring: R) -> Result<(), AllocError> {
-        push_all(rt, &mut ring, &[0, 1, 2, 3, 4, 5, 6, 7]);
-        assert_equal(rt, ring.len(), 8);
-        assert_drains(rt, &mut ring, &[0, 1, 2, 3, 4, 5, 6, 7]);
-        assert_equal(rt, ring.len(), 0);
-        Ok(())
-    }
+fn assert_drained_empty<R: RingBuffer<i64> + Drop>(rt: &impl Abort, mut ring: R) {
+    push_all(rt, &mut ring, &[0, 1, 2, 3, 4, 5, 6, 7]);
+    assert_equal(rt, ring.len(), 8);
+    assert_drains(rt, &mut ring, &[0, 1, 2, 3, 4, 5, 6, 7]);
+    assert_equal(rt, ring.len(), 0);
 }
 
-#[test]
-fn a_drain_empties_the_ring(rt: HostRuntime) -> Result<(), AllocError> {
-    Rings::<16>::each(&rt, &DrainsAll)
-}
-
-/// A drain takes these items, and is dropped.
+/// Takes these items by a drain that is then dropped.
 fn drain<R: RingBuffer<i64>>(rt: &impl Abort, ring: &mut R, items: &[i64]) {
     let mut walk = RingBufferDrainingIterator::new(ring);
     for item in items {
@@ -513,50 +353,31 @@ fn drain<R: RingBuffer<i64>>(rt: &impl Abort, ring: &mut R, items: &[i64]) {
     }
 }
 
-/// Pushes the numbers from 1 to 4. Then drains follow, each with what it takes and what it leaves.
-#[derive(Drop)]
-struct DrainsInParts {
-    parts: &'static [(&'static [i64], &'static [i64])],
-}
+/// Drains of a ring of 1 to 4 that are dropped, each with what it takes and what it leaves.
+const DRAINS: &[&[(&[i64], &[i64])]] = &[
+    &[(&[], &[1, 2, 3, 4]), (&[1, 2], &[3, 4]), (&[3], &[4])],
+    &[(&[], &[1, 2, 3, 4]), (&[1, 2, 3], &[4])],
+];
 
-impl<Rt: Abort + AllocGlobal> Case<Rt> for DrainsInParts {
-    fn on<R: RingBuffer<i64> + Drop>(&self, rt: &Rt, mut ring: R) -> Result<(), AllocError> {
-        push_all(rt, &mut ring, &[1, 2, 3, 4]);
-        for (taken, left) in self.parts {
-            drain(rt, &mut ring, taken);
-            assert_holds(rt, &ring, left);
-        }
-        Ok(())
+fn assert_drained_in_parts<R: RingBuffer<i64> + Drop>(
+    rt: &impl Abort,
+    mut ring: R,
+    parts: &[(&[i64], &[i64])],
+) {
+    push_all(rt, &mut ring, &[1, 2, 3, 4]);
+    for (taken, left) in parts {
+        drain(rt, &mut ring, taken);
+        assert_holds(rt, &ring, left);
     }
 }
 
 #[test]
-fn a_dropped_drain_leaves_the_rest(rt: HostRuntime) -> Result<(), AllocError> {
-    let parts: &[(&[i64], &[i64])] = &[(&[], &[1, 2, 3, 4]), (&[1, 2], &[3, 4]), (&[3], &[4])];
-    Rings::<4>::each(&rt, &DrainsInParts { parts })
-}
-
-#[test]
-fn a_drain_of_three_leaves_the_fourth(rt: HostRuntime) -> Result<(), AllocError> {
-    let parts: &[(&[i64], &[i64])] = &[(&[], &[1, 2, 3, 4]), (&[1, 2, 3], &[4])];
-    Rings::<4>::each(&rt, &DrainsInParts { parts })
-}
-
-struct Listed;
-
-impl<Rt: Abort + AllocGlobal> Case<Rt> for Listed {
-    fn on<R: RingBuffer<i64> + Drop>(&self, rt: &Rt, mut ring: R) -> Result<(), AllocError> {
-        assert_lists(rt, &ring, &[]);
-        push_all(rt, &mut ring, &[1, 2, 3]);
-        assert_lists(rt, &ring, &[1, 2, 3]);
-        assert_holds(rt, &ring, &[1, 2, 3]);
-        Ok(())
+fn a_dropped_drain_leaves_the_rest(rt: HostRuntime) {
+    on_each!(&rt, 16, assert_drained_empty);
+    for parts in DRAINS {
+        on_each!(&rt, 4, assert_drained_in_parts, parts);
     }
-}
-
-#[test]
-fn to_vec_clones_the_items_in_order(rt: HostRuntime) -> Result<(), AllocError> {
-    Rings::<8>::each(&rt, &Listed)
+    on_each!(&rt, 8, assert_takes_in_order);
 }
 
 const CONTAINED: &[Step] = &[
@@ -566,211 +387,58 @@ const CONTAINED: &[Step] = &[
     Step::Contains(3, false),
 ];
 
-struct Contains;
-
-impl<Rt: Abort + AllocGlobal> Case<Rt> for Contains {
-    fn on<R: RingBuffer<i64> + Drop>(&self, rt: &Rt, mut ring: R) -> Result<(), AllocError> {
-        assert_steps(rt, &mut ring, CONTAINED);
-        Ok(())
-    }
+fn assert_contains<R: RingBuffer<i64> + Drop>(rt: &impl Abort, mut ring: R) {
+    assert_steps(rt, &mut ring, CONTAINED);
 }
 
 #[test]
-fn contains_finds_the_items_alone(rt: HostRuntime) -> Result<(), AllocError> {
-    Rings::<8>::each(&rt, &Contains)
+fn contains_finds_the_items_alone(rt: HostRuntime) {
+    on_each!(&rt, 8, assert_contains);
 }
 
-/// A ring that makes its own walks. Each type has these calls, and no trait that the rings share has them.
-trait Walked: RingBuffer<i64> + Drop {
-    fn reader(&self) -> RingBufferIterator<'_, i64, Self>;
-
-    fn writer(&mut self) -> RingBufferMutIterator<'_, i64, Self>;
-
-    fn drainer(&mut self) -> RingBufferDrainingIterator<'_, i64, Self>;
-
-    fn taker(self) -> RingBufferIntoIterator<i64, Self>;
-
-    /// What a loop over a reference to the ring goes over.
-    fn lent(&self) -> RingBufferIterator<'_, i64, Self>;
-
-    /// What a loop over the ring goes over.
-    fn given(self) -> RingBufferIntoIterator<i64, Self>;
+/// Asserts that a reading walk that the ring makes finds 3, 2 and 1 from its end on.
+fn assert_read_from_the_end<R: OwnCalls>(rt: &impl Abort, ring: &R) {
+    assert!(rt; ring.iter().rev().copied().eq([3, 2, 1]));
 }
 
-impl<const CAP: usize> Walked for ConstGenericRingBuffer<i64, CAP> {
-    fn reader(&self) -> RingBufferIterator<'_, i64, Self> {
-        self.iter()
-    }
-
-    fn writer(&mut self) -> RingBufferMutIterator<'_, i64, Self> {
-        self.iter_mut()
-    }
-
-    fn drainer(&mut self) -> RingBufferDrainingIterator<'_, i64, Self> {
-        self.drain()
-    }
-
-    fn taker(self) -> RingBufferIntoIterator<i64, Self> {
-        self.into_iter()
-    }
-
-    fn lent(&self) -> RingBufferIterator<'_, i64, Self> {
-        IntoIterator::into_iter(self)
-    }
-
-    fn given(self) -> RingBufferIntoIterator<i64, Self> {
-        IntoIterator::into_iter(self)
-    }
+/// Asserts that a drain that the ring makes takes 1, 2 and 3.
+fn assert_drained<R: OwnCalls>(rt: &impl Abort, ring: &mut R) {
+    assert!(rt; ring.drain().eq([1, 2, 3]));
 }
 
-impl Walked for AllocRingBuffer<i64> {
-    fn reader(&self) -> RingBufferIterator<'_, i64, Self> {
-        self.iter()
-    }
-
-    fn writer(&mut self) -> RingBufferMutIterator<'_, i64, Self> {
-        self.iter_mut()
-    }
-
-    fn drainer(&mut self) -> RingBufferDrainingIterator<'_, i64, Self> {
-        self.drain()
-    }
-
-    fn taker(self) -> RingBufferIntoIterator<i64, Self> {
-        self.into_iter()
-    }
-
-    fn lent(&self) -> RingBufferIterator<'_, i64, Self> {
-        IntoIterator::into_iter(self)
-    }
-
-    fn given(self) -> RingBufferIntoIterator<i64, Self> {
-        IntoIterator::into_iter(self)
-    }
+/// Takes 1, 2 and 3 by each walk that the ring makes.
+fn assert_makes_its_walks<R: OwnCalls + Drop>(rt: &impl Abort, mut ring: R) {
+    push_all(rt, &mut ring, &[0, 1, 2]);
+    increment(rt, &mut ring.iter_mut());
+    assert_read_from_the_end(rt, &ring);
+    assert_drained(rt, &mut ring);
+    push_all(rt, &mut ring, &[1, 2, 3]);
+    assert_takes(rt, ring.into_walk(), &[1, 2, 3]);
 }
 
-impl Walked for GrowableAllocRingBuffer<i64> {
-    fn reader(&self) -> RingBufferIterator<'_, i64, Self> {
-        self.iter()
-    }
-
-    fn writer(&mut self) -> RingBufferMutIterator<'_, i64, Self> {
-        self.iter_mut()
-    }
-
-    fn drainer(&mut self) -> RingBufferDrainingIterator<'_, i64, Self> {
-        self.drain()
-    }
-
-    fn taker(self) -> RingBufferIntoIterator<i64, Self> {
-        self.into_iter()
-    }
-
-    fn lent(&self) -> RingBufferIterator<'_, i64, Self> {
-        IntoIterator::into_iter(self)
-    }
-
-    fn given(self) -> RingBufferIntoIterator<i64, Self> {
-        IntoIterator::into_iter(self)
-    }
-}
-
-/// What a test does with a ring that is new and makes its own walks.
-trait WalkedCase {
-    fn on<R: Walked>(&self, rt: &impl Abort, ring: R);
-}
-
-/// The case on an array ring.
-fn on_array(rt: &impl Abort, case: &impl WalkedCase) {
-    case.on(rt, ConstGenericRingBuffer::<i64, 3>::new());
-}
-
-/// The case on a heap ring.
-fn on_heap(rt: &(impl Abort + AllocGlobal), case: &impl WalkedCase) -> Result<(), AllocError> {
-    case.on(rt, AllocRingBuffer::new(rt.alloc(), 3)?);
-    Ok(())
-}
-
-/// The case on a growable ring.
-fn on_growable(rt: &(impl Abort + AllocGlobal), case: &impl WalkedCase) {
-    case.on(rt, GrowableAllocRingBuffer::new(rt.alloc()));
-}
-
-/// A reading walk that the ring makes finds 3, 2 and 1 from its end on.
-fn assert_read<R: Walked>(rt: &impl Abort, ring: &R) {
-    assert!(rt; ring.reader().rev().copied().eq([3, 2, 1]));
-}
-
-/// A drain that the ring makes takes 1, 2 and 3.
-fn assert_drained<R: Walked>(rt: &impl Abort, ring: &mut R) {
-    assert!(rt; ring.drainer().eq([1, 2, 3]));
-}
-
-/// Each walk that the ring makes takes 1, 2 and 3.
-struct MakesItsWalks;
-
-impl WalkedCase for MakesItsWalks {
-    fn on<R: Walked>(&self, rt: &impl Abort, mut ring: R) {
-        push_all(rt, &mut ring, &[0, 1, 2]);
-        increment(rt, &mut ring.writer());
-        assert_read(rt, &ring);
-        assert_drained(rt, &mut ring);
-        push_all(rt, &mut ring, &[1, 2, 3]);
-        assert_takes(rt, ring.taker(), &[1, 2, 3]);
-    }
-}
-
-#[test]
-fn an_array_ring_makes_its_walks(rt: HostRuntime) {
-    on_array(&rt, &MakesItsWalks);
-}
-
-#[test]
-fn a_heap_ring_makes_its_walks(rt: HostRuntime) -> Result<(), AllocError> {
-    on_heap(&rt, &MakesItsWalks)
-}
-
-#[test]
-fn a_growable_ring_makes_its_walks(rt: HostRuntime) {
-    on_growable(&rt, &MakesItsWalks);
-}
-
-/// A loop over a reference to the ring goes from 1 to 3.
-fn assert_looped<R: Walked>(rt: &impl Abort, ring: &R) {
+/// Goes from 1 to 3 by a loop over a reference to the ring.
+fn assert_looped<R: OwnCalls>(rt: &impl Abort, ring: &R) {
     let mut last = 0;
-    for item in ring.lent() {
+    for item in ring.lent_to_loop() {
         assert!(rt; last < *item);
         last = *item;
     }
     assert_equal(rt, last, 3);
 }
 
-/// Loops over the ring, by reference and by value, go from 1 to 3.
-struct LoopedOver;
-
-impl WalkedCase for LoopedOver {
-    fn on<R: Walked>(&self, rt: &impl Abort, mut ring: R) {
-        push_all(rt, &mut ring, &[1, 2, 3]);
-        assert_looped(rt, &ring);
-        let mut last = 3i64;
-        for item in ring.given() {
-            last = last.wrapping_sub(item);
-        }
-        assert_equal(rt, last, -3);
+/// Goes from 1 to 3 by loops over the ring, by reference and by value.
+fn assert_looped_over<R: OwnCalls + Drop>(rt: &impl Abort, mut ring: R) {
+    push_all(rt, &mut ring, &[1, 2, 3]);
+    assert_looped(rt, &ring);
+    let mut last = 3i64;
+    for item in ring.given_to_loop() {
+        last = last.wrapping_sub(item);
     }
+    assert_equal(rt, last, -3);
 }
 
 #[test]
-fn loops_go_over_an_array_ring(rt: HostRuntime) {
-    on_array(&rt, &LoopedOver);
-}
-
-#[test]
-fn loops_go_over_a_heap_ring(rt: HostRuntime) -> Result<(), AllocError> {
-    on_heap(&rt, &LoopedOver)
-}
-
-#[test]
-fn loops_go_over_a_growable_ring(rt: HostRuntime) {
-    on_growable(&rt, &LoopedOver);
+fn a_ring_makes_its_walks_and_is_looped_over(rt: HostRuntime) {
+    on_each!(&rt, 3, assert_makes_its_walks);
+    on_each!(&rt, 3, assert_looped_over);
 }

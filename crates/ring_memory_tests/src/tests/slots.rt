@@ -1,0 +1,96 @@
+//! Slots of both kinds, by themselves.
+
+use super::{assert_drops, assert_equal, drought, next, supply};
+use ring_slots::{ArraySlots, HeapSlots, RingSlots};
+use std::alloc::AllocError;
+
+#[test]
+fn slots_hold_items_without_more_memory(rt: HostRuntime) -> Result<(), AllocError> {
+    let mut heap = HeapSlots::new(rt.alloc(), 2)?;
+    let _drought = drought(&rt, 0);
+    let mut slots = ArraySlots::<&str, 2>::new();
+    slots.put(1, "b");
+    slots.put(0, "a");
+    assert_equal(&rt, *slots.get(1), "b");
+    *slots.get_mut(1) = "c";
+    assert_equal(&rt, slots.take(1), "c");
+    assert_equal(&rt, slots.take(0), "a");
+    slots.put(1, "d");
+    assert_equal(&rt, slots.take(1), "d");
+    heap.put(1, "b");
+    heap.put(0, "a");
+    assert_equal(&rt, *heap.get(1), "b");
+    *heap.get_mut(1) = "c";
+    assert_equal(&rt, heap.take(1), "c");
+    assert_equal(&rt, heap.take(0), "a");
+    heap.put(1, "d");
+    assert_equal(&rt, heap.take(1), "d");
+    heap.free();
+    Ok(())
+}
+
+// More bytes than there are could be asked for, but none are.
+#[test]
+fn items_without_size_need_no_memory(rt: HostRuntime) -> Result<(), AllocError> {
+    let mut array = ArraySlots::<(), 1>::new();
+    array.put(0, ());
+    assert_equal(&rt, array.take(0), ());
+    let mut heap = HeapSlots::new(rt.alloc(), 3)?;
+    heap.put(2, ());
+    assert_equal(&rt, heap.take(2), ());
+    heap.free();
+    for size in [1, 1 << 32, 1 << 63, usize::MAX] {
+        HeapSlots::<()>::new(rt.alloc(), size)?.free();
+    }
+    let mut aligned = HeapSlots::<[u64; 0]>::new(rt.alloc(), 2)?;
+    aligned.put(1, []);
+    assert_equal(&rt, aligned.get(1).len(), 0);
+    assert_equal(&rt, aligned.take(1).len(), 0);
+    aligned.free();
+    Ok(())
+}
+
+#[test]
+fn too_many_bytes_are_refused(rt: HostRuntime) -> Result<(), AllocError> {
+    for size in [1 << 63, (1 << 63) - 1, 1 << 61, 1 << 60, usize::MAX] {
+        if let Ok(slots) = HeapSlots::<u64>::new(rt.alloc(), size) {
+            slots.free();
+            assert!(rt; false);
+        }
+    }
+    HeapSlots::<u64>::new(rt.alloc(), 0)?.free();
+    Ok(())
+}
+
+#[test]
+fn items_keep_their_places(rt: HostRuntime) -> Result<(), AllocError> {
+    let mut slots = HeapSlots::<[u16; 3]>::new(rt.alloc(), 4)?;
+    slots.put(0, [0, 1, 2]);
+    slots.put(3, [9, 10, 11]);
+    slots.put(1, [3, 4, 5]);
+    slots.get_mut(1)[2] = 50;
+    assert_equal(&rt, *slots.get(0), [0, 1, 2]);
+    assert_equal(&rt, *slots.get(1), [3, 4, 50]);
+    assert_equal(&rt, *slots.get(3), [9, 10, 11]);
+    assert_equal(&rt, slots.take(3), [9, 10, 11]);
+    assert_equal(&rt, slots.take(0), [0, 1, 2]);
+    assert_equal(&rt, slots.take(1), [3, 4, 50]);
+    slots.free();
+    Ok(())
+}
+
+#[test]
+fn an_item_that_was_taken_is_dropped_once(rt: HostRuntime) -> Result<(), AllocError> {
+    let supply = supply(&rt, 2);
+    let mut slots = HeapSlots::new(rt.alloc(), 2)?;
+    slots.put(0, next(&rt, &supply));
+    slots.put(1, next(&rt, &supply));
+    let first = slots.take(0);
+    assert_drops(&rt, &supply, 0, &[0, 0]);
+    drop(first);
+    assert_drops(&rt, &supply, 0, &[1, 0]);
+    let _second = slots.take(1);
+    slots.free();
+    assert_drops(&rt, &supply, 0, &[1, 0]);
+    Ok(())
+}

@@ -1,0 +1,173 @@
+//! Callers of the ring types in the lines that a user writes first, proved from the public contracts alone.
+
+ghost use Rattle.std.specs.Prelude.{◌≡◌, ◌<◌, ◌≤◌, ◌^◌, [], ◌∷◌, ◌++◌, IfErr, IfOk, IsOk, IsSome, IsTrue, OnErr, OnOk, Some, drop, length, map, slice_get, sum};
+ghost use Rattle.ringbuffer.specs.Contents.{AppendsCut, keep_last};
+
+use ringbuffer::{AllocRingBuffer, ConstGenericRingBuffer, GrowableAllocRingBuffer, RingBuffer};
+use std::alloc::{AllocError, Global};
+
+/// Hands a job back if the queue is full, and else takes it in.
+pub fn queue_job(queue: &mut AllocRingBuffer<u32>, job: u32) -> Result<(), u32>
+    ensures taken { OnOk result (queue.new.items ≡ queue.old.items ++ job ∷ []) }
+    ensures refused { IfErr result (λ back. (back ≡ job) × (queue.new ≡ queue.old)) }
+{
+    if queue.is_full() {
+        return Err(job);
+    }
+    let _ = queue.push(job);
+    Ok(())
+}
+
+/// Hands a job back if the queue in an array is full, and else takes it in.
+pub fn queue_job_in_array(queue: &mut ConstGenericRingBuffer<u32, 4>, job: u32) -> Result<(), u32>
+    ensures taken { OnOk result (queue.new.items ≡ queue.old.items ++ job ∷ []) }
+    ensures refused { IfErr result (λ back. (back ≡ job) × (queue.new ≡ queue.old)) }
+{
+    if queue.is_full() {
+        return Err(job);
+    }
+    let _ = queue.push(job);
+    Ok(())
+}
+
+/// Hands a job back if the ring with a limit is full, and else takes it in.
+pub fn queue_job_in_ring<T: Drop, R: RingBuffer<T>>(queue: &mut R, job: T) -> Result<(), T>
+    requires { IsSome (R.limit queue.old) }
+    ensures taken { OnOk result (R.contents queue.new ≡ R.contents queue.old ++ job ∷ []) }
+    ensures refused { IfErr result (λ back. (back ≡ job) × (queue.new ≡ queue.old)) }
+{
+    if queue.is_full() {
+        return Err(job);
+    }
+    let _ = queue.push(job);
+    Ok(())
+}
+
+/// Pushes a number onto an array ring, which then holds it last.
+pub fn push_and_read(ring: &mut ConstGenericRingBuffer<u32, 4>, x: u32) -> u32
+    ensures value { result ≡ x }
+    ensures within { length ring.new.items ≤ 4 }
+{
+    let _ = ring.push(x);
+    *ring.back().unwrap()
+}
+
+/// Pushes a number onto a ring that has a limit, which then holds it last.
+pub fn push_and_read_back<R: RingBuffer<u32>>(ring: &mut R, x: u32) -> u32
+    requires { IsSome (R.limit ring.old) }
+    ensures { result ≡ x }
+{
+    let _ = ring.push(x);
+    *ring.back().unwrap()
+}
+
+/// Pushes a number onto a heap ring, and returns the oldest that it holds then.
+pub fn push_and_read_oldest(ring: &mut AllocRingBuffer<u32>, x: u32) -> u32
+    ensures { Some result ≡ slice_get ring.new.items 0 }
+{
+    let _ = ring.push(x);
+    *ring.front().unwrap()
+}
+
+/// Pushes a number onto a heap ring, and counts what it holds then.
+pub fn push_and_count(ring: &mut AllocRingBuffer<u8>, x: u8) -> usize
+    ensures { result ≡ length ring.new.items }
+{
+    let _ = ring.push(x);
+    ring.iter().count()
+}
+
+/// Fills a ring that has a limit with sevens, which is never refused.
+pub fn fill_with_sevens<R: RingBuffer<u32>>(ring: &mut R)
+    requires { IsSome (R.limit ring.old) }
+    ensures { R.limit ring.new ≡ R.limit ring.old }
+{
+    ring.fill(7).unwrap();
+}
+
+/// Fills a heap ring with sevens, which is never refused.
+pub fn fill_heap_with_sevens(ring: &mut AllocRingBuffer<u32>)
+    ensures { length ring.new.items ≡ ring.old.capacity }
+{
+    ring.fill(7).unwrap();
+}
+
+/// Clones an array ring of numbers, which is never refused.
+pub fn copy_of(ring: &ConstGenericRingBuffer<u32, 4>) -> ConstGenericRingBuffer<u32, 4>
+    ensures { result.items ≡ ring.now.items }
+{
+    ring.clone().unwrap()
+}
+
+/// Clones an empty array ring of texts, which is never refused.
+pub fn copy_of_nothing() -> ConstGenericRingBuffer<String, 4>
+    ensures { result.items ≡ [] }
+{
+    let ring = ConstGenericRingBuffer::new();
+    ring.clone().unwrap()
+}
+
+/// Makes an array ring of the last numbers of a slice, which is never refused.
+pub fn last_four(numbers: &[u32]) -> ConstGenericRingBuffer<u32, 4>
+    ensures { result.items ≡ keep_last (Some 4) numbers.now }
+{
+    ConstGenericRingBuffer::from_slice(numbers).unwrap()
+}
+
+/// Makes an array ring of the numbers of an array, which is never refused.
+pub fn all_four(numbers: &[u32; 4]) -> ConstGenericRingBuffer<u32, 4>
+    ensures { result.items ≡ keep_last (Some 4) numbers.now }
+{
+    ConstGenericRingBuffer::from_array_ref(numbers).unwrap()
+}
+
+/// Makes growable rings of nothing, which are never refused.
+pub fn growable_of_nothing(alloc: Global) -> GrowableAllocRingBuffer<String>
+    ensures { result ≡ [] }
+{
+    let ring = GrowableAllocRingBuffer::<String>::from_slice(alloc, &[]).unwrap();
+    ring.clone().unwrap()
+}
+
+/// Takes all numbers out of a heap ring, and returns them in order.
+pub fn take_all(alloc: Global, ring: &mut AllocRingBuffer<u32>) -> Result<Vec<u32>, AllocError>
+    ensures { IfOk result (λ taken. taken.items ≡ ring.old.items) }
+{
+    ring.drain().collect(alloc)
+}
+
+/// Takes all numbers out of an array ring, and adds them up.
+pub fn add_up_and_empty(ring: &mut ConstGenericRingBuffer<u32, 4>) -> u32
+    requires { sum ring.old.items < 2 ^ 32 }
+    ensures { result ≡ sum ring.old.items }
+{
+    ring.drain().sum()
+}
+
+/// Returns the second item of a growable ring that is not needed any more.
+pub fn second_of(ring: GrowableAllocRingBuffer<u32>) -> Option<u32>
+    ensures { result ≡ slice_get ring 1 }
+{
+    ring.into_iter().nth(1)
+}
+
+/// Turns an array ring into a vector.
+pub fn into_vector(
+    alloc: Global,
+    ring: ConstGenericRingBuffer<u32, 4>,
+) -> Result<Vec<u32>, AllocError>
+    ensures { IfOk result (λ made. made.items ≡ ring.items) }
+{
+    ring.into_iter().collect(alloc)
+}
+
+/// Appends numbers to a growable ring. Where memory was refused the old items stay, and a beginning of the numbers.
+pub fn append_numbers(
+    ring: &mut GrowableAllocRingBuffer<u32>,
+    numbers: Vec<u32>,
+) -> Result<(), AllocError>
+    ensures all { OnOk result (ring.new ≡ ring.old ++ numbers.items) }
+    ensures part { OnErr result (AppendsCut ring.old numbers.items ring.new) }
+{
+    ring.extend(numbers)
+}
