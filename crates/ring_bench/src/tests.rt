@@ -3,9 +3,11 @@
 //! A test is a list of calls with their answers, or a function that is generic over the ring. A macro of
 //! `ring_test_support` calls such a function on a new ring of each type.
 
+mod bytes;
 mod ends;
 mod faults;
 mod fills;
+mod middle;
 mod moving;
 mod positions;
 mod pushing;

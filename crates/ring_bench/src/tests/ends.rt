@@ -36,7 +36,7 @@ const KEPT: &[(&[i64], usize, &[i64], &[i64])] = &[
 ];
 
 /// Asserts that the ring holds these items and no other, and that an item that is pushed then comes behind them.
-fn assert_left<R: RingBuffer<i64>>(rt: &impl Abort, ring: &mut R, items: &'static [i64]) {
+pub fn assert_left<R: RingBuffer<i64>>(rt: &impl Abort, ring: &mut R, items: &'static [i64]) {
     assert_steps(rt, ring, &[Holds(items), Skip, PushAll(&[8])]);
     for item in items.iter().skip(1) {
         assert_equal(rt, ring.dequeue(), Some(*item));

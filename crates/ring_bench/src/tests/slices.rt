@@ -1,18 +1,33 @@
 //! Whole slices in and out.
 
 use super::{STARTS, assert_equal, assert_gives, assert_holds, lay, push_all};
-use ring_test_support::{on_growable, on_heap};
-use ringbuffer::{AllocRingBuffer, GrowableAllocRingBuffer, RingBuffer};
+use ring_test_support::{on_array, on_each, on_growable, on_heap};
+use ringbuffer::{AllocRingBuffer, ConstGenericRingBuffer, GrowableAllocRingBuffer, RingBuffer};
 use std::alloc::AllocError;
 use std::process::Abort;
 
-/// The calls that the heap ring and the growable ring have of their own and no trait of the library has.
+/// The calls that each ring type has of its own and no trait of the library has.
 trait Slices: RingBuffer<i64> {
     fn extend_from_slice(&mut self, items: &[i64]) -> Result<(), AllocError>;
 
     fn copy_to_slice(&self, output: &mut [i64]) -> usize;
 
     fn dequeue_into(&mut self, output: &mut [i64]) -> usize;
+}
+
+impl<const CAP: usize> Slices for ConstGenericRingBuffer<i64, CAP> {
+    fn extend_from_slice(&mut self, items: &[i64]) -> Result<(), AllocError> {
+        ConstGenericRingBuffer::extend_from_slice(self, items);
+        Ok(())
+    }
+
+    fn copy_to_slice(&self, output: &mut [i64]) -> usize {
+        ConstGenericRingBuffer::copy_to_slice(self, output)
+    }
+
+    fn dequeue_into(&mut self, output: &mut [i64]) -> usize {
+        ConstGenericRingBuffer::dequeue_into(self, output)
+    }
 }
 
 impl Slices for AllocRingBuffer<i64> {
@@ -114,6 +129,7 @@ fn assert_extends<R: Slices + Drop>(rt: &impl Abort, mut ring: R, limit: usize) 
 fn slices_are_put_behind_the_items(rt: HostRuntime) {
     on_heap!(&rt, 4, assert_extends, 4);
     on_heap!(&rt, 5, assert_extends, 5);
+    on_array!(&rt, 5, assert_extends, 5);
     on_growable!(&rt, 0, assert_extends, usize::MAX);
 }
 
@@ -158,9 +174,8 @@ fn assert_copies<R: Slices + Drop>(rt: &impl Abort, mut ring: R) {
 
 #[test]
 fn items_are_copied_to_slices(rt: HostRuntime) {
-    on_heap!(&rt, 6, assert_copies);
+    on_each!(&rt, 6, assert_copies);
     on_heap!(&rt, 8, assert_copies);
-    on_growable!(&rt, 0, assert_copies);
 }
 
 /// Finds the items of a heap ring in two slices only where they go round its slots, and then in one, which is turned round

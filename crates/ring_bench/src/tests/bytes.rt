@@ -1,0 +1,89 @@
+//! Rings of bytes as readers and writers.
+
+use super::assert_equal;
+use ring_test_support::{on_each, on_fixed};
+use ringbuffer::{GrowableAllocRingBuffer, RingBuffer};
+use std::io::{self, BufRead, Read, Write};
+use std::process::Abort;
+
+/// Writes these bytes, and asserts how many were taken.
+fn assert_writes<W: Write>(rt: &impl Abort, ring: &mut W, bytes: &[u8], taken: usize) {
+    assert_equal(rt, ring.write(bytes).expect(rt, "write"), taken);
+}
+
+/// Reads into a slice of as many places as `room` says, up to eight, and asserts which bytes came.
+fn assert_reads<R: Read>(rt: &impl Abort, ring: &mut R, room: usize, bytes: &[u8]) {
+    let mut output = [b'-'; 8];
+    let output = &mut output[..room.min(8)];
+    let count = ring.read(output).expect(rt, "read");
+    assert_equal(rt, output.get(..count), Some(bytes));
+    for place in output.iter().skip(count) {
+        assert_equal(rt, *place, b'-');
+    }
+}
+
+/// Fills a ring of five bytes in pieces, of which the last finds no room.
+fn assert_fills<R: Read + Write + RingBuffer<u8> + Drop>(rt: &impl Abort, mut ring: R) {
+    for _ in 0..8 {
+        assert_writes(rt, &mut ring, b"abc", 3);
+        assert_writes(rt, &mut ring, b"defg", 2);
+        assert_writes(rt, &mut ring, b"x", 0);
+        assert_reads(rt, &mut ring, 2, b"ab");
+        assert_writes(rt, &mut ring, b"fgh", 2);
+        assert_reads(rt, &mut ring, 0, b"");
+        assert_reads(rt, &mut ring, 8, b"cdefg");
+        assert_reads(rt, &mut ring, 8, b"");
+        assert_writes(rt, &mut ring, b"", 0);
+        assert_writes(rt, &mut ring, b"-", 1);
+        assert_reads(rt, &mut ring, 1, b"-");
+    }
+}
+
+#[test]
+fn a_full_ring_takes_no_byte(rt: HostRuntime) {
+    on_fixed!(&rt, 5, assert_fills);
+}
+
+/// Sends lines through a ring, one at a time, and finds the bytes that are lent first.
+fn assert_lines<R: BufRead + Write + RingBuffer<u8> + Drop>(rt: &impl Abort, mut ring: R) {
+    for round in 0..9u8 {
+        assert_equal(rt, writeln!(ring, "line {round}").is_ok(), true);
+        assert_equal(
+            rt,
+            ring.fill_buf().expect(rt, "read").first().copied(),
+            Some(b'l'),
+        );
+        ring.consume(5);
+        assert_reads(rt, &mut ring, 8, &[b'0' + round, b'\n']);
+        ring.consume(1);
+        assert_equal(rt, ring.fill_buf().expect(rt, "read").len(), 0);
+    }
+}
+
+#[test]
+fn lines_go_through_each_ring(rt: HostRuntime) {
+    on_each!(&rt, 8, assert_lines);
+}
+
+/// Copies what a growable ring holds into a ring of eight bytes, which is too small for all of it.
+fn assert_copies<R: Read + Write + RingBuffer<u8> + Drop>(
+    rt: &impl Abort,
+    mut ring: R,
+    mut from: GrowableAllocRingBuffer<u8>,
+) {
+    assert_equal(rt, from.write_all(b"hello").is_ok(), true);
+    assert_equal(rt, io::copy(&mut from, &mut ring).expect(rt, "copy"), 5);
+    assert_equal(rt, from.write_all(b", ring").is_ok(), true);
+    assert_equal(rt, io::copy(&mut from, &mut ring).is_err(), true);
+    assert_reads(rt, &mut ring, 8, b"hello, r");
+}
+
+#[test]
+fn bytes_are_copied_from_ring_to_ring(rt: HostRuntime) {
+    on_fixed!(
+        &rt,
+        8,
+        assert_copies,
+        GrowableAllocRingBuffer::new(rt.alloc())
+    );
+}
