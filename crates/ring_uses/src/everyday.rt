@@ -1,10 +1,12 @@
 //! Callers of the ring types in the lines that a user writes first, proved from the public contracts alone.
 
-ghost use Rattle.std.specs.Prelude.{◌≡◌, ◌<◌, ◌≤◌, ◌^◌, [], ◌∷◌, ◌++◌, IfErr, IfOk, IsOk, IsSome, IsTrue, OnErr, OnOk, Some, drop, length, map, slice_get, sum};
+ghost use Rattle.std.specs.Prelude.{◌≡◌, ◌+◌, ◌<◌, ◌≤◌, ◌^◌, [], ◌∷◌, ◌++◌, IfErr, IfOk, IsOk, IsSome, IsTrue, OnErr, OnOk, Some, drop, length, map, slice_get, string_bytes, sum, take};
+ghost use Rattle.std.specs.Io.BufRead.{drop_through, take_through};
 ghost use Rattle.ringbuffer.specs.Contents.{AppendsCut, keep_last};
 
 use ringbuffer::{AllocRingBuffer, ConstGenericRingBuffer, GrowableAllocRingBuffer, RingBuffer};
 use std::alloc::{AllocError, Global};
+use std::io::{self, BufRead};
 
 /// Hands a job back if the queue is full, and else takes it in.
 pub fn queue_job(queue: &mut AllocRingBuffer<u32>, job: u32) -> Result<(), u32>
@@ -170,4 +172,58 @@ pub fn append_numbers(
     ensures part { OnErr result (AppendsCut ring.old numbers.items ring.new) }
 {
     ring.extend(numbers)
+}
+
+/// Hands a job back if the queue is full, and else takes it in, by one call.
+pub fn submit(queue: &mut AllocRingBuffer<u32>, job: u32) -> Result<(), u32>
+    ensures taken { OnOk result (queue.new.items ≡ queue.old.items ++ job ∷ []) }
+    ensures refused { IfErr result (λ back. (back ≡ job) × (queue.new ≡ queue.old)) }
+{
+    queue.try_push(job)
+}
+
+/// Takes a job out of the middle of a queue.
+pub fn cancel(queue: &mut ConstGenericRingBuffer<u32, 4>, index: usize) -> Option<u32>
+    requires { index < length queue.old.items }
+    ensures job { result ≡ slice_get queue.old.items index }
+    ensures others { queue.new.items
+        ≡ take index queue.old.items ++ drop (index + 1) queue.old.items }
+{
+    queue.remove(index)
+}
+
+/// Puts a job before all others, if the queue has room.
+pub fn put_urgent(queue: &mut AllocRingBuffer<u32>, job: u32) -> Result<(), u32>
+    ensures taken { OnOk result (queue.new.items ≡ job ∷ queue.old.items) }
+    ensures refused { IfErr result (λ back. (back ≡ job) × (queue.new ≡ queue.old)) }
+{
+    queue.insert(0, job)
+}
+
+/// Takes the next line out of a ring of bytes, with its end.
+pub fn take_line(bytes: &mut AllocRingBuffer<u8>, alloc: Global) -> io::Result<String>
+    ensures line { IfOk result (λ line. string_bytes line ≡ take_through 10 bytes.old.items) }
+    ensures rest { OnOk result (bytes.new.items ≡ drop_through 10 bytes.old.items) }
+{
+    let mut line = String::new(alloc);
+    bytes.read_line(&mut line)?;
+    Ok(line)
+}
+
+/// Copies what a growable ring of bytes holds into a heap ring, if there is room for all of it.
+pub fn pour_over(
+    from: &mut GrowableAllocRingBuffer<u8>,
+    to: &mut AllocRingBuffer<u8>,
+) -> io::Result<u64>
+    ensures copied { OnOk result (to.new.items ≡ to.old.items ++ from.old) }
+    ensures emptied { OnOk result (from.new ≡ []) }
+{
+    io::copy(from, to)
+}
+
+/// Two rings in one value, which is cloned as a whole.
+#[derive(Clone, Drop)]
+pub struct BothWays {
+    pub sent: AllocRingBuffer<u32>,
+    pub received: ConstGenericRingBuffer<u32, 4>,
 }
