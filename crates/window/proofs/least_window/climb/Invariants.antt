@@ -5,9 +5,9 @@ use Rattle.window.proofs.least_window.climb.Given as goal
 -- none of the items that the loop went past is still named, and each was compared once
 abbrev pub invariant-loop-behind : goal.invariant-loop-behind
 invariant-loop-behind g l = record {
-  reaches : Reaches g.O.Order.cmp (g.R.RingBuffer.contents l.ring) l.first l.behind l.counts.compared.count (2 * l.counts.pushed.count);
-  pushed : l.counts.pushed.count ≡ l.fn.counts.pushed.count;
-  rises : l.fn.counts.compared.count ≤ l.counts.compared.count;
+  reaches : Reaches g.O.Order.cmp (g.R.RingBuffer.contents l.ring) l.first l.behind l.counts.compared (2 * l.counts.pushed);
+  pushed : l.counts.pushed ≡ l.fn.counts.pushed;
+  rises : l.fn.counts.compared ≤ l.counts.compared;
 }
 
 abbrev pub decreases-loop-behind : goal.decreases-loop-behind

@@ -16,7 +16,7 @@ returns-then-behind-len-clause-holds g c =
     let all = g.R.RingBuffer.contents c.args.ring.now in
     let e = c.len-len.ensures.value in
     let (r, read, holds, items) = joins_alone g.met.O.Order.total all c.args.first.now c.climb-behind.result c.len-len.result _ _ e c.climb-behind.ensures.stops c.if-behind-len.true in
-    rw (c.set_links.ensures.contents r read) (recounted_to g.met.O.Order.total holds (omega (arith, c.plus-counts.ensures)))
+    rw (c.set_links.ensures.contents r read) (recounted_to g.met.O.Order.total holds (omega (arith, c.add_one.ensures)))
 
 pub returns-then-behind-len-clause-items : goal.returns-then-behind-len-clause-items
 returns-then-behind-len-clause-items g c =
@@ -32,7 +32,7 @@ returns-else-behind-len-clause-holds g c =
     let (r, last, read, fits, read_last, holds, items) = joins_after g.met.O.Order.total all c.args.first.now c.climb-behind.result c.len-len.result _ _ e c.climb-behind.ensures.stops c.if-behind-len.false in
     let written = c.set_links.ensures.contents r read in
     let last_written = rw written at (c.set_ahead.ensures.contents last (rw written read_last)) in
-    rw last_written (recounted_to g.met.O.Order.total holds (omega (arith, c.plus-counts.ensures)))
+    rw last_written (recounted_to g.met.O.Order.total holds (omega (arith, c.add_one.ensures)))
 
 pub returns-else-behind-len-clause-items : goal.returns-else-behind-len-clause-items
 returns-else-behind-len-clause-items g c =
