@@ -15,15 +15,16 @@ use std::marker::Model;
 /// An item in the ring of a `WindowFold`, and what the window keeps with it.
 #[derive(Drop)]
 pub struct Kept<M> {
-    item: M,
+    pub(crate) item: M,
     // What the items after it, up to the last that was folded with it, combine to.
-    after: M,
+    pub(crate) after: M,
 }
 
 impl<M: Monoid> Kept<M> {
     /// Returns `item` as one that no window has folded.
     pub fn new(item: M) -> Self
-        ensures { result.item ≡ item }
+        ensures item { result.item ≡ item }
+        ensures after { result.after ≡ M.neutral }
     {
         Kept {
             item,
@@ -179,7 +180,7 @@ impl<M: Monoid, R: RingBuffer<Kept<M>>> WindowFold<M, R> {
 }
 
 // Returns what the items of `ring` combine to, and writes beside each what those after it combine to.
-fn fold_all<M: Monoid, R: RingBuffer<Kept<M>>>(ring: &mut R, calls: &mut GhostCount) -> M
+pub(crate) fn fold_all<M: Monoid, R: RingBuffer<Kept<M>>>(ring: &mut R, calls: &mut GhostCount) -> M
     ensures value { result ≡ combined_of M.neutral M.op (items (R.contents ring.old)) }
     ensures valid { All M.valid (items (R.contents ring.old)) }
     ensures folded { AreFolded M.neutral M.op (R.contents ring.new) }

@@ -310,17 +310,17 @@ fn rank_newest<T: Drop, O: Order<T>, R: RingBuffer<Rung<T>>>(
     ensures limit { R.limit ring.new ≡ R.limit ring.old }
 {
     let len = ring.len();
-    let behind = climb(ring, *first, counts);
+    let left = climb(ring, *first, counts);
     counts.pushed.add_one();
-    set_links(ring, len - 1, behind, 0);
-    if behind == len {
+    set_links(ring, len - 1, len - left, 0);
+    if left == 0 {
         *first = len;
     } else {
-        set_ahead(ring, len - 1 - behind, behind);
+        set_ahead(ring, left - 1, len - left);
     }
 }
 
-// Returns how many items, from the newest on, go down to the last one named that isn't above it, or to the oldest.
+// Returns how many items go up to the last one named that isn't above the newest, and with it; 0 where there is none.
 fn climb<T: Drop, O: Order<T>, R: RingBuffer<Rung<T>>>(
     ring: &R,
     first: usize,
@@ -335,19 +335,18 @@ fn climb<T: Drop, O: Order<T>, R: RingBuffer<Rung<T>>>(
 {
     let len = ring.len();
     let newest = ring.get(len - 1).unwrap();
-    let mut behind = 1;
-    while behind < len {
-        let at = len - 1 - behind;
-        let rung = ring.get(at).unwrap();
+    let mut left = len - 1;
+    while left > 0 {
+        let rung = ring.get(left - 1).unwrap();
         if !is_above::<T, O>(&mut counts.compared, &rung.item, &newest.item) {
-            return behind;
+            return left;
         }
-        if at + 1 == first {
-            return len;
+        if left == first {
+            return 0;
         }
-        behind += rung.behind;
+        left -= rung.behind;
     }
-    behind
+    left
 }
 
 // Writes how far the item at the place `at` is behind the one named before it, and the next one ahead.
