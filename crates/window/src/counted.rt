@@ -63,6 +63,22 @@ impl<S> CountedTally<S> {
         self.tally.let_go(oldest);
     }
 
+    /// Lets go of `oldest` and takes in `newest`, and counts both.
+    #[inline]
+    pub(crate) fn slide<T>(&mut self, oldest: &T, newest: &T)
+    where
+        S: Tally<T>,
+        requires { (xs : List T) × S.tells self.old.tally (oldest.now ∷ xs) × (length xs + 1 < 2 ^ 64) }
+        ensures tells { (xs : List T) → S.tells self.old.tally (oldest.now ∷ xs)
+            → S.tells self.new.tally (xs ++ newest.now ∷ []) }
+        ensures taken_in { self.new.taken_in ≡ self.old.taken_in + 1 }
+        ensures let_go { self.new.let_go ≡ self.old.let_go + 1 }
+    {
+        self.taken_in.add_one();
+        self.let_go.add_one();
+        self.tally.slide(oldest, newest);
+    }
+
     /// Forgets all items. The counts stay.
     pub(crate) fn clear<T>(&mut self)
     where

@@ -29,6 +29,10 @@ impl Tally<i64> for Sum {
     fn let_go(&mut self, oldest: &i64) {
         self.sum -= i128::from(*oldest);
     }
+
+    fn slide(&mut self, oldest: &i64, newest: &i64) {
+        self.sum += i128::from(*newest) - i128::from(*oldest);
+    }
 }
 
 impl Summed<i64> for Sum {

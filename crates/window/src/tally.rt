@@ -21,4 +21,14 @@ pub trait Tally<T>: Drop + Sized {
     fn let_go(&mut self, oldest: &T)
         requires { (xs : List T) × tells self.old (oldest.now ∷ xs) × (length xs + 1 < 2 ^ 64) }
         ensures { (xs : List T) → tells self.old (oldest.now ∷ xs) → tells self.new xs };
+
+    /// Lets go of `oldest`, the first of fewer than 2^64 items, and takes in `newest`, which then comes last.
+    #[inline]
+    fn slide(&mut self, oldest: &T, newest: &T)
+        requires { (xs : List T) × Self.tells self.old (oldest.now ∷ xs) × (length xs + 1 < 2 ^ 64) }
+        ensures { (xs : List T) → Self.tells self.old (oldest.now ∷ xs) → Self.tells self.new (xs ++ newest.now ∷ []) }
+    {
+        self.let_go(oldest);
+        self.take_in(newest);
+    }
 }
