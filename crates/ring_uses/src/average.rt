@@ -25,7 +25,7 @@ impl<const N: usize> Model for MovingAverage<N> {
 }
 
 impl<const N: usize> MovingAverage<N> {
-    /// An average that has seen no sample.
+    /// Makes an average that has seen no sample.
     pub fn new() -> Self
         requires { 0 < N }
         ensures { result ≡ [] }
@@ -42,7 +42,7 @@ impl<const N: usize> MovingAverage<N> {
         let _ = self.samples.push(sample);
     }
 
-    /// The mean of the samples, rounded towards zero, or `None` before the first.
+    /// Returns the mean of the samples, rounded towards zero, or `None` before the first.
     pub fn mean(&self) -> Option<i128>
         ensures none { IsNone result ↔ (self.now ≡ []) }
         ensures mean { IfSome result (λ mean. mean ≡ int_div (total self.now) (pos (length self.now))) }

@@ -24,7 +24,7 @@ impl<const N: usize> Model for Window<N> {
 }
 
 impl<const N: usize> Window<N> {
-    /// A window that has seen no sample.
+    /// Makes a window that has seen no sample.
     pub fn new() -> Self
         requires { 0 < N }
         ensures { result ≡ [] }
@@ -54,7 +54,7 @@ impl<const N: usize> Window<N> {
         }
     }
 
-    /// How many samples the window holds.
+    /// Returns how many samples the window holds.
     pub fn count(&self) -> usize
         ensures value { result ≡ length self.now }
         ensures within { result ≤ N }
@@ -62,7 +62,7 @@ impl<const N: usize> Window<N> {
         self.lows.len()
     }
 
-    /// The least sample, or `None` before the first.
+    /// Returns the least sample, or `None` before the first.
     pub fn least(&self) -> Option<i64>
         ensures none { IsNone result ↔ (self.now ≡ []) }
         ensures held { IfSome result (Contains self.now) }
@@ -72,7 +72,7 @@ impl<const N: usize> Window<N> {
         Some(*least)
     }
 
-    /// The greatest sample, or `None` before the first.
+    /// Returns the greatest sample, or `None` before the first.
     pub fn greatest(&self) -> Option<i64>
         ensures none { IsNone result ↔ (self.now ≡ []) }
         ensures held { IfSome result (Contains self.now) }

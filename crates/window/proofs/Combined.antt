@@ -17,7 +17,7 @@ module _ {M : Type 0} {valid : M → Type 0} {neutral : M} {op : M → M → M} 
   combined_valid (x ∷ xs) all = laws.valid_op x (combined neutral op xs) (All-head valid x xs all) (combined_valid xs (All-tail valid x xs all))
 
   -- By induction on the first list.
-  pub combined-append : (xs ys : List M) → All valid xs → All valid ys → combined neutral op (xs ++ ys) ≡ op (combined neutral op xs) (combined neutral op ys)
+  combined-append : (xs ys : List M) → All valid xs → All valid ys → combined neutral op (xs ++ ys) ≡ op (combined neutral op xs) (combined neutral op ys)
   combined-append [] ys all all' = sym (laws.left_identity (combined neutral op ys) (combined_valid ys all'))
   combined-append (x ∷ xs) ys all all' =
       let rest = All-tail valid x xs all in
@@ -25,7 +25,7 @@ module _ {M : Type 0} {valid : M → Type 0} {neutral : M} {op : M → M → M} 
       ∙ sym (laws.assoc x (combined neutral op xs) (combined neutral op ys) (All-head valid x xs all) (combined_valid xs rest) (combined_valid ys all'))
 
   -- One more value comes last.
-  pub combined_push : (xs : List M) (x : M) → All valid xs → valid x → op (combined neutral op xs) x ≡ combined neutral op (xs ++ x ∷ [])
+  combined_push : (xs : List M) (x : M) → All valid xs → valid x → op (combined neutral op xs) x ≡ combined neutral op (xs ++ x ∷ [])
   combined_push xs x all ok = sym (combined-append xs (x ∷ []) all (All-cons valid x [] ok (All-nil valid)) ∙ ap (op (combined neutral op xs)) (laws.right_identity x ok))
 
   -- What the older items and the newer ones combine to makes what all combine to.

@@ -24,9 +24,3 @@ pub record RankedItems (T : Type 0) : Type 0 where
   pub limit : Option ℕ
   pub pushed : ℕ
   pub compared : ℕ
-
--- the items that a window holds, oldest first, the most that it can hold, if there is such a number, and how often it combined two values
-pub record CombinedItems (T : Type 0) : Type 0 where
-  pub contents : List T
-  pub limit : Option ℕ
-  pub calls : ℕ

@@ -1,7 +1,7 @@
 //! Calls that are counted: nothing else in the crate takes an item into a tally, lets one go, combines two values or compares
 //! two items.
 
-ghost use Rattle.std.specs.Prelude.{◌≡◌, ◌+◌, ◌<◌, ◌^◌, [], ◌∷◌, ◌++◌, List, length};
+ghost use Rattle.std.specs.Prelude.{◌≡◌, ◌+◌, ◌<◌, ◌^◌, [], ◌∷◌, ◌++◌, List, length, option_to_list};
 ghost use Rattle.std.specs.Ordering.{is_gt};
 
 use crate::ghost_count::GhostCount;
@@ -63,20 +63,23 @@ impl<S> CountedTally<S> {
         self.tally.let_go(oldest);
     }
 
-    /// Lets go of `oldest` and takes in `newest`, and counts both.
+    /// Lets `oldest`, if there is one, go, takes in `newest`, and counts both.
     #[inline]
-    pub(crate) fn slide<T>(&mut self, oldest: &T, newest: &T)
+    pub(crate) fn slide<T>(&mut self, oldest: &Option<T>, newest: &T)
     where
         S: Tally<T>,
-        requires { (xs : List T) × S.tells self.old.tally (oldest.now ∷ xs) × (length xs + 1 < 2 ^ 64) }
-        ensures tells { (xs : List T) → S.tells self.old.tally (oldest.now ∷ xs)
+        requires { (xs : List T) × S.tells self.old.tally (option_to_list oldest.now ++ xs)
+            × (length xs + 1 < 2 ^ 64) }
+        ensures tells { (xs : List T) → S.tells self.old.tally (option_to_list oldest.now ++ xs)
             → S.tells self.new.tally (xs ++ newest.now ∷ []) }
         ensures taken_in { self.new.taken_in ≡ self.old.taken_in + 1 }
-        ensures let_go { self.new.let_go ≡ self.old.let_go + 1 }
+        ensures let_go { self.new.let_go ≡ self.old.let_go + length (option_to_list oldest.now) }
     {
         self.taken_in.add_one();
-        self.let_go.add_one();
         self.tally.slide(oldest, newest);
+        if oldest.is_some() {
+            self.let_go.add_one();
+        }
     }
 
     /// Forgets all items. The counts stay.

@@ -15,16 +15,15 @@ use std::marker::Model;
 /// An item in the ring of a `WindowFold`, and what the window keeps with it.
 #[derive(Drop)]
 pub struct Kept<M> {
-    pub(crate) item: M,
+    item: M,
     // What the items after it, up to the last that was folded with it, combine to.
-    pub(crate) after: M,
+    after: M,
 }
 
 impl<M: Monoid> Kept<M> {
     /// Returns `item` as one that no window has folded.
     pub fn new(item: M) -> Self
-        ensures item { result.item ≡ item }
-        ensures after { result.after ≡ M.neutral }
+        ensures { result.item ≡ item }
     {
         Kept {
             item,
@@ -180,7 +179,7 @@ impl<M: Monoid, R: RingBuffer<Kept<M>>> WindowFold<M, R> {
 }
 
 // Returns what the items of `ring` combine to, and writes beside each what those after it combine to.
-pub(crate) fn fold_all<M: Monoid, R: RingBuffer<Kept<M>>>(ring: &mut R, calls: &mut GhostCount) -> M
+fn fold_all<M: Monoid, R: RingBuffer<Kept<M>>>(ring: &mut R, calls: &mut GhostCount) -> M
     ensures value { result ≡ combined_of M.neutral M.op (items (R.contents ring.old)) }
     ensures valid { All M.valid (items (R.contents ring.old)) }
     ensures folded { AreFolded M.neutral M.op (R.contents ring.new) }

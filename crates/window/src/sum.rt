@@ -1,6 +1,7 @@
 //! Sums of whole numbers, exactly.
 
-ghost use Rattle.std.specs.Prelude.{◌≡◌, ◌+◌, drop, length, option_to_list, slice_get};
+ghost use Rattle.std.specs.Prelude.{◌≡◌, ◌+◌, ◌-ℤ◌, drop, length, option_to_list, slice_get};
+ghost use Rattle.window.specs.Window.{total};
 
 use crate::summed::Summed;
 use crate::tally::Tally;
@@ -30,8 +31,8 @@ impl Tally<i64> for Sum {
         self.sum -= i128::from(*oldest);
     }
 
-    fn slide(&mut self, oldest: &i64, newest: &i64) {
-        self.sum += i128::from(*newest) - i128::from(*oldest);
+    fn slide(&mut self, oldest: &Option<i64>, newest: &i64) {
+        self.sum += change(oldest, *newest);
     }
 }
 
@@ -42,6 +43,17 @@ impl Summed<i64> for Sum {
 
     fn sum(&self) -> i128 {
         self.sum
+    }
+}
+
+// Returns by how much a sum changes as `oldest`, if there is one, goes and `newest` comes.
+#[inline]
+fn change(oldest: &Option<i64>, newest: i64) -> i128
+    ensures { result ≡ newest -ℤ total (option_to_list oldest.now) }
+{
+    match oldest {
+        Some(item) => i128::from(newest) - i128::from(*item),
+        None => i128::from(newest),
     }
 }
 

@@ -68,7 +68,7 @@ impl<T: Copy, S: Tally<T>, R: RingBuffer<T>> WindowTally<T, S, R> {
         let overwritten = self.ring.push(item)?;
         // And that there still are.
         let _ = self.ring.len();
-        slide(&mut self.counted, &overwritten, &item);
+        self.counted.slide(&overwritten, &item);
         Ok(overwritten)
     }
 
@@ -157,21 +157,5 @@ fn let_go_of<T: Copy, S: Tally<T>>(counted: &mut CountedTally<S>, oldest: &Optio
 {
     if let Some(item) = oldest {
         counted.let_go(item);
-    }
-}
-
-// Takes `newest` into the tally, and lets `oldest`, if an item left, go from it.
-#[inline]
-fn slide<T: Copy, S: Tally<T>>(counted: &mut CountedTally<S>, oldest: &Option<T>, newest: &T)
-    requires { (xs : List T) × S.tells counted.old.tally (option_to_list oldest.now ++ xs)
-        × (length xs + 1 < 2 ^ 64) }
-    ensures tells { (xs : List T) → S.tells counted.old.tally (option_to_list oldest.now ++ xs)
-        → S.tells counted.new.tally (xs ++ newest.now ∷ []) }
-    ensures taken_in { counted.new.taken_in ≡ counted.old.taken_in + 1 }
-    ensures let_go { counted.new.let_go ≡ counted.old.let_go + length (option_to_list oldest.now) }
-{
-    match oldest {
-        Some(item) => counted.slide(item, newest),
-        None => counted.take_in(newest),
     }
 }

@@ -48,9 +48,21 @@ fn fold_after_a_refused_push(rt: HostRuntime) {
     drop(drought);
     assert_equal(&rt, refused, Err(Gcd(7)));
     assert_equal(&rt, (window.len(), window.fold()), (room, Gcd(2)));
-    assert_equal(&rt, (window.dequeue(), window.fold()), (Some(Gcd(12)), Gcd(2)));
-    assert_equal(&rt, (window.dequeue(), window.fold()), (Some(Gcd(18)), Gcd(20)));
-    assert_equal(&rt, (window.push(Gcd(7)), window.fold()), (Ok(None), Gcd(1)));
+    assert_equal(
+        &rt,
+        (window.dequeue(), window.fold()),
+        (Some(Gcd(12)), Gcd(2)),
+    );
+    assert_equal(
+        &rt,
+        (window.dequeue(), window.fold()),
+        (Some(Gcd(18)), Gcd(20)),
+    );
+    assert_equal(
+        &rt,
+        (window.push(Gcd(7)), window.fold()),
+        (Ok(None), Gcd(1)),
+    );
 }
 
 #[test]
@@ -67,7 +79,19 @@ fn least_after_a_refused_push(rt: HostRuntime) {
     drop(drought);
     assert_equal(&rt, refused, Err(-8));
     assert_equal(&rt, (window.len(), window.min().copied()), (room, Some(-7)));
-    assert_equal(&rt, (window.dequeue(), window.min().copied()), (Some(5), Some(-7)));
-    assert_equal(&rt, (window.dequeue(), window.min().copied()), (Some(-7), Some(9)));
-    assert_equal(&rt, (window.push(-8), window.min().copied()), (Ok(None), Some(-8)));
+    assert_equal(
+        &rt,
+        (window.dequeue(), window.min().copied()),
+        (Some(5), Some(-7)),
+    );
+    assert_equal(
+        &rt,
+        (window.dequeue(), window.min().copied()),
+        (Some(-7), Some(9)),
+    );
+    assert_equal(
+        &rt,
+        (window.push(-8), window.min().copied()),
+        (Ok(None), Some(-8)),
+    );
 }

@@ -9,9 +9,9 @@ invariant_of-self g c =
     let ks = g.R.RingBuffer.contents c.before_push.new.ring in
     let limit = g.R.RingBuffer.limit c.before_push.new.ring in
     let k = c.new.result in
-    let more = one_more g.met.M.Monoid.laws k (rw c.new.ensures.item c.combined-newer.ensures.later) c.before_push.ensures.holds in
+    let more = one_more g.met.M.Monoid.laws k (rw c.new.ensures c.combined-newer.ensures.later) c.before_push.ensures.holds in
     let all : option_to_list c.in-Ok.overwritten ++ keep_last limit (ks ++ k ∷ []) ≡ ks ++ k ∷ [] = rw c.in-Ok.ensures.overwrites (overwritten-keep_last limit ks k c.before_push.ensures.within) in
-    rw (c.in-Ok.ensures.ok, c.let_go.ensures.newer, c.combined-newer.ensures.value, ← c.new.ensures.item)
+    rw (c.in-Ok.ensures.ok, c.let_go.ensures.newer, c.combined-newer.ensures.value, ← c.new.ensures)
     (left_by c.in-Ok.overwritten (keep_last limit (ks ++ k ∷ [])) (rw all more) c.let_go.ensures.parts)
 
 pub returns-in-Ok-clause-overwrites : goal.returns-in-Ok-clause-overwrites
@@ -21,5 +21,5 @@ returns-in-Ok-clause-overwrites g c =
 
 pub returns-in-Ok-clause-ok : goal.returns-in-Ok-clause-ok
 returns-in-Ok-clause-ok g c =
-    rw (← c.self.view_is, ← c.before_push.ensures.items, ← c.before_push.ensures.limit, c.in-Ok.ensures.ok, ← c.new.ensures.item)
+    rw (← c.self.view_is, ← c.before_push.ensures.items, ← c.before_push.ensures.limit, c.in-Ok.ensures.ok, ← c.new.ensures)
     (items-keep_last (g.R.RingBuffer.limit c.before_push.new.ring) (g.R.RingBuffer.contents c.before_push.new.ring) c.new.result)
