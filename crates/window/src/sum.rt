@@ -51,17 +51,15 @@ impl Summed<i64> for Sum {
 fn change(oldest: &Option<i64>, newest: i64) -> i128
     ensures { result ≡ newest -ℤ total (option_to_list oldest.now) }
 {
-    match oldest {
-        Some(item) => i128::from(newest) - i128::from(*item),
-        None => i128::from(newest),
-    }
+    // A 0 for no item, so that no branch is taken.
+    i128::from(newest) - i128::from(oldest.unwrap_or(0))
 }
 
 /// A window over a ring of samples, with their sum.
 pub type WindowSum<R> = WindowTally<i64, Sum, R>;
 
 impl<R: RingBuffer<i64>> WindowTally<i64, Sum, R> {
-    /// Another name for `dequeue`.
+    /// Takes out the oldest sample, as `dequeue` does.
     pub fn forget_oldest(&mut self) -> Option<i64>
         ensures value { result ≡ slice_get self.old.contents 0 }
         ensures rest { self.new.contents ≡ drop 1 self.old.contents }

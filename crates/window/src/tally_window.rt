@@ -66,7 +66,7 @@ impl<T: Copy, S: Tally<T>, R: RingBuffer<T>> WindowTally<T, S, R> {
         // Brings in that there are fewer than 2^64 items, within the limit.
         let _ = self.ring.len();
         let overwritten = self.ring.push(item)?;
-        // And that there still are.
+        // And that there still are so few.
         let _ = self.ring.len();
         self.counted.slide(&overwritten, &item);
         Ok(overwritten)
