@@ -40,7 +40,7 @@ impl RateLimiter {
         })
     }
 
-    /// Tells whether an event is let through at the time `now`, which is then remembered.
+    /// Returns whether an event is let through at the time `now`, which is then remembered.
     pub fn allow(&mut self, now: u64) -> bool
         ensures room { length self.old.times < self.old.most → IsTrue result }
         ensures full { (oldest : ℕ) → length self.old.times ≡ self.old.most
@@ -57,7 +57,7 @@ impl RateLimiter {
         true
     }
 
-    // Tells whether the oldest event is less than the span ago.
+    // Returns whether, at the time `now`, the oldest event is less than the span ago.
     fn is_too_soon(&self, now: u64) -> bool
         ensures { (oldest : ℕ) → slice_get self.now.times 0 ≡ Some oldest
             → IsTrue result ↔ (now - oldest < self.now.span) }

@@ -54,7 +54,7 @@ impl<const N: usize> Window<N> {
         }
     }
 
-    /// Counts the samples that the window holds.
+    /// Returns how many samples the window holds.
     pub fn count(&self) -> usize
         ensures value { result ≡ length self.now }
         ensures within { result ≤ N }

@@ -1,5 +1,7 @@
 //! Windows over each type of ring.
 
+mod refused;
+
 use ringbuffer::{AllocRingBuffer, ConstGenericRingBuffer, GrowableAllocRingBuffer, RingBuffer};
 use std::collections::VecDeque;
 use std::fmt::Debug;

@@ -1,5 +1,5 @@
 -- How a ladder changes as an item leaves and one comes.
-use Rattle.std.proofs.Common.{◌≡◌, ◌⊎◌, ℕ, zero, suc, ◌+◌, ◌-◌, ◌<◌, ◌≤◌, List, [], ◌∷◌, ◌++◌, length, take, drop, All, Option, None, Some, inl, inr, refl, ap, sym, ◌∙◌, add-one, arith, length-append, length-drop, slice_get, slice_set}
+use Rattle.std.proofs.Common.{◌≡◌, ◌≢◌, ◌⊎◌, ℕ, zero, suc, ◌+◌, ◌-◌, ◌<◌, ◌≤◌, List, [], ◌∷◌, ◌++◌, length, take, drop, All, Option, None, Some, inl, inr, refl, ap, sym, ◌∙◌, add-one, arith, length-append, length-drop, slice_get, slice_set}
 use Rattle.std.proofs.lemmas.List.{length-map, length-set, map-append, drop-append-le, drop-set-add, drop_all, set-append_left, take-append-le, take_all}
 use Rattle.std.proofs.lemmas.List.Elements.{All-cons, All-head, All-nil, All-push, All-tail, All-weaker}
 use Rattle.std.proofs.lemmas.Option.{slice_get_within, slice_get-map}
@@ -34,11 +34,12 @@ set_read (z ∷ xs) zero x y at = refl
 set_read (z ∷ xs) (suc i) x y at = set_read xs i x y at
 
 -- Another is as it was.
-pub set_other : {A : Type 0} (xs : List A) (i j : ℕ) (y : A) → j < i → slice_get (slice_set xs i y) j ≡ slice_get xs j
-set_other [] i j y before = refl
-set_other (z ∷ xs) zero j y before = absurd (omega arith)
-set_other (z ∷ xs) (suc i) zero y before = refl
-set_other (z ∷ xs) (suc i) (suc j) y before = set_other xs i j y (omega arith)
+pub set_other : {A : Type 0} (xs : List A) (i j : ℕ) (y : A) → j ≢ i → slice_get (slice_set xs i y) j ≡ slice_get xs j
+set_other [] i j y other = refl
+set_other (z ∷ xs) zero zero y other = absurd (other refl)
+set_other (z ∷ xs) zero (suc j) y other = refl
+set_other (z ∷ xs) (suc i) zero y other = refl
+set_other (z ∷ xs) (suc i) (suc j) y other = set_other xs i j y (omega arith)
 
 -- What follows a written place is as it was.
 pub drop_past_set : {A : Type 0} (xs : List A) (i : ℕ) (y : A) → drop (suc i) (slice_set xs i y) ≡ drop (suc i) xs
@@ -260,13 +261,13 @@ module _ {T : Type 0} {cmp : T → T → Ordering} (o : IsTotalOrder cmp) where
     go (d ∷ ds) more ladder first_is = absurd (omega (arith, first_is))
 
   -- The newest begins to climb.
-  pub reaches : (all rs : List (Rung T)) (r : Rung T) (first compared most : ℕ) → all ≡ rs ++ r ∷ [] → HoldsLadder cmp rs first compared most → Reaches cmp all first 1 compared most
-  reaches all rs r first compared most is holds = record {
+  pub reaches : (all rs : List (Rung T)) (r : Rung T) (first left compared most : ℕ) → all ≡ rs ++ r ∷ [] → left + 1 ≡ length all → HoldsLadder cmp rs first compared most → Reaches cmp all first left compared most
+  reaches all rs r first left compared most is left_is holds = record {
     rs = rs;
     r = r;
     all_is = is;
     k = 0;
-    behind_is = refl;
+    left_is = omega (arith, left_is, ap length is, length-append rs (r ∷ []));
     places = holds.places;
     more = holds.more;
     climbs = begins r.item holds.more holds.places rs holds.is_ladder;
@@ -275,13 +276,13 @@ module _ {T : Type 0} {cmp : T → T → Ordering} (o : IsTotalOrder cmp) where
   }
 
   -- Other counts serve as well where they are as far apart.
-  abbrev recounted : {all : List (Rung T)} {first behind compared most : ℕ} (so : Reaches cmp all first behind compared most) (compared' most' : ℕ) → compared' + length so.places ≤ most' → Reaches cmp all first behind compared' most'
+  abbrev recounted : {all : List (Rung T)} {first left compared most : ℕ} (so : Reaches cmp all first left compared most) (compared' most' : ℕ) → compared' + length so.places ≤ most' → Reaches cmp all first left compared' most'
   recounted so compared' most' counted = record {
     rs = so.rs;
     r = so.r;
     all_is = so.all_is;
     k = so.k;
-    behind_is = so.behind_is;
+    left_is = so.left_is;
     places = so.places;
     more = so.more;
     climbs = so.climbs;
@@ -293,14 +294,14 @@ module _ {T : Type 0} {cmp : T → T → Ordering} (o : IsTotalOrder cmp) where
   pub recounted_to : {rs : List (Rung T)} {first compared most most' : ℕ} → HoldsLadder cmp rs first compared most → most ≤ most' → HoldsLadder cmp rs first compared most'
   recounted_to is more = record { places = is.places; more = is.more; is_ladder = is.is_ladder; first_is = is.first_is; counted = omega (arith, is.counted, more) }
 
-  -- What the place tells that is so far behind the newest, once its item was compared with the newest.
-  pub record Seen (all : List (Rung T)) (first behind n at compared most : ℕ) (so : Reaches cmp all first behind compared most) : Type 0 where
+  -- What the last place tells of those that are left, once its item was compared with the newest.
+  pub record Seen (all : List (Rung T)) (first left n compared most : ℕ) (so : Reaches cmp all first left compared most) : Type 0 where
     pub last : Rung T
-    pub read : slice_get all at ≡ Some last
+    pub read : slice_get all (left - 1) ≡ Some last
     pub read_newest : slice_get all (n - 1) ≡ Some so.r
-    pub stops : AtMost cmp last.item so.r.item → Stops cmp all first behind (compared + 1) (most + 1)
-    pub ends_at : at + 1 ≡ first → IsBelow cmp so.r.item last.item → Stops cmp all first n (compared + 1) (most + 1)
-    pub goes : (at + 1 ≡ first → ⊥) → IsBelow cmp so.r.item last.item → (behind + last.behind ≤ n) × (0 < last.behind) × Reaches cmp all first (behind + last.behind) (compared + 1) most
+    pub stops : AtMost cmp last.item so.r.item → Stops cmp all first left (compared + 1) (most + 1)
+    pub ends_at : left ≡ first → IsBelow cmp so.r.item last.item → Stops cmp all first 0 (compared + 1) (most + 1)
+    pub goes : (left ≡ first → ⊥) → IsBelow cmp so.r.item last.item → (last.behind ≤ left) × (0 < last.behind) × Reaches cmp all first (left - last.behind) (compared + 1) most
 
   below_top : (x : T) (k more : ℕ) (ds : List ℕ) (rs : List (Rung T)) → Climbs cmp x k more ds rs → k ≤ length rs
   below_top x k more [] rs c = omega (arith, c.0)
@@ -312,21 +313,21 @@ module _ {T : Type 0} {cmp : T → T → Ordering} (o : IsTotalOrder cmp) where
   not_empty [] d e = let none : d ∷ [] ≡ [] = e in cc
   not_empty (x ∷ pre) d e = let none : x ∷ (pre ++ d ∷ []) ≡ [] = e in cc
 
-  pub seen : (all : List (Rung T)) (first behind n compared most : ℕ) (so : Reaches cmp all first behind compared most) → n ≡ length all → behind < n → Seen all first behind n (n - 1 - behind) compared most so
-  seen all first behind n compared most so n_is more_left = elim (ends so.places) [ inl none ↦ absurd (all_climbed none) | inr e ↦ named e.0 e.1 e.2 ] where
+  pub seen : (all : List (Rung T)) (first left n compared most : ℕ) (so : Reaches cmp all first left compared most) → n ≡ length all → 0 < left → Seen all first left n compared most so
+  seen all first left n compared most so n_is more_left = elim (ends so.places) [ inl none ↦ absurd (all_climbed none) | inr e ↦ named e.0 e.1 e.2 ] where
     long : n ≡ length so.rs + 1
     long = n_is ∙ ap length so.all_is ∙ length-append so.rs (so.r ∷ [])
 
     all_climbed : so.places ≡ [] → ⊥
     all_climbed none =
         let c : Climbs cmp so.r.item so.k so.more [] so.rs = rw none at so.climbs in
-        omega (arith, c.0, long, more_left, so.behind_is)
+        omega (arith, c.0, long, more_left, so.left_is)
 
-    named : (pre : List ℕ) (d : ℕ) → so.places ≡ pre ++ d ∷ [] → Seen all first behind n (n - 1 - behind) compared most so
+    named : (pre : List ℕ) (d : ℕ) → so.places ≡ pre ++ d ∷ [] → Seen all first left n compared most so
     named pre d is =
         let c : Climbs cmp so.r.item so.k so.more (pre ++ d ∷ []) so.rs = rw is at so.climbs in
         let it = the_last so.r.item so.k so.more pre d so.rs c in
-        let at_p : n - 1 - behind ≡ it.p = omega (arith, it.from_end, long, so.behind_is) in
+        let at_p : left - 1 ≡ it.p = omega (arith, it.from_end, so.left_is) in
         let in_front : it.p < length so.rs = omega (arith, it.from_end) in
         let first_is : first ≡ next (pre ++ d ∷ []) = so.first_is (λ none. not_empty pre d (sym is ∙ none)) ∙ ap next is in
         let newest : n - 1 ≡ length so.rs = omega (arith, long) in
@@ -335,17 +336,17 @@ module _ {T : Type 0} {cmp : T → T → Ordering} (o : IsTotalOrder cmp) where
           read = rw (at_p, so.all_is) (slice_get-append_left it.p so.rs (so.r ∷ []) in_front ∙ it.at);
           read_newest = rw newest (rw so.all_is (slice_get-at so.rs so.r []));
           stops = λ h. (recounted so (compared + 1) (most + 1) (omega (arith, so.counted)), inr (it.p, it.last, it.from_end, it.at, h));
-          ends_at = λ here h. alone pre d it.p it.place first_is (omega (arith, at_p, here)) (it.popped h);
-          goes = λ not_here h. passes pre d is it.p it.place first_is (λ e. not_here (omega (arith, at_p, e))) it.last it.says (it.popped h);
+          ends_at = λ here h. alone pre d it.p it.place first_is (omega (arith, at_p, more_left, here)) (it.popped h);
+          goes = λ not_here h. passes pre d is it.p it.place first_is (λ e. not_here (omega (arith, at_p, more_left, e))) it.last it.says (it.popped h);
         } where
-          alone : (pre : List ℕ) (d p : ℕ) → Behind pre d p → first ≡ next (pre ++ d ∷ []) → p + 1 ≡ first → Climbs cmp so.r.item (so.k + suc d) so.more pre so.rs → Stops cmp all first n (compared + 1) (most + 1)
+          alone : (pre : List ℕ) (d p : ℕ) → Behind pre d p → first ≡ next (pre ++ d ∷ []) → p + 1 ≡ first → Climbs cmp so.r.item (so.k + suc d) so.more pre so.rs → Stops cmp all first 0 (compared + 1) (most + 1)
           alone [] d p place first_is here popped = (
             record {
               rs = so.rs;
               r = so.r;
               all_is = so.all_is;
               k = so.k + suc d;
-              behind_is = omega (arith, popped.0, long);
+              left_is = omega (arith, popped.0);
               places = [];
               more = so.more;
               climbs = popped;
@@ -357,18 +358,18 @@ module _ {T : Type 0} {cmp : T → T → Ordering} (o : IsTotalOrder cmp) where
           alone (e ∷ pre) d p place first_is here popped = absurd (omega (arith, place, first_is, here))
 
           passes : (pre : List ℕ) (d : ℕ) → so.places ≡ pre ++ d ∷ [] → (p : ℕ) → Behind pre d p → first ≡ next (pre ++ d ∷ []) → (p + 1 ≡ first → ⊥) → (last : Rung T) → last.behind ≡ suc d + slack so.more pre → Climbs cmp so.r.item (so.k + suc d) so.more pre so.rs
-              → (behind + last.behind ≤ n) × (0 < last.behind) × Reaches cmp all first (behind + last.behind) (compared + 1) most
+              → (last.behind ≤ left) × (0 < last.behind) × Reaches cmp all first (left - last.behind) (compared + 1) most
           passes [] d is p place first_is not_here last says popped = absurd (not_here (omega (arith, place, first_is)))
           passes (e ∷ pre) d is p place first_is not_here last says popped =
               let fits = below_top so.r.item (so.k + suc d) so.more (e ∷ pre) so.rs popped in (
-                omega (arith, fits, says, long, so.behind_is),
+                omega (arith, fits, says, so.left_is),
                 omega (arith, says),
                 record {
                   rs = so.rs;
                   r = so.r;
                   all_is = so.all_is;
                   k = so.k + suc d;
-                  behind_is = omega (arith, says, so.behind_is);
+                  left_is = omega (arith, fits, says, so.left_is);
                   places = e ∷ pre;
                   more = so.more;
                   climbs = popped;
@@ -378,69 +379,70 @@ module _ {T : Type 0} {cmp : T → T → Ordering} (o : IsTotalOrder cmp) where
               )
 
   -- Where the newest is the least, it is the whole ladder.
-  pub joins_alone : (all : List (Rung T)) (first behind n compared most : ℕ) → n ≡ length all → Stops cmp all first behind compared most → behind ≡ n
-      → (r : Rung T) × (slice_get all (n - 1) ≡ Some r) × HoldsLadder cmp (slice_set all (n - 1) (record r { behind = behind; ahead = 0 })) n compared (most + 1)
-      × (items_on (slice_set all (n - 1) (record r { behind = behind; ahead = 0 })) ≡ items_on all)
-  joins_alone all first behind n compared most n_is (so, stop) whole =
+  pub joins_alone : (all : List (Rung T)) (first left n compared most : ℕ) → n ≡ length all → Stops cmp all first left compared most → left ≡ 0
+      → (r : Rung T) × (slice_get all (n - 1) ≡ Some r) × HoldsLadder cmp (slice_set all (n - 1) (record r { behind = n - left; ahead = 0 })) n compared (most + 1)
+      × (items_on (slice_set all (n - 1) (record r { behind = n - left; ahead = 0 })) ≡ items_on all)
+  joins_alone all first left n compared most n_is (so, stop) whole =
       let long : n ≡ length so.rs + 1 = n_is ∙ ap length so.all_is ∙ length-append so.rs (so.r ∷ []) in
       let newest : n - 1 ≡ length so.rs = omega (arith, long) in
-      let q : Rung T = record so.r { behind = behind; ahead = 0 } in
+      let q : Rung T = record so.r { behind = n - left; ahead = 0 } in
       let written : slice_set all (n - 1) q ≡ so.rs ++ q ∷ [] = rw newest (rw so.all_is (set-append_seam so.rs so.r [] q)) in
-      let below : All (IsBelow cmp so.r.item) (items_on so.rs) = elim stop [ inl none ↦ (let c : Climbs cmp so.r.item so.k so.more [] so.rs = rw none at so.climbs in c.1) | inr e ↦ absurd (omega (arith, e.2, long, whole, so.behind_is)) ] in (
+      let below : All (IsBelow cmp so.r.item) (items_on so.rs) = elim stop [ inl none ↦ (let c : Climbs cmp so.r.item so.k so.more [] so.rs = rw none at so.climbs in c.1) | inr e ↦ absurd (omega (arith, e.2, long, whole, so.left_is)) ] in (
         so.r,
         rw newest (rw so.all_is (slice_get-at so.rs so.r [])),
         record {
           places = so.k ∷ [];
           more = 0;
-          is_ladder = rw written (top so.k so.rs q (omega (arith, long, whole, so.behind_is)) below so.behind_is refl);
-          first_is = omega (arith, whole, so.behind_is);
+          is_ladder = rw written (top so.k so.rs q (omega (arith, long, whole, so.left_is)) below (omega (arith, long, so.left_is)) refl);
+          first_is = omega (arith, whole, so.left_is);
           counted = omega (arith, so.counted);
         },
         rw written (map-append item_on so.rs (q ∷ []) ∙ sym (ap items_on so.all_is ∙ map-append item_on so.rs (so.r ∷ []))),
       )
 
   -- Else it comes after the last that is still named.
-  pub joins_after : (all : List (Rung T)) (first behind n compared most : ℕ) → n ≡ length all → Stops cmp all first behind compared most → (behind ≡ n → ⊥)
-      → (r last : Rung T) × (slice_get all (n - 1) ≡ Some r) × (suc behind ≤ n)
-      × (slice_get (slice_set all (n - 1) (record r { behind = behind; ahead = 0 })) (n - 1 - behind) ≡ Some last)
-      × HoldsLadder cmp (slice_set (slice_set all (n - 1) (record r { behind = behind; ahead = 0 })) (n - 1 - behind) (record last { ahead = behind })) first compared (most + 1)
-      × (items_on (slice_set (slice_set all (n - 1) (record r { behind = behind; ahead = 0 })) (n - 1 - behind) (record last { ahead = behind })) ≡ items_on all)
-  joins_after all first behind n compared most n_is (so, stop) not_whole = elim (ends so.places) [ inl none ↦ absurd (all_climbed none) | inr e ↦ named e.0 e.1 e.2 stop ] where
+  pub joins_after : (all : List (Rung T)) (first left n compared most : ℕ) → n ≡ length all → Stops cmp all first left compared most → (left ≡ 0 → ⊥)
+      → (r last : Rung T) × (slice_get all (n - 1) ≡ Some r) × (left - 1 < n)
+      × (slice_get (slice_set all (n - 1) (record r { behind = n - left; ahead = 0 })) (left - 1) ≡ Some last)
+      × HoldsLadder cmp (slice_set (slice_set all (n - 1) (record r { behind = n - left; ahead = 0 })) (left - 1) (record last { ahead = n - left })) first compared (most + 1)
+      × (items_on (slice_set (slice_set all (n - 1) (record r { behind = n - left; ahead = 0 })) (left - 1) (record last { ahead = n - left })) ≡ items_on all)
+  joins_after all first left n compared most n_is (so, stop) not_whole = elim (ends so.places) [ inl none ↦ absurd (all_climbed none) | inr e ↦ named e.0 e.1 e.2 stop ] where
     long : n ≡ length so.rs + 1
     long = n_is ∙ ap length so.all_is ∙ length-append so.rs (so.r ∷ [])
 
     all_climbed : so.places ≡ [] → ⊥
     all_climbed none =
         let c : Climbs cmp so.r.item so.k so.more [] so.rs = rw none at so.climbs in
-        not_whole (omega (arith, c.0, long, so.behind_is))
+        not_whole (omega (arith, c.0, long, so.left_is))
 
     named : (pre : List ℕ) (d : ℕ) → so.places ≡ pre ++ d ∷ [] → (so.places ≡ []) ⊎ ((p : ℕ) × (last : Rung T) × (p + 1 + so.k ≡ length so.rs) × (slice_get so.rs p ≡ Some last) × AtMost cmp last.item so.r.item)
-        → (r last : Rung T) × (slice_get all (n - 1) ≡ Some r) × (suc behind ≤ n)
-        × (slice_get (slice_set all (n - 1) (record r { behind = behind; ahead = 0 })) (n - 1 - behind) ≡ Some last)
-        × HoldsLadder cmp (slice_set (slice_set all (n - 1) (record r { behind = behind; ahead = 0 })) (n - 1 - behind) (record last { ahead = behind })) first compared (most + 1)
-        × (items_on (slice_set (slice_set all (n - 1) (record r { behind = behind; ahead = 0 })) (n - 1 - behind) (record last { ahead = behind })) ≡ items_on all)
+        → (r last : Rung T) × (slice_get all (n - 1) ≡ Some r) × (left - 1 < n)
+        × (slice_get (slice_set all (n - 1) (record r { behind = n - left; ahead = 0 })) (left - 1) ≡ Some last)
+        × HoldsLadder cmp (slice_set (slice_set all (n - 1) (record r { behind = n - left; ahead = 0 })) (left - 1) (record last { ahead = n - left })) first compared (most + 1)
+        × (items_on (slice_set (slice_set all (n - 1) (record r { behind = n - left; ahead = 0 })) (left - 1) (record last { ahead = n - left })) ≡ items_on all)
     named pre d is (inl none) = absurd (all_climbed none)
     named pre d is (inr (p, last, from_end, at, over)) =
         let c : Climbs cmp so.r.item so.k so.more (pre ++ d ∷ []) so.rs = rw is at so.climbs in
         let it = the_last so.r.item so.k so.more pre d so.rs c in
         let p_is : p ≡ it.p = omega (arith, it.from_end, from_end) in
         let last_is : it.last ≡ last = let both : Some it.last ≡ Some last = sym it.at ∙ (rw p_is at at) in cc in
-        let q : Rung T = record so.r { behind = behind; ahead = 0 } in
+        let far : n - left ≡ suc so.k = omega (arith, long, from_end, so.left_is) in
+        let q : Rung T = record so.r { behind = n - left; ahead = 0 } in
         let l : Rung T = record it.last { ahead = suc so.k } in
         let newest : n - 1 ≡ length so.rs = omega (arith, long) in
-        let at_p : n - 1 - behind ≡ it.p = omega (arith, it.from_end, long, so.behind_is) in
+        let at_p : left - 1 ≡ it.p = omega (arith, it.from_end, so.left_is) in
         let in_front : it.p < length so.rs = omega (arith, it.from_end) in
         let written : slice_set all (n - 1) q ≡ so.rs ++ q ∷ [] = rw newest (rw so.all_is (set-append_seam so.rs so.r [] q)) in
-        let both : slice_set (so.rs ++ q ∷ []) it.p (record it.last { ahead = behind }) ≡ slice_set so.rs it.p l ++ q ∷ [] = set-append_left so.rs (q ∷ []) it.p (record it.last { ahead = behind }) in_front ∙ ap (λ b. slice_set so.rs it.p (record it.last { ahead = b }) ++ q ∷ []) so.behind_is in (
+        let both : slice_set (so.rs ++ q ∷ []) it.p (record it.last { ahead = n - left }) ≡ slice_set so.rs it.p l ++ q ∷ [] = set-append_left so.rs (q ∷ []) it.p (record it.last { ahead = n - left }) in_front ∙ ap (λ b. slice_set so.rs it.p (record it.last { ahead = b }) ++ q ∷ []) far in (
           so.r,
           it.last,
           rw newest (rw so.all_is (slice_get-at so.rs so.r [])),
-          omega (arith, long, from_end, so.behind_is),
+          omega (arith, long, from_end, so.left_is),
           rw (written, at_p) (slice_get-append_left it.p so.rs (q ∷ []) in_front ∙ it.at),
           record {
             places = pre ++ d ∷ so.k ∷ [];
             more = so.more;
-            is_ladder = rw (written, at_p, both) (it.stopped q refl so.behind_is refl (rw last_is over));
+            is_ladder = rw (written, at_p, both) (it.stopped q refl far refl (rw last_is over));
             first_is = so.first_is all_climbed ∙ ap next is ∙ next-append pre d so.k;
             counted = omega (arith, so.counted, ap length is, length-append pre (d ∷ []), length-append pre (d ∷ so.k ∷ []));
           },
@@ -448,13 +450,13 @@ module _ {T : Type 0} {cmp : T → T → Ordering} (o : IsTotalOrder cmp) where
         )
 
   -- A climb to the oldest item names none.
-  pub climbed : (all : List (Rung T)) (first behind compared most : ℕ) → Reaches cmp all first behind compared most → length all ≤ behind → Stops cmp all first behind compared (most + 1)
-  climbed all first behind compared most so whole = (recounted so compared (most + 1) (omega (arith, so.counted)), inl (elim (ends so.places) [ inl none ↦ none | inr e ↦ absurd (named e.0 e.1 e.2) ])) where
+  pub climbed : (all : List (Rung T)) (first left compared most : ℕ) → Reaches cmp all first left compared most → left ≡ 0 → Stops cmp all first left compared (most + 1)
+  climbed all first left compared most so whole = (recounted so compared (most + 1) (omega (arith, so.counted)), inl (elim (ends so.places) [ inl none ↦ none | inr e ↦ absurd (named e.0 e.1 e.2) ])) where
     named : (pre : List ℕ) (d : ℕ) → so.places ≡ pre ++ d ∷ [] → ⊥
     named pre d is =
         let c : Climbs cmp so.r.item so.k so.more (pre ++ d ∷ []) so.rs = rw is at so.climbs in
         let it = the_last so.r.item so.k so.more pre d so.rs c in
-        omega (arith, it.from_end, whole, so.behind_is, ap length so.all_is, length-append so.rs (so.r ∷ []))
+        omega (arith, it.from_end, whole, so.left_is)
 
   -- Where some are ranked after a place, the first of them is read so far ahead.
   pub first_read : (all : List (Rung T)) (at first compared most : ℕ) → IsRanked cmp (drop (at + 1) all) first compared most → 0 < first → (y : Rung T) × (slice_get all (at + first) ≡ Some y)

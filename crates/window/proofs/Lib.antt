@@ -4,5 +4,4 @@ pub mod Orders
 pub mod Pushed
 pub mod Squares
 pub mod Sums
-mod Walk
 pub mod WorkedSums

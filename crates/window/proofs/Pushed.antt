@@ -1,10 +1,11 @@
 -- What a push leaves of a window's items before the pushed one, and what a walk reads.
 use Rattle.std.proofs.Common.{◌≡◌, ℕ, zero, suc, ◌+◌, ◌-◌, ◌<◌, ◌≤◌, List, [], ◌∷◌, ◌++◌, length, take, drop, Option, None, Some, option_to_list, slice_get, refl, ap, sym, ◌∙◌, arith, length-append}
 use Rattle.std.proofs.lemmas.List.{drop-append-le}
+use Rattle.std.proofs.lemmas.Option.{slice_get_within}
 use Rattle.std.proofs.Math.Nat.{mod-eq_of_lt}
 use Rattle.std.specs.Borrow.{Bor}
 use Rattle.std.specs.Option.{option_copied}
-use Rattle.ringbuffer.specs.Contents.{IsWithin, keep_last, overwritten, place}
+use Rattle.ringbuffer.specs.Contents.{IsWithin, keep_last, overwritten, index_at}
 
 -- what stays of the items as one more comes
 pub stay : {A : Type 0} → Option ℕ → List A → List A
@@ -43,3 +44,9 @@ some_read (x ∷ xs) (suc i) below = some_read xs i (omega arith)
 -- What is read at a place below the length stands there.
 pub read_here : {A : Type 0} (xs : List A) (i : ℕ) (o : Option (Bor A)) (x : Bor A) → i < length xs → option_copied o ≡ slice_get xs (index_at (length xs) i) → o ≡ Some x → slice_get xs i ≡ Some x.now
 read_here xs i o x below copied is = rw (mod-eq_of_lt below) at (sym copied) ∙ ap option_copied is
+
+-- It is what is known to stand there.
+pub read_is : {A : Type 0} (xs : List A) (i : ℕ) (o : Option (Bor A)) (x : Bor A) (y : A) → option_copied o ≡ slice_get xs (index_at (length xs) i) → o ≡ Some x → slice_get xs i ≡ Some y → x.now ≡ y
+read_is xs i o x y copied is there =
+    let both : Some x.now ≡ Some y = sym (read_here xs i o x (slice_get_within xs i y there) copied is) ∙ there in
+    cc

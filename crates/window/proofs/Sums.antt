@@ -1,5 +1,5 @@
 -- Sums of lists, and how a push and a dequeue change them.
-use Rattle.std.proofs.Common.{◌≡◌, ◌*◌, ◌^◌, ◌≤◌, ℤ, pos, ◌+ℤ◌, ◌-ℤ◌, ◌≤ℤ◌, neg_ℤ, List, [], ◌∷◌, ◌++◌, length, All, sym, arith, fold}
+use Rattle.std.proofs.Common.{◌≡◌, ◌*◌, ◌^◌, ◌≤◌, ℤ, pos, ◌+ℤ◌, ◌-ℤ◌, ◌≤ℤ◌, neg_ℤ, List, [], ◌∷◌, ◌++◌, Option, None, Some, option_to_list, length, All, sym, arith, fold}
 use Rattle.std.specs.Prelude.{FitsSigned}
 use Rattle.std.specs.Int.{w64, w128}
 use Rattle.std.proofs.lemmas.Int.{ints}
@@ -48,3 +48,8 @@ IsSumOf-rest {xs} {sum} {x} is takes = record {
   summed = omega (arith, ints, takes, is.summed, total-cons x xs);
   in_range = All-tail (FitsSigned w64) x xs is.in_range;
 }
+
+-- Behind what was in front, which is one sample at most, the sum is so much less.
+pub IsSumOf-behind : {xs : List ℤ} {sum less : ℤ} (front : Option ℤ) → IsSumOf (option_to_list front ++ xs) sum → less ≡ sum -ℤ total (option_to_list front) → IsSumOf xs less
+IsSumOf-behind None is takes = record { summed = omega (arith, ints, takes, is.summed); in_range = is.in_range }
+IsSumOf-behind (Some x) is takes = IsSumOf-rest is (omega (arith, ints, takes))

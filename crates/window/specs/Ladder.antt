@@ -55,13 +55,13 @@ Climbs cmp x k more [] rs = (length rs ≡ k) × All (IsBelow cmp x) (items_on r
 Climbs {T} cmp x k more (d ∷ ds) rs =
     (r : Rung T) × (slice_get rs d ≡ Some r) × (r.behind ≡ suc d + more) × LeadsTo r ds × IsLeastFrom cmp r.item d (items_on rs) × Climbs cmp x k 0 ds (drop (suc d) rs)
 
--- the newest is below the last items before it, so many with itself as `behind` says, and of these none is named any more
-pub record Reaches {T : Type 0} (cmp : T → T → Ordering) (all : List (Rung T)) (first behind compared most : ℕ) : Type 0 where
+-- the newest is below the last items before it, all but so many as are left, and of these none is named any more
+pub record Reaches {T : Type 0} (cmp : T → T → Ordering) (all : List (Rung T)) (first left compared most : ℕ) : Type 0 where
   pub rs : List (Rung T)
   pub r : Rung T
   pub all_is : all ≡ rs ++ r ∷ []
   pub k : ℕ
-  pub behind_is : behind ≡ suc k
+  pub left_is : left + k ≡ length rs
   pub places : List ℕ
   pub more : ℕ
   pub climbs : Climbs cmp r.item k more places rs
@@ -70,5 +70,5 @@ pub record Reaches {T : Type 0} (cmp : T → T → Ordering) (all : List (Rung T
 
 -- and the last that is still named is not above it, if there is one
 abbrev pub Stops : {T : Type 0} → (T → T → Ordering) → List (Rung T) → ℕ → ℕ → ℕ → ℕ → Type 0
-Stops {T} cmp all first behind compared most =
-    (so : Reaches cmp all first behind compared most) × ((so.places ≡ []) ⊎ ((p : ℕ) × (last : Rung T) × (p + 1 + so.k ≡ length so.rs) × (slice_get so.rs p ≡ Some last) × AtMost cmp last.item so.r.item))
+Stops {T} cmp all first left compared most =
+    (so : Reaches cmp all first left compared most) × ((so.places ≡ []) ⊎ ((p : ℕ) × (last : Rung T) × (p + 1 + so.k ≡ length so.rs) × (slice_get so.rs p ≡ Some last) × AtMost cmp last.item so.r.item))

@@ -1,3 +1,4 @@
+pub mod Counts
 pub mod Extremes
 pub mod Folds
 pub mod Gcd

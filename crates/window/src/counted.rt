@@ -1,7 +1,7 @@
 //! Calls that are counted: nothing else in the crate takes an item into a tally, lets one go, combines two values or compares
 //! two items.
 
-ghost use Rattle.std.specs.Prelude.{◌≡◌, ◌+◌, ◌<◌, ◌^◌, [], ◌∷◌, ◌++◌, List, length};
+ghost use Rattle.std.specs.Prelude.{◌≡◌, ◌+◌, ◌<◌, ◌^◌, [], ◌∷◌, ◌++◌, List, length, option_to_list};
 ghost use Rattle.std.specs.Ordering.{is_gt};
 
 use crate::ghost_count::GhostCount;
@@ -23,8 +23,8 @@ impl<S> CountedTally<S> {
     where
         S: Tally<T>,
         ensures tells { S.tells result.tally [] }
-        ensures taken_in { result.taken_in.count ≡ 0 }
-        ensures let_go { result.let_go.count ≡ 0 }
+        ensures taken_in { result.taken_in ≡ 0 }
+        ensures let_go { result.let_go ≡ 0 }
     {
         CountedTally {
             tally: S::none(),
@@ -41,10 +41,10 @@ impl<S> CountedTally<S> {
         requires { (xs : List T) × S.tells self.old.tally xs × (length xs + 1 < 2 ^ 64) }
         ensures tells { (xs : List T) → S.tells self.old.tally xs
             → S.tells self.new.tally (xs ++ newest.now ∷ []) }
-        ensures taken_in { self.new.taken_in.count ≡ self.old.taken_in.count + 1 }
-        ensures let_go { self.new.let_go.count ≡ self.old.let_go.count }
+        ensures taken_in { self.new.taken_in ≡ self.old.taken_in + 1 }
+        ensures let_go { self.new.let_go ≡ self.old.let_go }
     {
-        self.taken_in = self.taken_in.plus(1);
+        self.taken_in.add_one();
         self.tally.take_in(newest);
     }
 
@@ -56,11 +56,30 @@ impl<S> CountedTally<S> {
         requires { (xs : List T) × S.tells self.old.tally (oldest.now ∷ xs) × (length xs + 1 < 2 ^ 64) }
         ensures tells { (xs : List T) → S.tells self.old.tally (oldest.now ∷ xs)
             → S.tells self.new.tally xs }
-        ensures taken_in { self.new.taken_in.count ≡ self.old.taken_in.count }
-        ensures let_go { self.new.let_go.count ≡ self.old.let_go.count + 1 }
+        ensures taken_in { self.new.taken_in ≡ self.old.taken_in }
+        ensures let_go { self.new.let_go ≡ self.old.let_go + 1 }
     {
-        self.let_go = self.let_go.plus(1);
+        self.let_go.add_one();
         self.tally.let_go(oldest);
+    }
+
+    /// Lets `oldest`, if there is one, go, takes in `newest`, and counts both.
+    #[inline]
+    pub(crate) fn slide<T>(&mut self, oldest: &Option<T>, newest: &T)
+    where
+        S: Tally<T>,
+        requires { (xs : List T) × S.tells self.old.tally (option_to_list oldest.now ++ xs)
+            × (length xs + 1 < 2 ^ 64) }
+        ensures tells { (xs : List T) → S.tells self.old.tally (option_to_list oldest.now ++ xs)
+            → S.tells self.new.tally (xs ++ newest.now ∷ []) }
+        ensures taken_in { self.new.taken_in ≡ self.old.taken_in + 1 }
+        ensures let_go { self.new.let_go ≡ self.old.let_go + length (option_to_list oldest.now) }
+    {
+        self.taken_in.add_one();
+        self.tally.slide(oldest, newest);
+        if oldest.is_some() {
+            self.let_go.add_one();
+        }
     }
 
     /// Forgets all items. The counts stay.
@@ -68,8 +87,8 @@ impl<S> CountedTally<S> {
     where
         S: Tally<T>,
         ensures tells { S.tells self.new.tally [] }
-        ensures taken_in { self.new.taken_in.count ≡ self.old.taken_in.count }
-        ensures let_go { self.new.let_go.count ≡ self.old.let_go.count }
+        ensures taken_in { self.new.taken_in ≡ self.old.taken_in }
+        ensures let_go { self.new.let_go ≡ self.old.let_go }
     {
         self.tally = S::none();
     }
@@ -89,9 +108,9 @@ pub(crate) fn combined<M: Monoid>(calls: &mut GhostCount, earlier: &M, later: &M
     ensures value { result ≡ M.op earlier.now later.now }
     ensures earlier { M.valid earlier.now }
     ensures later { M.valid later.now }
-    ensures calls { calls.new.count ≡ calls.old.count + 1 }
+    ensures calls { calls.new ≡ calls.old + 1 }
 {
-    *calls = calls.plus(1);
+    calls.add_one();
     earlier.combine(later)
 }
 
@@ -99,8 +118,8 @@ pub(crate) fn combined<M: Monoid>(calls: &mut GhostCount, earlier: &M, later: &M
 #[inline]
 pub(crate) fn is_above<T, O: Order<T>>(compared: &mut GhostCount, x: &T, y: &T) -> bool
     ensures value { result ≡ is_gt (O.cmp x.now y.now) }
-    ensures compared { compared.new.count ≡ compared.old.count + 1 }
+    ensures compared { compared.new ≡ compared.old + 1 }
 {
-    *compared = compared.plus(1);
+    compared.add_one();
     O::is_above(x, y)
 }

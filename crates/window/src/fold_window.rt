@@ -69,7 +69,7 @@ impl<M: Monoid, R: RingBuffer<Kept<M>>> Model for WindowFold<M, R> {
 
     ghost Value = { FoldedItems M };
 
-    ghost view = { λ w. record { contents = items (R.contents w.ring); limit = R.limit w.ring; calls = w.parts.calls.count; unfolded = length (R.contents w.ring) - w.parts.folded } };
+    ghost view = { λ w. record { contents = items (R.contents w.ring); limit = R.limit w.ring; calls = w.parts.calls; unfolded = length (R.contents w.ring) - w.parts.folded } };
 
     ghost invariant = { λ w. HoldsFolds M.valid M.neutral M.op (R.contents w.ring) w.parts.folded w.parts.older w.parts.newer };
 }
@@ -185,7 +185,7 @@ fn fold_all<M: Monoid, R: RingBuffer<Kept<M>>>(ring: &mut R, calls: &mut GhostCo
     ensures folded { AreFolded M.neutral M.op (R.contents ring.new) }
     ensures items { items (R.contents ring.new) ≡ items (R.contents ring.old) }
     ensures limit { R.limit ring.new ≡ R.limit ring.old }
-    ensures calls { calls.new.count ≡ calls.old.count + length (R.contents ring.old) }
+    ensures calls { calls.new ≡ calls.old + length (R.contents ring.old) }
 {
     let mut after = M::neutral();
     let mut at = ring.len();
@@ -209,8 +209,8 @@ fn before_push<M: Monoid, R: RingBuffer<Kept<M>>>(ring: &mut R, parts: &mut Part
     ensures items { items (R.contents ring.new) ≡ items (R.contents ring.old) }
     ensures limit { R.limit ring.new ≡ R.limit ring.old }
     ensures within { IsWithin (R.contents ring.new) (R.limit ring.new) }
-    ensures calls { parts.new.calls.count + (length (R.contents ring.new) - parts.new.folded)
-        ≡ parts.old.calls.count + (length (R.contents ring.old) - parts.old.folded) }
+    ensures calls { parts.new.calls + (length (R.contents ring.new) - parts.new.folded)
+        ≡ parts.old.calls + (length (R.contents ring.old) - parts.old.folded) }
     ensures folded { IfSome (R.limit ring.new)
         (λ n. length (R.contents ring.new) ≡ n → 0 < parts.new.folded) }
 {
@@ -229,8 +229,8 @@ fn before_dequeue<M: Monoid, R: RingBuffer<Kept<M>>>(ring: &mut R, parts: &mut P
         parts.new.older parts.new.newer }
     ensures items { items (R.contents ring.new) ≡ items (R.contents ring.old) }
     ensures limit { R.limit ring.new ≡ R.limit ring.old }
-    ensures calls { parts.new.calls.count + (length (R.contents ring.new) - parts.new.folded)
-        ≡ parts.old.calls.count + (length (R.contents ring.old) - parts.old.folded) }
+    ensures calls { parts.new.calls + (length (R.contents ring.new) - parts.new.folded)
+        ≡ parts.old.calls + (length (R.contents ring.old) - parts.old.folded) }
     ensures folded { 0 < length (R.contents ring.new) → 0 < parts.new.folded }
 {
     if parts.folded == 0 {
@@ -245,7 +245,7 @@ fn fold_parts<M: Monoid, R: RingBuffer<Kept<M>>>(ring: &mut R, parts: &mut Parts
     ensures items { items (R.contents ring.new) ≡ items (R.contents ring.old) }
     ensures limit { R.limit ring.new ≡ R.limit ring.old }
     ensures folded { parts.new.folded ≡ length (R.contents ring.new) }
-    ensures calls { parts.new.calls.count ≡ parts.old.calls.count + length (R.contents ring.old) }
+    ensures calls { parts.new.calls ≡ parts.old.calls + length (R.contents ring.old) }
 {
     parts.older = fold_all(ring, &mut parts.calls);
     parts.newer = M::neutral();

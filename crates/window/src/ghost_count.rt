@@ -1,33 +1,48 @@
 //! A count that only clauses read.
 
-ghost use Rattle.std.specs.Prelude.{◌≡◌, ℕ, ◌+◌};
-ghost use Rattle.std.specs.Borrow.{ftrue};
+ghost use Rattle.std.specs.Prelude.{◌≡◌, ◌+◌};
 
 use std::marker::Model;
+use std::snapshot::Snapshot;
+
+// Never, or once more than before.
+#[derive(Drop)]
+enum Times {
+    Never,
+    OnceMore(Snapshot<Snapshot<Times>>),
+}
 
 /// How often something was done. It takes no bytes, and no code reads it.
 #[derive(Drop)]
 pub struct GhostCount {
-    pub ghost count: { ℕ },
+    times: Snapshot<Times>,
 }
 
 impl Model for GhostCount {
-    ghost also_owns = { λ _. ftrue };
+    ghost use Rattle.std.specs.Prelude.{ℕ};
+    ghost use Rattle.window.specs.Counts.{number};
+
+    ghost Value = { ℕ };
+
+    ghost view = { λ c. number c.times.value };
 }
 
 impl GhostCount {
     /// Returns a count of 0.
     pub(crate) fn zero() -> GhostCount
-        ensures { result.count ≡ 0 }
+        ensures { result ≡ 0 }
     {
-        GhostCount {}
+        GhostCount {
+            times: Snapshot::of(&Times::Never),
+        }
     }
 
-    /// Returns the count that is higher by `more`.
+    /// Counts once more.
     #[inline]
-    pub(crate) fn plus(&self, more: usize) -> GhostCount
-        ensures { result.count ≡ self.now.count + more }
+    pub(crate) fn add_one(&mut self)
+        ensures { self.new ≡ self.old + 1 }
     {
-        GhostCount {}
+        let before = Snapshot::of(&self.times);
+        self.times = Snapshot::of(&Times::OnceMore(before));
     }
 }

@@ -76,9 +76,9 @@ impl<T: Drop, O: Order<T>, R: RingBuffer<Rung<T>>> Model for WindowLeast<T, O, R
 
     ghost Value = { RankedItems T };
 
-    ghost view = { λ w. record { contents = items_on (R.contents w.ring); limit = R.limit w.ring; pushed = w.counts.pushed.count; compared = w.counts.compared.count } };
+    ghost view = { λ w. record { contents = items_on (R.contents w.ring); limit = R.limit w.ring; pushed = w.counts.pushed; compared = w.counts.compared } };
 
-    ghost invariant = { λ w. HoldsLadder O.cmp (R.contents w.ring) w.first w.counts.compared.count (2 * w.counts.pushed.count) };
+    ghost invariant = { λ w. HoldsLadder O.cmp (R.contents w.ring) w.first w.counts.compared (2 * w.counts.pushed) };
 }
 
 impl<T: Drop, O: Order<T>, R: RingBuffer<Rung<T>>> WindowLeast<T, O, R> {
@@ -216,9 +216,9 @@ impl<T: Ord + Drop, R: RingBuffer<Rung<T>>> WindowLeast<T, Descending, R> {
 
 // Ranks all items of `ring`, from the newest on. Returns the first place of the ladder, and the counts.
 fn rank_all<T: Drop, O: Order<T>, R: RingBuffer<Rung<T>>>(ring: &mut R) -> (usize, Counts<O>)
-    ensures holds { HoldsLadder O.cmp (R.contents ring.new) result.0 result.1.compared.count
-        (2 * result.1.pushed.count) }
-    ensures pushed { result.1.pushed.count ≡ length (R.contents ring.old) }
+    ensures holds { HoldsLadder O.cmp (R.contents ring.new) result.0 result.1.compared
+        (2 * result.1.pushed) }
+    ensures pushed { result.1.pushed ≡ length (R.contents ring.old) }
     ensures items { items_on (R.contents ring.new) ≡ items_on (R.contents ring.old) }
     ensures limit { R.limit ring.new ≡ R.limit ring.old }
 {
@@ -246,16 +246,16 @@ fn rank_before<T: Drop, O: Order<T>, R: RingBuffer<Rung<T>>>(
 ) -> usize
     requires at { at < length (R.contents ring.old) }
     requires ranked { IsRanked O.cmp (drop (at + 1) (R.contents ring.old)) first
-        counts.old.compared.count (2 * counts.old.pushed.count) }
+        counts.old.compared (2 * counts.old.pushed) }
     ensures ranked { IsRanked O.cmp (drop at (R.contents ring.new)) result
-        counts.new.compared.count (2 * counts.new.pushed.count) }
-    ensures pushed { counts.new.pushed.count ≡ counts.old.pushed.count + 1 }
+        counts.new.compared (2 * counts.new.pushed) }
+    ensures pushed { counts.new.pushed ≡ counts.old.pushed + 1 }
     ensures items { items_on (R.contents ring.new) ≡ items_on (R.contents ring.old) }
     ensures limit { R.limit ring.new ≡ R.limit ring.old }
 {
     // Brings in that there are fewer than 2^64 items.
     let _ = ring.len();
-    counts.pushed = counts.pushed.plus(1);
+    counts.pushed.add_one();
     if first == 0 {
         set_links(ring, at, 1, first);
         return 1;
@@ -301,51 +301,52 @@ fn rank_newest<T: Drop, O: Order<T>, R: RingBuffer<Rung<T>>>(
     counts: &mut Counts<O>,
 )
     requires { (rs : List (Rung T)) × (r : Rung T) × (R.contents ring.old ≡ rs ++ r ∷ [])
-        × HoldsLadder O.cmp rs first.old counts.old.compared.count (2 * counts.old.pushed.count) }
-    ensures holds { HoldsLadder O.cmp (R.contents ring.new) first.new counts.new.compared.count
-        (2 * counts.new.pushed.count) }
-    ensures pushed { counts.new.pushed.count ≡ counts.old.pushed.count + 1 }
-    ensures rises { counts.old.compared.count ≤ counts.new.compared.count }
+        × HoldsLadder O.cmp rs first.old counts.old.compared (2 * counts.old.pushed) }
+    ensures holds { HoldsLadder O.cmp (R.contents ring.new) first.new counts.new.compared
+        (2 * counts.new.pushed) }
+    ensures pushed { counts.new.pushed ≡ counts.old.pushed + 1 }
+    ensures rises { counts.old.compared ≤ counts.new.compared }
     ensures items { items_on (R.contents ring.new) ≡ items_on (R.contents ring.old) }
     ensures limit { R.limit ring.new ≡ R.limit ring.old }
 {
     let len = ring.len();
-    let behind = climb(ring, *first, counts);
-    counts.pushed = counts.pushed.plus(1);
-    set_links(ring, len - 1, behind, 0);
-    if behind == len {
+    let left = climb(ring, *first, counts);
+    counts.pushed.add_one();
+    set_links(ring, len - 1, len - left, 0);
+    if left == 0 {
         *first = len;
     } else {
-        set_ahead(ring, len - 1 - behind, behind);
+        set_ahead(ring, left - 1, len - left);
     }
 }
 
-// Returns how many items, from the newest on, go down to the last one named that isn't above it, or to the oldest.
+// Returns how many items go up to the last one named that isn't above the newest, and with it; 0 where there is none.
 fn climb<T: Drop, O: Order<T>, R: RingBuffer<Rung<T>>>(
     ring: &R,
     first: usize,
     counts: &mut Counts<O>,
 ) -> usize
     requires { (rs : List (Rung T)) × (r : Rung T) × (R.contents ring.now ≡ rs ++ r ∷ [])
-        × HoldsLadder O.cmp rs first counts.old.compared.count (2 * counts.old.pushed.count) }
-    ensures stops { Stops O.cmp (R.contents ring.now) first result counts.new.compared.count
-        (2 * counts.new.pushed.count + 1) }
-    ensures pushed { counts.new.pushed.count ≡ counts.old.pushed.count }
-    ensures rises { counts.old.compared.count ≤ counts.new.compared.count }
+        × HoldsLadder O.cmp rs first counts.old.compared (2 * counts.old.pushed) }
+    ensures stops { Stops O.cmp (R.contents ring.now) first result counts.new.compared
+        (2 * counts.new.pushed + 1) }
+    ensures pushed { counts.new.pushed ≡ counts.old.pushed }
+    ensures rises { counts.old.compared ≤ counts.new.compared }
 {
     let len = ring.len();
-    let mut behind = 1;
-    while behind < len {
-        let at = len - 1 - behind;
-        if !is_above_at(ring, at, len - 1, counts) {
-            return behind;
+    let newest = ring.get(len - 1).unwrap();
+    let mut left = len - 1;
+    while left > 0 {
+        let rung = ring.get(left - 1).unwrap();
+        if !is_above::<T, O>(&mut counts.compared, &rung.item, &newest.item) {
+            return left;
         }
-        if at + 1 == first {
-            return len;
+        if left == first {
+            return 0;
         }
-        behind += behind_at(ring, at);
+        left -= rung.behind;
     }
-    behind
+    left
 }
 
 // Writes how far the item at the place `at` is behind the one named before it, and the next one ahead.
@@ -398,19 +399,10 @@ fn is_above_at<T: Drop, O: Order<T>, R: RingBuffer<Rung<T>>>(
     requires { (at < length (R.contents ring.now)) × (other < length (R.contents ring.now)) }
     ensures value { (x y : Rung T) → slice_get (R.contents ring.now) at ≡ Some x
         → slice_get (R.contents ring.now) other ≡ Some y → result ≡ is_gt (O.cmp x.item y.item) }
-    ensures compared { counts.new.compared.count ≡ counts.old.compared.count + 1 }
-    ensures pushed { counts.new.pushed.count ≡ counts.old.pushed.count }
+    ensures compared { counts.new.compared ≡ counts.old.compared + 1 }
+    ensures pushed { counts.new.pushed ≡ counts.old.pushed }
 {
     let x = ring.get(at).unwrap();
     let y = ring.get(other).unwrap();
     is_above::<T, O>(&mut counts.compared, &x.item, &y.item)
-}
-
-// Returns how far the item at the place `at` is behind the one named before it.
-#[inline]
-fn behind_at<T: Drop, R: RingBuffer<Rung<T>>>(ring: &R, at: usize) -> usize
-    requires { at < length (R.contents ring.now) }
-    ensures { (x : Rung T) → slice_get (R.contents ring.now) at ≡ Some x → result ≡ x.behind }
-{
-    ring.get(at).unwrap().behind
 }

@@ -16,6 +16,7 @@ mod monoid;
 mod order;
 mod polynomial_hash;
 mod sum;
+mod summed;
 mod tally;
 mod tally_window;
 
@@ -35,5 +36,6 @@ pub use monoid::Monoid;
 pub use order::{Ascending, Descending, Order};
 pub use polynomial_hash::PolynomialHash;
 pub use sum::{Sum, WindowSum};
+pub use summed::Summed;
 pub use tally::Tally;
 pub use tally_window::WindowTally;

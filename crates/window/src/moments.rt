@@ -1,10 +1,11 @@
 //! The sum and the sum of the squares of whole numbers, exactly, and their mean and variance.
 
-ghost use Rattle.std.specs.Prelude.{◌≡◌, ◌*◌, ◌-ℤ◌, ◌<◌, ◌≤◌, ◌^◌, ◌↔◌, [], pos, IfSome, IsNone, int_div, IsTrue, length};
+ghost use Rattle.std.specs.Prelude.{◌≡◌, ◌*◌, ◌-ℤ◌, ◌<◌, ◌≤◌, ◌^◌, ◌↔◌, [], pos, IfSome, IsNone, IsTrue, length};
 ghost use Rattle.window.specs.Moments.{square, sum_of_squares};
 ghost use Rattle.window.specs.Window.{total};
 
-use crate::fraction::{Fraction, rounded};
+use crate::fraction::Fraction;
+use crate::summed::Summed;
 use crate::tally::Tally;
 use crate::tally_window::WindowTally;
 use ringbuffer::RingBuffer;
@@ -17,13 +18,6 @@ pub struct Moments {
 }
 
 impl Moments {
-    /// Returns the sum.
-    pub fn sum(&self) -> i128
-        ensures { result ≡ self.now.sum }
-    {
-        self.sum
-    }
-
     /// Returns the sum of the squares.
     pub fn squares(&self) -> u128
         ensures { result ≡ self.now.squares }
@@ -54,47 +48,25 @@ impl Tally<i32> for Moments {
     }
 }
 
+impl Summed<i32> for Moments {
+    ghost use Rattle.window.specs.Window.{total};
+
+    ghost sum_of = { total };
+
+    fn sum(&self) -> i128 {
+        self.sum
+    }
+}
+
 /// A window over a ring of samples, with their sum and that of their squares.
 pub type WindowMoments<R> = WindowTally<i32, Moments, R>;
 
 impl<R: RingBuffer<i32>> WindowTally<i32, Moments, R> {
-    /// Returns the sum of the samples.
-    pub fn sum(&self) -> i128
-        ensures { result ≡ total self.now.contents }
-    {
-        self.tally().sum()
-    }
-
     /// Returns the sum of the squares of the samples.
     pub fn sum_of_squares(&self) -> u128
         ensures { result ≡ sum_of_squares self.now.contents }
     {
         self.tally().squares()
-    }
-
-    /// Returns the mean of the samples, or `None` if there is none: their sum over their number.
-    pub fn mean(&self) -> Option<Fraction>
-        ensures none { IsNone result ↔ (self.now.contents ≡ []) }
-        ensures numerator { IfSome result (λ f. f.numerator ≡ total self.now.contents) }
-        ensures denominator { IfSome result (λ f. f.denominator ≡ length self.now.contents) }
-    {
-        let count = self.len();
-        if count == 0 {
-            return None;
-        }
-        Some(Fraction {
-            numerator: self.sum(),
-            denominator: count as u128,
-        })
-    }
-
-    /// Returns the mean of the samples, rounded towards zero, or `None` if there is none.
-    pub fn rounded_mean(&self) -> Option<i128>
-        ensures none { IsNone result ↔ (self.now.contents ≡ []) }
-        ensures mean { IfSome result
-            (λ m. m ≡ int_div (total self.now.contents) (pos (length self.now.contents))) }
-    {
-        rounded(self.sum(), self.len())
     }
 
     /// Returns whether `variance` may be called.
@@ -120,7 +92,7 @@ impl<R: RingBuffer<i32>> WindowTally<i32, Moments, R> {
             return None;
         }
         let moments = self.tally();
-        let size = moments.sum().unsigned_abs();
+        let size = moments.sum.unsigned_abs();
         Some(Fraction {
             numerator: difference(count * moments.squares(), size * size),
             denominator: count * count,

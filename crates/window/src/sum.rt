@@ -1,9 +1,9 @@
 //! Sums of whole numbers, exactly.
 
-ghost use Rattle.std.specs.Prelude.{◌≡◌, ◌+◌, ◌↔◌, [], pos, IfSome, IsNone, int_div, drop, length, option_to_list, slice_get};
+ghost use Rattle.std.specs.Prelude.{◌≡◌, ◌+◌, ◌-ℤ◌, drop, length, option_to_list, slice_get};
 ghost use Rattle.window.specs.Window.{total};
 
-use crate::fraction::{Fraction, rounded};
+use crate::summed::Summed;
 use crate::tally::Tally;
 use crate::tally_window::WindowTally;
 use ringbuffer::RingBuffer;
@@ -12,15 +12,6 @@ use ringbuffer::RingBuffer;
 #[derive(Drop)]
 pub struct Sum {
     sum: i128,
-}
-
-impl Sum {
-    /// Returns the sum.
-    pub fn get(&self) -> i128
-        ensures { result ≡ self.now.sum }
-    {
-        self.sum
-    }
 }
 
 impl Tally<i64> for Sum {
@@ -39,45 +30,36 @@ impl Tally<i64> for Sum {
     fn let_go(&mut self, oldest: &i64) {
         self.sum -= i128::from(*oldest);
     }
+
+    fn slide(&mut self, oldest: &Option<i64>, newest: &i64) {
+        self.sum += change(oldest, *newest);
+    }
+}
+
+impl Summed<i64> for Sum {
+    ghost use Rattle.window.specs.Window.{total};
+
+    ghost sum_of = { total };
+
+    fn sum(&self) -> i128 {
+        self.sum
+    }
+}
+
+// Returns by how much a sum changes as `oldest`, if there is one, goes and `newest` comes.
+#[inline]
+fn change(oldest: &Option<i64>, newest: i64) -> i128
+    ensures { result ≡ newest -ℤ total (option_to_list oldest.now) }
+{
+    // A 0 for no item, so that no branch is taken.
+    i128::from(newest) - i128::from(oldest.unwrap_or(0))
 }
 
 /// A window over a ring of samples, with their sum.
 pub type WindowSum<R> = WindowTally<i64, Sum, R>;
 
 impl<R: RingBuffer<i64>> WindowTally<i64, Sum, R> {
-    /// Returns the sum of the samples.
-    pub fn sum(&self) -> i128
-        ensures { result ≡ total self.now.contents }
-    {
-        self.tally().get()
-    }
-
-    /// Returns the mean of the samples, or `None` if there is none: their sum over their number.
-    pub fn mean(&self) -> Option<Fraction>
-        ensures none { IsNone result ↔ (self.now.contents ≡ []) }
-        ensures numerator { IfSome result (λ f. f.numerator ≡ total self.now.contents) }
-        ensures denominator { IfSome result (λ f. f.denominator ≡ length self.now.contents) }
-    {
-        let count = self.len();
-        if count == 0 {
-            return None;
-        }
-        Some(Fraction {
-            numerator: self.sum(),
-            denominator: count as u128,
-        })
-    }
-
-    /// Returns the mean of the samples, rounded towards zero, or `None` if there is none.
-    pub fn rounded_mean(&self) -> Option<i128>
-        ensures none { IsNone result ↔ (self.now.contents ≡ []) }
-        ensures mean { IfSome result
-            (λ m. m ≡ int_div (total self.now.contents) (pos (length self.now.contents))) }
-    {
-        rounded(self.sum(), self.len())
-    }
-
-    /// Another name for `dequeue`.
+    /// Takes out the oldest sample, as `dequeue` does.
     pub fn forget_oldest(&mut self) -> Option<i64>
         ensures value { result ≡ slice_get self.old.contents 0 }
         ensures rest { self.new.contents ≡ drop 1 self.old.contents }

@@ -1,6 +1,6 @@
 //! What a window can tell of its items when it takes in one and lets go of one at a time.
 
-ghost use Rattle.std.specs.Prelude.{◌+◌, ◌<◌, ◌^◌, [], ◌∷◌, ◌++◌, List, length};
+ghost use Rattle.std.specs.Prelude.{◌+◌, ◌<◌, ◌^◌, [], ◌∷◌, ◌++◌, List, length, option_to_list};
 
 /// What is told of a list of items, and can be told anew as an item comes last and as the first one goes: their sum, for
 /// example.
@@ -21,4 +21,22 @@ pub trait Tally<T>: Drop + Sized {
     fn let_go(&mut self, oldest: &T)
         requires { (xs : List T) × tells self.old (oldest.now ∷ xs) × (length xs + 1 < 2 ^ 64) }
         ensures { (xs : List T) → tells self.old (oldest.now ∷ xs) → tells self.new xs };
+
+    /// Lets `oldest`, if there is one, go, which is the first of fewer than 2^64 items, and takes in `newest`, which then comes
+    /// last.
+    #[inline]
+    fn slide(&mut self, oldest: &Option<T>, newest: &T)
+        requires { (xs : List T) × Self.tells self.old (option_to_list oldest.now ++ xs)
+            × (length xs + 1 < 2 ^ 64) }
+        ensures { (xs : List T) → Self.tells self.old (option_to_list oldest.now ++ xs)
+            → Self.tells self.new (xs ++ newest.now ∷ []) }
+    {
+        match oldest {
+            Some(item) => {
+                self.let_go(item);
+                self.take_in(newest);
+            }
+            None => self.take_in(newest),
+        }
+    }
 }

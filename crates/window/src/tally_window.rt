@@ -13,23 +13,23 @@ use std::marker::{Model, PhantomData};
 /// A contract sees a window as the contents and the limit of its ring, and how often the tally took an item in and let one
 /// go.
 #[derive(Drop)]
-pub struct WindowTally<T: Drop, S: Tally<T>, R: RingBuffer<T>> {
+pub struct WindowTally<T: Copy, S: Tally<T>, R: RingBuffer<T>> {
     ring: R,
     counted: CountedTally<S>,
     items: PhantomData<T>,
 }
 
-impl<T: Drop, S: Tally<T>, R: RingBuffer<T>> Model for WindowTally<T, S, R> {
+impl<T: Copy, S: Tally<T>, R: RingBuffer<T>> Model for WindowTally<T, S, R> {
     ghost use Rattle.window.specs.Views.{TalliedItems};
 
     ghost Value = { TalliedItems T };
 
-    ghost view = { λ w. record { contents = R.contents w.ring; limit = R.limit w.ring; taken_in = w.counted.taken_in.count; let_go = w.counted.let_go.count } };
+    ghost view = { λ w. record { contents = R.contents w.ring; limit = R.limit w.ring; taken_in = w.counted.taken_in; let_go = w.counted.let_go } };
 
     ghost invariant = { λ w. S.tells w.counted.tally (R.contents w.ring) };
 }
 
-impl<T: Drop, S: Tally<T>, R: RingBuffer<T>> WindowTally<T, S, R> {
+impl<T: Copy, S: Tally<T>, R: RingBuffer<T>> WindowTally<T, S, R> {
     /// Returns a window over what `ring` holds.
     pub fn new(ring: R) -> Self
         ensures contents { result.contents ≡ R.contents ring }
@@ -66,8 +66,9 @@ impl<T: Drop, S: Tally<T>, R: RingBuffer<T>> WindowTally<T, S, R> {
         // Brings in that there are fewer than 2^64 items, within the limit.
         let _ = self.ring.len();
         let overwritten = self.ring.push(item)?;
-        let_go_of(&mut self.counted, &overwritten);
-        take_in_newest(&mut self.counted, &self.ring);
+        // And that there still are so few.
+        let _ = self.ring.len();
+        self.counted.slide(&overwritten, &item);
         Ok(overwritten)
     }
 
@@ -130,10 +131,10 @@ impl<T: Drop, S: Tally<T>, R: RingBuffer<T>> WindowTally<T, S, R> {
 }
 
 // Returns the tally of what `ring` holds, by a walk.
-fn tally_of<T: Drop, S: Tally<T>, R: RingBuffer<T>>(ring: &R) -> CountedTally<S>
+fn tally_of<T: Copy, S: Tally<T>, R: RingBuffer<T>>(ring: &R) -> CountedTally<S>
     ensures tells { S.tells result.tally (R.contents ring.now) }
-    ensures taken_in { result.taken_in.count ≡ length (R.contents ring.now) }
-    ensures let_go { result.let_go.count ≡ 0 }
+    ensures taken_in { result.taken_in ≡ length (R.contents ring.now) }
+    ensures let_go { result.let_go ≡ 0 }
 {
     // As in `push`.
     let _ = ring.len();
@@ -145,31 +146,16 @@ fn tally_of<T: Drop, S: Tally<T>, R: RingBuffer<T>>(ring: &R) -> CountedTally<S>
 }
 
 // Lets `oldest`, if an item left, go from the tally.
-fn let_go_of<T: Drop, S: Tally<T>>(counted: &mut CountedTally<S>, oldest: &Option<T>)
+fn let_go_of<T: Copy, S: Tally<T>>(counted: &mut CountedTally<S>, oldest: &Option<T>)
     requires { (xs : List T) × S.tells counted.old.tally (option_to_list oldest.now ++ xs)
         × (length (option_to_list oldest.now ++ xs) < 2 ^ 64) }
     ensures tells { (xs : List T) → S.tells counted.old.tally (option_to_list oldest.now ++ xs)
         → S.tells counted.new.tally xs }
-    ensures taken_in { counted.new.taken_in.count ≡ counted.old.taken_in.count }
-    ensures let_go { counted.new.let_go.count
-        ≡ counted.old.let_go.count + length (option_to_list oldest.now) }
+    ensures taken_in { counted.new.taken_in ≡ counted.old.taken_in }
+    ensures let_go { counted.new.let_go
+        ≡ counted.old.let_go + length (option_to_list oldest.now) }
 {
     if let Some(item) = oldest {
         counted.let_go(item);
-    }
-}
-
-// Takes the newest item of `ring` into the tally.
-fn take_in_newest<T: Drop, S: Tally<T>, R: RingBuffer<T>>(counted: &mut CountedTally<S>, ring: &R)
-    requires { (xs : List T) × (x : T) × (R.contents ring.now ≡ xs ++ x ∷ [])
-        × S.tells counted.old.tally xs }
-    ensures tells { S.tells counted.new.tally (R.contents ring.now) }
-    ensures taken_in { counted.new.taken_in.count ≡ counted.old.taken_in.count + 1 }
-    ensures let_go { counted.new.let_go.count ≡ counted.old.let_go.count }
-{
-    // As in `push`.
-    let _ = ring.len();
-    if let Some(newest) = ring.back() {
-        counted.take_in(newest);
     }
 }

@@ -2,7 +2,7 @@ use Rattle.std.proofs.Common.{◌≡◌, ◌-◌, ◌<◌, ◌∙◌, Some, suc,
 use Rattle.std.proofs.Math.Nat.{mod-eq_of_lt}
 use Rattle.std.proofs.lemmas.List.{length-set}
 use Rattle.std.proofs.lemmas.List.Elements.{All-cons}
-use Rattle.ringbuffer.specs.Contents.{place}
+use Rattle.ringbuffer.specs.Contents.{index_at}
 use Rattle.window.specs.Folds.{items}
 use Rattle.window.proofs.Combined.{items-set, drop_written}
 use Rattle.window.proofs.fold_window.fold_all.Goals as goal

@@ -14,7 +14,7 @@ invariant-loop-at g l =
       valid : All M.valid (items (drop l.at now));
       folded : AreFolded M.neutral M.op (drop l.at now);
       after : l.after ≡ combined M.neutral M.op (items (drop l.at now));
-      counted : l.calls.count + l.at ≡ l.fn.calls.count + length (g.R.RingBuffer.contents l.fn.ring);
+      counted : l.calls + l.at ≡ l.fn.calls + length (g.R.RingBuffer.contents l.fn.ring);
     }
 
 abbrev pub decreases-loop-at : goal.decreases-loop-at

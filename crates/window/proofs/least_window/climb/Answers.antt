@@ -1,73 +1,84 @@
-use Rattle.std.proofs.Common.{refl, sym, ◌∙◌, arith}
+use Rattle.std.proofs.Common.{[], ◌∷◌, ap, arith, length, length-append, refl, sym, ◌∙◌}
 use Rattle.window.proofs.Ladders.{climbed, reaches, seen}
+use Rattle.window.proofs.Pushed.{read_is}
 use Rattle.window.proofs.least_window.climb.Goals as goal
 
-pub loop-behind-init : goal.loop-behind-init
-loop-behind-init g c =
+pub loop-left-init : goal.loop-left-init
+loop-left-init g c =
     let (rs, r, is, holds) = c.requires in
     record {
-      reaches = reaches g.met.O.Order.total (g.R.RingBuffer.contents c.args.ring.now) rs r c.args.first _ _ is holds;
+      reaches = reaches g.met.O.Order.total (g.R.RingBuffer.contents c.args.ring.now) rs r c.args.first _ _ _ is (omega (arith, c.len-len.ensures.value, ap length is, length-append rs (r ∷ []))) holds;
       pushed = refl;
       rises = omega arith;
     }
 
-pub returns-then-not-is_above_at-clause-stops : goal.returns-then-not-is_above_at-clause-stops
-returns-then-not-is_above_at-clause-stops g c =
+pub returns-then-not-is_above-clause-stops : goal.returns-then-not-is_above-clause-stops
+returns-then-not-is_above-clause-stops g c =
     let o = g.met.O.Order.total in
     let all = g.R.RingBuffer.contents c.args.ring.now in
-    let so = c.loop-behind.invariant.reaches in
+    let so = c.loop-left.invariant.reaches in
     let e = c.len-len.ensures.value in
-    let s = seen o all c.args.first c.loop-behind.behind c.len-len.result _ _ so e c.loop-behind-test.true in
-    let answer = c.is_above_at.ensures.value s.last so.r s.read s.read_newest in
-    rw (c.is_above_at.ensures.compared, c.is_above_at.ensures.pushed) (s.stops (sym answer ∙ c.if-not-is_above_at.true))
+    let s = seen o all c.args.first c.loop-left.left c.len-len.result _ _ so e c.loop-left-test.true in
+    let last_is = read_is all _ _ c.unwrap-rung.result s.last c.get-in-loop-left.ensures c.unwrap-rung.ensures s.read in
+    let newest_is = read_is all _ _ c.unwrap-newest.result so.r c.get.ensures c.unwrap-newest.ensures s.read_newest in
+    let answer = rw (last_is, newest_is) at c.is_above.ensures.value in
+    rw c.is_above.ensures.compared (s.stops (sym answer ∙ c.if-not-is_above.true))
 
-pub returns-then-at-first-clause-stops : goal.returns-then-at-first-clause-stops
-returns-then-at-first-clause-stops g c =
+pub returns-then-left-first-clause-stops : goal.returns-then-left-first-clause-stops
+returns-then-left-first-clause-stops g c =
     let o = g.met.O.Order.total in
     let all = g.R.RingBuffer.contents c.args.ring.now in
-    let so = c.loop-behind.invariant.reaches in
+    let so = c.loop-left.invariant.reaches in
     let e = c.len-len.ensures.value in
-    let s = seen o all c.args.first c.loop-behind.behind c.len-len.result _ _ so e c.loop-behind-test.true in
-    let answer = c.is_above_at.ensures.value s.last so.r s.read s.read_newest in
-    rw (c.is_above_at.ensures.compared, c.is_above_at.ensures.pushed) (s.ends_at c.if-at-first.true (sym answer ∙ c.if-not-is_above_at.false))
+    let s = seen o all c.args.first c.loop-left.left c.len-len.result _ _ so e c.loop-left-test.true in
+    let last_is = read_is all _ _ c.unwrap-rung.result s.last c.get-in-loop-left.ensures c.unwrap-rung.ensures s.read in
+    let newest_is = read_is all _ _ c.unwrap-newest.result so.r c.get.ensures c.unwrap-newest.ensures s.read_newest in
+    let answer = rw (last_is, newest_is) at c.is_above.ensures.value in
+    rw c.is_above.ensures.compared (s.ends_at c.if-left-first.true (sym answer ∙ c.if-not-is_above.false))
 
-pub overflow_add-behind : goal.overflow_add-behind
-overflow_add-behind g c =
+pub overflow_sub-left-in-loop-left-2 : goal.overflow_sub-left-in-loop-left-2
+overflow_sub-left-in-loop-left-2 g c =
     let o = g.met.O.Order.total in
     let all = g.R.RingBuffer.contents c.args.ring.now in
-    let so = c.loop-behind.invariant.reaches in
+    let so = c.loop-left.invariant.reaches in
     let e = c.len-len.ensures.value in
-    let s = seen o all c.args.first c.loop-behind.behind c.len-len.result _ _ so e c.loop-behind-test.true in
-    let answer = c.is_above_at.ensures.value s.last so.r s.read s.read_newest in
-    let (fits, some, next) = s.goes c.if-at-first.false (sym answer ∙ c.if-not-is_above_at.false) in
-    omega (arith, e, fits, c.behind_at-behind.ensures s.last s.read, c.len-len.type_inv)
+    let s = seen o all c.args.first c.loop-left.left c.len-len.result _ _ so e c.loop-left-test.true in
+    let last_is = read_is all _ _ c.unwrap-rung.result s.last c.get-in-loop-left.ensures c.unwrap-rung.ensures s.read in
+    let newest_is = read_is all _ _ c.unwrap-newest.result so.r c.get.ensures c.unwrap-newest.ensures s.read_newest in
+    let answer = rw (last_is, newest_is) at c.is_above.ensures.value in
+    let (fits, some, next) = s.goes c.if-left-first.false (sym answer ∙ c.if-not-is_above.false) in
+    omega (arith, fits, ap (λ r. r.behind) last_is)
 
-pub loop-behind-preserved : goal.loop-behind-preserved
-loop-behind-preserved g c =
+pub loop-left-preserved : goal.loop-left-preserved
+loop-left-preserved g c =
     let o = g.met.O.Order.total in
     let all = g.R.RingBuffer.contents c.args.ring.now in
-    let so = c.loop-behind.invariant.reaches in
+    let so = c.loop-left.invariant.reaches in
     let e = c.len-len.ensures.value in
-    let s = seen o all c.args.first c.loop-behind.behind c.len-len.result _ _ so e c.loop-behind-test.true in
-    let answer = c.is_above_at.ensures.value s.last so.r s.read s.read_newest in
-    let (fits, some, next) = s.goes c.if-at-first.false (sym answer ∙ c.if-not-is_above_at.false) in
+    let s = seen o all c.args.first c.loop-left.left c.len-len.result _ _ so e c.loop-left-test.true in
+    let last_is = read_is all _ _ c.unwrap-rung.result s.last c.get-in-loop-left.ensures c.unwrap-rung.ensures s.read in
+    let newest_is = read_is all _ _ c.unwrap-newest.result so.r c.get.ensures c.unwrap-newest.ensures s.read_newest in
+    let answer = rw (last_is, newest_is) at c.is_above.ensures.value in
+    let (fits, some, next) = s.goes c.if-left-first.false (sym answer ∙ c.if-not-is_above.false) in
     record {
-      reaches = rw (c.behind_at-behind.ensures s.last s.read, c.is_above_at.ensures.compared, c.is_above_at.ensures.pushed) next;
-      pushed = c.is_above_at.ensures.pushed ∙ c.loop-behind.invariant.pushed;
-      rises = omega (arith, c.is_above_at.ensures.compared, c.loop-behind.invariant.rises);
+      reaches = rw (last_is, c.is_above.ensures.compared) next;
+      pushed = c.loop-left.invariant.pushed;
+      rises = omega (arith, c.is_above.ensures.compared, c.loop-left.invariant.rises);
     }
 
-pub loop-behind-smaller : goal.loop-behind-smaller
-loop-behind-smaller g c =
+pub loop-left-smaller : goal.loop-left-smaller
+loop-left-smaller g c =
     let o = g.met.O.Order.total in
     let all = g.R.RingBuffer.contents c.args.ring.now in
-    let so = c.loop-behind.invariant.reaches in
+    let so = c.loop-left.invariant.reaches in
     let e = c.len-len.ensures.value in
-    let s = seen o all c.args.first c.loop-behind.behind c.len-len.result _ _ so e c.loop-behind-test.true in
-    let answer = c.is_above_at.ensures.value s.last so.r s.read s.read_newest in
-    let (fits, some, next) = s.goes c.if-at-first.false (sym answer ∙ c.if-not-is_above_at.false) in
-    omega (arith, e, some, c.behind_at-behind.ensures s.last s.read, c.loop-behind-test.true)
+    let s = seen o all c.args.first c.loop-left.left c.len-len.result _ _ so e c.loop-left-test.true in
+    let last_is = read_is all _ _ c.unwrap-rung.result s.last c.get-in-loop-left.ensures c.unwrap-rung.ensures s.read in
+    let newest_is = read_is all _ _ c.unwrap-newest.result so.r c.get.ensures c.unwrap-newest.ensures s.read_newest in
+    let answer = rw (last_is, newest_is) at c.is_above.ensures.value in
+    let (fits, some, next) = s.goes c.if-left-first.false (sym answer ∙ c.if-not-is_above.false) in
+    omega (arith, some, fits, ap (λ r. r.behind) last_is)
 
 pub returns-clause-stops : goal.returns-clause-stops
 returns-clause-stops g c =
-    climbed g.met.O.Order.total (g.R.RingBuffer.contents c.args.ring.now) c.args.first c.loop-behind.behind _ _ c.loop-behind.invariant.reaches (omega (arith, c.len-len.ensures.value, c.loop-behind-test.false))
+    climbed g.met.O.Order.total (g.R.RingBuffer.contents c.args.ring.now) c.args.first c.loop-left.left _ _ c.loop-left.invariant.reaches (omega (arith, c.loop-left-test.false))

@@ -8,8 +8,8 @@ invariant-loop-at g l =
     let now = g.R.RingBuffer.contents l.ring in
     record {
       within : l.at ≤ length now;
-      ranked : IsRanked g.O.Order.cmp (drop l.at now) l.first l.counts.compared.count (2 * l.counts.pushed.count);
-      pushed : l.counts.pushed.count + l.at ≡ length (g.R.RingBuffer.contents l.fn.ring);
+      ranked : IsRanked g.O.Order.cmp (drop l.at now) l.first l.counts.compared (2 * l.counts.pushed);
+      pushed : l.counts.pushed + l.at ≡ length (g.R.RingBuffer.contents l.fn.ring);
       items : items_on now ≡ items_on (g.R.RingBuffer.contents l.fn.ring);
       limit : g.R.RingBuffer.limit l.ring ≡ g.R.RingBuffer.limit l.fn.ring;
     }

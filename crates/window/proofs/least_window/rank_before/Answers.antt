@@ -10,7 +10,7 @@ returns-then-first-eq0-clause-ranked g c =
     let all = g.R.RingBuffer.contents c.args.ring.now in
     let (q, here) = some_read all c.args.at c.requires.at in
     rw (c.set_links.ensures.contents q here)
-    (ranked_first o all c.args.at c.args.first _ _ _ _ q here c.requires.ranked (λ y some there. absurd (omega (arith, some, c.if-first-eq0.true))) (omega arith) (omega (arith, c.plus-counts.ensures)))
+    (ranked_first o all c.args.at c.args.first _ _ _ _ q here c.requires.ranked (λ y some there. absurd (omega (arith, some, c.if-first-eq0.true))) (omega arith) (omega (arith, c.add_one.ensures)))
 
 pub returns-then-first-eq0-clause-items : goal.returns-then-first-eq0-clause-items
 returns-then-first-eq0-clause-items g c =
@@ -63,7 +63,7 @@ returns-then-is_above_at-clause-ranked g c =
     let (y, there) = first_read o all c.args.at c.args.first _ _ c.requires.ranked some in
     let within : c.args.at + c.args.first < length all = slice_get_within all (c.args.at + c.args.first) y there in
     rw (c.set_behind.ensures.contents y there)
-    (ranked_behind o all c.args.at c.args.first _ _ _ _ q y here c.requires.ranked some there (sym (c.is_above_at.ensures.value q y here there) ∙ c.if-is_above_at.true) (omega (arith, c.is_above_at.ensures.compared)) (omega (arith, c.plus-counts.ensures, c.is_above_at.ensures.pushed)))
+    (ranked_behind o all c.args.at c.args.first _ _ _ _ q y here c.requires.ranked some there (sym (c.is_above_at.ensures.value q y here there) ∙ c.if-is_above_at.true) (omega (arith, c.is_above_at.ensures.compared)) (omega (arith, c.add_one.ensures, c.is_above_at.ensures.pushed)))
 
 pub returns-then-is_above_at-clause-items : goal.returns-then-is_above_at-clause-items
 returns-then-is_above_at-clause-items g c =
@@ -79,7 +79,7 @@ returns-clause-ranked g c =
     let all = g.R.RingBuffer.contents c.args.ring.now in
     let (q, here) = some_read all c.args.at c.requires.at in
     rw (c.set_links-2.ensures.contents q here)
-    (ranked_first o all c.args.at c.args.first _ _ _ _ q here c.requires.ranked (λ y some there. sym (c.is_above_at.ensures.value q y here there) ∙ c.if-is_above_at.false) (omega (arith, c.is_above_at.ensures.compared)) (omega (arith, c.plus-counts.ensures, c.is_above_at.ensures.pushed)))
+    (ranked_first o all c.args.at c.args.first _ _ _ _ q here c.requires.ranked (λ y some there. sym (c.is_above_at.ensures.value q y here there) ∙ c.if-is_above_at.false) (omega (arith, c.is_above_at.ensures.compared)) (omega (arith, c.add_one.ensures, c.is_above_at.ensures.pushed)))
 
 pub returns-clause-items : goal.returns-clause-items
 returns-clause-items g c =

@@ -7,38 +7,38 @@ pub set_ahead-requires : goal.set_ahead-requires
 set_ahead-requires g c =
     let all = g.R.RingBuffer.contents c.args.ring.now in
     let e = c.len-len.ensures.value in
-    let (r, last, read, fits, read_last, holds, items) = joins_after g.met.O.Order.total all c.args.first.now c.climb-behind.result c.len-len.result _ _ e c.climb-behind.ensures.stops c.if-behind-len.false in
+    let (r, last, read, fits, read_last, holds, items) = joins_after g.met.O.Order.total all c.args.first.now c.climb-left.result c.len-len.result _ _ e c.climb-left.ensures.stops c.if-left-eq0.false in
     let written = c.set_links.ensures.contents r read in
     rw (written, length-set) (omega (arith, e, fits))
 
-pub returns-then-behind-len-clause-holds : goal.returns-then-behind-len-clause-holds
-returns-then-behind-len-clause-holds g c =
+pub returns-then-left-eq0-clause-holds : goal.returns-then-left-eq0-clause-holds
+returns-then-left-eq0-clause-holds g c =
     let all = g.R.RingBuffer.contents c.args.ring.now in
     let e = c.len-len.ensures.value in
-    let (r, read, holds, items) = joins_alone g.met.O.Order.total all c.args.first.now c.climb-behind.result c.len-len.result _ _ e c.climb-behind.ensures.stops c.if-behind-len.true in
-    rw (c.set_links.ensures.contents r read) (recounted_to g.met.O.Order.total holds (omega (arith, c.plus-counts.ensures)))
+    let (r, read, holds, items) = joins_alone g.met.O.Order.total all c.args.first.now c.climb-left.result c.len-len.result _ _ e c.climb-left.ensures.stops c.if-left-eq0.true in
+    rw (c.set_links.ensures.contents r read) (recounted_to g.met.O.Order.total holds (omega (arith, c.add_one.ensures)))
 
-pub returns-then-behind-len-clause-items : goal.returns-then-behind-len-clause-items
-returns-then-behind-len-clause-items g c =
+pub returns-then-left-eq0-clause-items : goal.returns-then-left-eq0-clause-items
+returns-then-left-eq0-clause-items g c =
     let all = g.R.RingBuffer.contents c.args.ring.now in
     let e = c.len-len.ensures.value in
-    let (r, read, holds, items) = joins_alone g.met.O.Order.total all c.args.first.now c.climb-behind.result c.len-len.result _ _ e c.climb-behind.ensures.stops c.if-behind-len.true in
+    let (r, read, holds, items) = joins_alone g.met.O.Order.total all c.args.first.now c.climb-left.result c.len-len.result _ _ e c.climb-left.ensures.stops c.if-left-eq0.true in
     rw (c.set_links.ensures.contents r read) items
 
-pub returns-else-behind-len-clause-holds : goal.returns-else-behind-len-clause-holds
-returns-else-behind-len-clause-holds g c =
+pub returns-else-left-eq0-clause-holds : goal.returns-else-left-eq0-clause-holds
+returns-else-left-eq0-clause-holds g c =
     let all = g.R.RingBuffer.contents c.args.ring.now in
     let e = c.len-len.ensures.value in
-    let (r, last, read, fits, read_last, holds, items) = joins_after g.met.O.Order.total all c.args.first.now c.climb-behind.result c.len-len.result _ _ e c.climb-behind.ensures.stops c.if-behind-len.false in
+    let (r, last, read, fits, read_last, holds, items) = joins_after g.met.O.Order.total all c.args.first.now c.climb-left.result c.len-len.result _ _ e c.climb-left.ensures.stops c.if-left-eq0.false in
     let written = c.set_links.ensures.contents r read in
     let last_written = rw written at (c.set_ahead.ensures.contents last (rw written read_last)) in
-    rw last_written (recounted_to g.met.O.Order.total holds (omega (arith, c.plus-counts.ensures)))
+    rw last_written (recounted_to g.met.O.Order.total holds (omega (arith, c.add_one.ensures)))
 
-pub returns-else-behind-len-clause-items : goal.returns-else-behind-len-clause-items
-returns-else-behind-len-clause-items g c =
+pub returns-else-left-eq0-clause-items : goal.returns-else-left-eq0-clause-items
+returns-else-left-eq0-clause-items g c =
     let all = g.R.RingBuffer.contents c.args.ring.now in
     let e = c.len-len.ensures.value in
-    let (r, last, read, fits, read_last, holds, items) = joins_after g.met.O.Order.total all c.args.first.now c.climb-behind.result c.len-len.result _ _ e c.climb-behind.ensures.stops c.if-behind-len.false in
+    let (r, last, read, fits, read_last, holds, items) = joins_after g.met.O.Order.total all c.args.first.now c.climb-left.result c.len-len.result _ _ e c.climb-left.ensures.stops c.if-left-eq0.false in
     let written = c.set_links.ensures.contents r read in
     let last_written = rw written at (c.set_ahead.ensures.contents last (rw written read_last)) in
     rw last_written items

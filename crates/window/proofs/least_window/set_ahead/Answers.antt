@@ -1,6 +1,6 @@
 use Rattle.std.proofs.Common.{◌≡◌, Some, length, slice_get, sym, ◌∙◌}
 use Rattle.std.proofs.Math.Nat.{mod-eq_of_lt}
-use Rattle.ringbuffer.specs.Contents.{place}
+use Rattle.ringbuffer.specs.Contents.{index_at}
 use Rattle.window.proofs.least_window.set_ahead.Goals as goal
 
 pub returns-in-Some-clause-contents : goal.returns-in-Some-clause-contents

@@ -7,7 +7,7 @@ pub forget-oldest-requires : goal.forget-oldest-requires
 forget-oldest-requires g c =
     let rs = g.R.RingBuffer.contents c.self.inside.ring in
     let limit = g.R.RingBuffer.limit c.self.inside.ring in
-    (stay limit rs, c.self.inside.counts.compared.count, 2 * c.self.inside.counts.pushed.count, rw (c.in-Ok.ensures.overwrites, stay_behind limit rs c.len.ensures.within) c.self.invariant)
+    (stay limit rs, c.self.inside.counts.compared, 2 * c.self.inside.counts.pushed, rw (c.in-Ok.ensures.overwrites, stay_behind limit rs c.len.ensures.within) c.self.invariant)
 
 pub rank_newest-requires : goal.rank_newest-requires
 rank_newest-requires g c =

@@ -1,0 +1,97 @@
+//! Pushes that are refused memory: the item comes back, and the window answers as before.
+
+use super::assert_equal;
+use ring_test_support::drought::Drought;
+use ringbuffer::{GrowableAllocRingBuffer, RingBuffer};
+use std::process::Abort;
+use window::{Gcd, Kept, Rung, WindowFold, WindowMin, WindowSum};
+
+/// Makes a growable ring that has room for four items, or for some more.
+fn roomy<T: Drop>(rt: &(impl Abort + AllocGlobal)) -> GrowableAllocRingBuffer<T> {
+    GrowableAllocRingBuffer::with_capacity(rt.alloc(), 4).expect(rt, "memory")
+}
+
+#[test]
+fn sum_after_a_refused_push(rt: HostRuntime) {
+    let ring = roomy(&rt);
+    let room = ring.capacity();
+    let mut window = WindowSum::new(ring);
+    assert_equal(&rt, (window.push(5), window.push(-7)), (Ok(None), Ok(None)));
+    for _ in 2..room {
+        assert_equal(&rt, window.push(0), Ok(None));
+    }
+    let drought = Drought::total(rt.alloc()).expect(&rt, "memory");
+    let refused = window.push(8);
+    drop(drought);
+    assert_equal(&rt, refused, Err(8));
+    assert_equal(&rt, (window.len(), window.sum()), (room, -2));
+    assert_equal(&rt, (window.dequeue(), window.sum()), (Some(5), -7));
+    assert_equal(&rt, (window.dequeue(), window.sum()), (Some(-7), 0));
+    assert_equal(&rt, (window.push(8), window.sum()), (Ok(None), 8));
+}
+
+#[test]
+fn fold_after_a_refused_push(rt: HostRuntime) {
+    let ring = roomy::<Kept<Gcd>>(&rt);
+    let room = ring.capacity();
+    let mut window = WindowFold::new(ring);
+    assert_equal(
+        &rt,
+        (window.push(Gcd(12)), window.push(Gcd(18))),
+        (Ok(None), Ok(None)),
+    );
+    for _ in 2..room {
+        assert_equal(&rt, window.push(Gcd(20)), Ok(None));
+    }
+    let drought = Drought::total(rt.alloc()).expect(&rt, "memory");
+    let refused = window.push(Gcd(7));
+    drop(drought);
+    assert_equal(&rt, refused, Err(Gcd(7)));
+    assert_equal(&rt, (window.len(), window.fold()), (room, Gcd(2)));
+    assert_equal(
+        &rt,
+        (window.dequeue(), window.fold()),
+        (Some(Gcd(12)), Gcd(2)),
+    );
+    assert_equal(
+        &rt,
+        (window.dequeue(), window.fold()),
+        (Some(Gcd(18)), Gcd(20)),
+    );
+    assert_equal(
+        &rt,
+        (window.push(Gcd(7)), window.fold()),
+        (Ok(None), Gcd(1)),
+    );
+}
+
+#[test]
+fn least_after_a_refused_push(rt: HostRuntime) {
+    let ring = roomy::<Rung<i64>>(&rt);
+    let room = ring.capacity();
+    let mut window = WindowMin::new(ring);
+    assert_equal(&rt, (window.push(5), window.push(-7)), (Ok(None), Ok(None)));
+    for _ in 2..room {
+        assert_equal(&rt, window.push(9), Ok(None));
+    }
+    let drought = Drought::total(rt.alloc()).expect(&rt, "memory");
+    let refused = window.push(-8);
+    drop(drought);
+    assert_equal(&rt, refused, Err(-8));
+    assert_equal(&rt, (window.len(), window.min().copied()), (room, Some(-7)));
+    assert_equal(
+        &rt,
+        (window.dequeue(), window.min().copied()),
+        (Some(5), Some(-7)),
+    );
+    assert_equal(
+        &rt,
+        (window.dequeue(), window.min().copied()),
+        (Some(-7), Some(9)),
+    );
+    assert_equal(
+        &rt,
+        (window.push(-8), window.min().copied()),
+        (Ok(None), Some(-8)),
+    );
+}
