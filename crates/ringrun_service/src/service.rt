@@ -235,7 +235,7 @@ fn run_script<R: RingBuffer<i64>>(
         (λ fault. IfNotACommand fault (λ line. script_left script.old ≡ Err line)) }
     ensures faults { IfErr result IsInScript }
 {
-    // Brings in that the contents are within the limit, and that runs join.
+    // For the proof: the contents are within the limit.
     let _ = ring.len();
     runs_join::<i64>();
     let mut text = String::new(alloc);

@@ -217,7 +217,7 @@ fn before_push<M: Monoid, R: RingBuffer<Kept<M>>>(ring: &mut R, parts: &mut Part
     if parts.folded == 0 && ring.is_full() {
         fold_parts(ring, parts);
     }
-    // Brings in that the items are within the limit.
+    // For the proof: the contents are within the limit.
     let _ = ring.len();
 }
 

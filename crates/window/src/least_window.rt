@@ -115,7 +115,7 @@ impl<T: Drop, O: Order<T>, R: RingBuffer<Rung<T>>> WindowLeast<T, O, R> {
         ensures compared { self.new.compared ≤ 2 * self.new.pushed }
         ensures rises { self.old.compared ≤ self.new.compared }
     {
-        // Brings in that the limit is above zero.
+        // For the proof: the contents are within the limit.
         let _ = self.ring.len();
         match self.ring.push(Rung::new(item)) {
             Ok(overwritten) => {
@@ -253,7 +253,7 @@ fn rank_before<T: Drop, O: Order<T>, R: RingBuffer<Rung<T>>>(
     ensures items { items_on (R.contents ring.new) ≡ items_on (R.contents ring.old) }
     ensures limit { R.limit ring.new ≡ R.limit ring.old }
 {
-    // Brings in that there are fewer than 2^64 items.
+    // For the proof: the contents are within the limit.
     let _ = ring.len();
     counts.pushed.add_one();
     if first == 0 {

@@ -63,7 +63,7 @@ impl<T: Copy, S: Tally<T>, R: RingBuffer<T>> WindowTally<T, S, R> {
         ensures let_go { IfOk result
             (λ old. self.new.let_go ≡ self.old.let_go + length (option_to_list old)) }
     {
-        // Brings in that there are fewer than 2^64 items, within the limit.
+        // For the proof: the contents are within the limit.
         let _ = self.ring.len();
         let overwritten = self.ring.push(item)?;
         // And that there still are so few.
@@ -80,7 +80,7 @@ impl<T: Copy, S: Tally<T>, R: RingBuffer<T>> WindowTally<T, S, R> {
         ensures taken_in { self.new.taken_in ≡ self.old.taken_in }
         ensures let_go { self.new.let_go ≡ self.old.let_go + length (option_to_list result) }
     {
-        // As in `push`.
+        // For the proof: the contents are within the limit.
         let _ = self.ring.len();
         let oldest = self.ring.dequeue();
         let_go_of(&mut self.counted, &oldest);
@@ -136,7 +136,7 @@ fn tally_of<T: Copy, S: Tally<T>, R: RingBuffer<T>>(ring: &R) -> CountedTally<S>
     ensures taken_in { result.taken_in ≡ length (R.contents ring.now) }
     ensures let_go { result.let_go ≡ 0 }
 {
-    // As in `push`.
+    // For the proof: the contents are within the limit.
     let _ = ring.len();
     let mut counted = CountedTally::none();
     for item in RingBufferIterator::new(ring) {
