@@ -3,7 +3,7 @@
 ghost use Rattle.std.specs.Prelude.{◌-◌, ◌<◌};
 ghost use Rattle.std.specs.Iterator.{at_most};
 
-use super::{answers, answers_in_slots, assert_equal, assert_steps, push_all};
+use super::{answers, answers_in_slots, assert_steps, push_all};
 use ring_test_support::steps::Step;
 use ring_test_support::steps::Step::{
     Back, Capacity, Clear, Dequeue, DequeueAll, Enqueue, Extend, Fill, Front, GetSigned, Holds,

@@ -99,7 +99,7 @@ impl<'a> Three<'a> {
 }
 
 /// A ring that can be made of three items.
-trait Made<'a>: RingBuffer<Counted<'a>> {
+trait Made<'a>: Sized {
     /// Returns how many slots it has for them, if it has a limit.
     fn slots() -> Option<usize>;
 
@@ -246,7 +246,7 @@ fn assert_numbered<'a, R: RingBuffer<Counted<'a>>>(
 }
 
 /// Asserts that the ring holds three items from the number `first` on, is full of them if it has a limit, and takes one more.
-fn assert_made<'a, R: Made<'a> + Drop>(
+fn assert_made<'a, R: RingBuffer<Counted<'a>> + Made<'a> + Drop>(
     rt: &impl Abort,
     mut ring: R,
     supply: &'a Supply,
@@ -270,7 +270,7 @@ fn assert_made<'a, R: Made<'a> + Drop>(
 /// Makes a ring of three items, in a drought if it is said what that spares. Items that are moved are not cloned, and those
 /// that are cloned are as they were. Where the ring was refused, what was moved or cloned was dropped. Returns whether it
 /// was made.
-fn is_made<'a, R: Made<'a> + Drop>(
+fn is_made<'a, R: RingBuffer<Counted<'a>> + Made<'a> + Drop>(
     rt: &(impl Abort + AllocGlobal),
     supply: &'a Supply,
     source: Source,
@@ -293,7 +293,7 @@ fn is_made<'a, R: Made<'a> + Drop>(
 }
 
 /// Makes a ring of clones of the next three items of a supply, as `is_made` does.
-fn is_made_of_clones<'a, R: Made<'a> + Drop>(
+fn is_made_of_clones<'a, R: RingBuffer<Counted<'a>> + Made<'a> + Drop>(
     rt: &(impl Abort + AllocGlobal),
     supply: &'a Supply,
     source: Source,
@@ -319,7 +319,7 @@ fn supply(rt: &(impl Abort + AllocGlobal)) -> Supply {
 }
 
 /// Makes a ring of each source, and of fewer clones than items.
-fn assert_made_of_each<'a, R: Made<'a> + Drop>(
+fn assert_made_of_each<'a, R: RingBuffer<Counted<'a>> + Made<'a> + Drop>(
     rt: &(impl Abort + AllocGlobal),
     supply: &'a Supply,
 ) {
@@ -345,7 +345,7 @@ fn a_ring_is_made_of_each_source(rt: HostRuntime) {
 }
 
 /// Makes rings of each source in one drought after the other, until none is refused. The first is.
-fn assert_refused_in_turn<'a, R: Made<'a> + Drop>(
+fn assert_refused_in_turn<'a, R: RingBuffer<Counted<'a>> + Made<'a> + Drop>(
     rt: &(impl Abort + AllocGlobal),
     supply: &'a Supply,
     sources: &[Source],
@@ -375,7 +375,7 @@ fn a_refused_ring_drops_its_source_or_leaves_what_it_clones(rt: HostRuntime) {
 }
 
 /// Makes rings of each source while there is no memory.
-fn assert_made_of_nothing<'a, R: Made<'a> + Drop>(
+fn assert_made_of_nothing<'a, R: RingBuffer<Counted<'a>> + Made<'a> + Drop>(
     rt: &(impl Abort + AllocGlobal),
     supply: &'a Supply,
     sources: &[Source],

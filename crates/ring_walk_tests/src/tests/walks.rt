@@ -9,8 +9,8 @@ use ring_test_support::own_calls::OwnCalls;
 use ring_test_support::steps::Step;
 use ring_test_support::{on_each, on_fixed, on_growable};
 use ringbuffer::{
-    AllocRingBuffer, ConstGenericRingBuffer, GrowableAllocRingBuffer, RingBuffer,
-    RingBufferDrainingIterator, RingBufferIntoIterator, RingBufferIterator, RingBufferMutIterator,
+    RingBuffer, RingBufferDrainingIterator, RingBufferIntoIterator, RingBufferIterator,
+    RingBufferMutIterator,
 };
 use std::alloc::AllocError;
 use std::fmt::Debug;
