@@ -8,6 +8,7 @@ ghost use Rattle.std.specs.Option.{option_copied, option_copied_mut};
 ghost use Rattle.ring_core.specs.Walk.{DrainsFirst, DrainsInOrder, ReadsInOrder, ReadsInReverse, StartsOver, UnpacksFirst, UnpacksInOrder, drain_to_come, into_iter_to_come, iterator_to_come, cursor_to_come};
 
 use crate::ring::RingBuffer;
+use std::alloc::AllocError;
 use std::iter::FusedIterator;
 use std::marker::PhantomData;
 
@@ -117,6 +118,22 @@ impl<'rb, T: Drop, RB: RingBuffer<T>> ExactSizeIterator for RingBufferIterator<'
 }
 
 impl<'rb, T: Drop, RB: RingBuffer<T>> FusedIterator for RingBufferIterator<'rb, T, RB> {}
+
+/// Returns a walk over the same items that are left, without memory.
+impl<'rb, T: Drop, RB: RingBuffer<T>> Clone for RingBufferIterator<'rb, T, RB> {
+    ghost is_clone = { λ walk made. made ≡ walk };
+
+    ghost is_infallible = { λ _. Unit {0} };
+
+    fn clone(&self) -> Result<Self, AllocError> {
+        Ok(RingBufferIterator {
+            ring: self.ring,
+            front: self.front,
+            back: self.back,
+            items: PhantomData,
+        })
+    }
+}
 
 /// A cursor over the items of a ring, which lends one item at a time for writing, from either end.
 #[derive(Drop)]

@@ -1,3 +1,4 @@
+pub mod Compared
 pub mod EmptiedStretches
 pub mod LaysOut
 pub mod LentItem
@@ -9,5 +10,6 @@ pub mod SlotsHold
 pub mod SomesTaken
 pub mod Sources
 pub mod Straight
+pub mod Swapped
 pub mod Turns
 mod Words

@@ -11,7 +11,7 @@ wrap start k size within low =
     ]
 
 -- two counts below the size that reach one place are equal
-same_count : (start j k size : ℕ) → start < size → j < size → k < size → (start + j) % size ≡ (start + k) % size → j ≡ k
+pub same_count : (start j k size : ℕ) → start < size → j < size → k < size → (start + j) % size ≡ (start + k) % size → j ≡ k
 same_count start j k size within low low' same = grind (arith, wrap start j size within, wrap start k size within)
 
 -- a count from a place that lies k further on is k more from this one

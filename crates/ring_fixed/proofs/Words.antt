@@ -7,7 +7,7 @@ pub use Rattle.ring_fixed.specs.Layout.{AreFull, Empties, IsLaidOut, LaysOut, Sl
 unfoldable pub use Rattle.ring_fixed.specs.Layout.{items_from}
 pub use Rattle.ring_fixed.specs.Somes.{somes}
 pub use Rattle.ring_fixed.specs.Sources.{Gives}
-pub use Rattle.ring_fixed.specs.View.{View, after_clear, after_extend, after_extend_from_slice, after_insert, after_keep_newest, after_pop, after_push, after_push_front, after_put, after_put_first, after_puts, after_remove, after_rewrite, after_rotate, after_take, after_takes, after_truncate, after_turn_left, after_turn_right, after_write, turned}
+pub use Rattle.ring_fixed.specs.View.{View, after_clear, after_extend, after_extend_from_slice, after_insert, after_keep_newest, after_pop, after_push, after_push_front, after_put, after_put_first, after_puts, after_remove, after_rewrite, after_rotate, after_swap, after_take, after_takes, after_truncate, after_turn_left, after_turn_right, after_write, turned}
 pub use Rattle.ring_fixed.specs.declared.fixed.Span.{Span}
 pub use Rattle.ring_fixed.specs.fixed.Sound.{IsSound, view_of}
 pub use Rattle.ring_fixed.specs.slices.Straight.{beside, straight_start, straightened}

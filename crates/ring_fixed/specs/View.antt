@@ -1,6 +1,6 @@
 -- What a contract sees of a ring of a fixed capacity, and what each call makes of that.
-use Rattle.std.specs.List.{refill}
-use Rattle.std.specs.Prelude.{ℕ, ◌+◌, ◌-◌, ◌*◌, min, List, [], ◌∷◌, ◌++◌, drop, length, take, Some, slice_set}
+use Rattle.std.specs.List.{refill, swap}
+use Rattle.std.specs.Prelude.{ℕ, ◌+◌, ◌-◌, ◌*◌, min, List, [], ◌∷◌, ◌++◌, drop, length, take, Some, slice_set, if◌then◌else◌, nat_eq}
 use Rattle.ring_core.specs.Contents.{keep_last}
 
 -- its items, oldest first, how many changes its slots have had, and how many items it holds at most
@@ -104,3 +104,7 @@ module _ {X : Type 0} where
   abbrev pub after_insert : ℕ → X → View X → View X
   after_insert i x v =
       record v { items = take i v.items ++ x ∷ drop i v.items; changes = v.changes + 4 * min i (length v.items - i) + 1 }
+
+  -- the items at two indices in each other's place, by four changes, or by none where the two are one
+  abbrev pub after_swap : ℕ → ℕ → View X → View X
+  after_swap i j v = record v { items = swap v.items i j; changes = v.changes + (if nat_eq i j then 0 else 4) }

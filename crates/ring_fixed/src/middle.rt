@@ -1,6 +1,6 @@
 //! The calls of a ring of a fixed capacity at an index, and turns of its items.
 ghost use Rattle.std.specs.Prelude.{◌≡◌, ◌+◌, ◌-◌, ◌%◌, ◌<◌, ◌≤◌, Some, length, slice_get};
-ghost use Rattle.ring_fixed.specs.View.{after_insert, after_pop, after_put, after_put_first, after_remove, after_rotate, after_turn_left, after_turn_right};
+ghost use Rattle.ring_fixed.specs.View.{after_insert, after_pop, after_put, after_put_first, after_remove, after_rotate, after_swap, after_turn_left, after_turn_right};
 
 use crate::fixed::{Fixed, Span};
 use ring_slots::RingSlots;
@@ -62,6 +62,25 @@ impl<T: Drop, S: RingSlots<T>> Fixed<T, S> {
             self.put_last(item);
             self.turn_left(behind);
         }
+    }
+
+    /// Exchanges the items at two indices below the length.
+    pub fn swap(&mut self, i: usize, j: usize)
+        requires sound { IsSound S.seen S.is_size self.old }
+        requires first { i < length (view_of S.seen self.old).items }
+        requires second { j < length (view_of S.seen self.old).items }
+        ensures { ChangesTo S.seen S.is_size self.old self.new
+            (after_swap i j (view_of S.seen self.old)) }
+    {
+        if i == j {
+            return;
+        }
+        let a = self.slots.place(self.start, i);
+        let b = self.slots.place(self.start, j);
+        let first = self.slots.take(a);
+        let second = self.slots.take(b);
+        self.slots.put(a, second);
+        self.slots.put(b, first);
     }
 
     // Moves the first items behind the others, one by one, as many as `count` says.

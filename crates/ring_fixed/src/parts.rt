@@ -4,6 +4,8 @@ mod any_ring;
 mod position;
 mod two_slices;
 
-pub use any_ring::{extend_cloned, extend_somes, same_items};
+pub use any_ring::{
+    cmp_items, extend_cloned, extend_somes, hash_items, partial_cmp_items, same_items,
+};
 pub use position::{index_at, signed_index_at};
 pub use two_slices::{clone_slices, copy_slices, same_in_slices};

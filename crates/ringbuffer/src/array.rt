@@ -11,6 +11,7 @@ ghost use Rattle.ring_fixed.specs.View.{View, after_extend_from_slice, after_kee
 
 mod convert;
 mod middle;
+mod order;
 
 use ring_core::{
     RingBuffer, RingBufferDrainingIterator, RingBufferIntoIterator, RingBufferIterator,

@@ -12,6 +12,7 @@ ghost use Rattle.ring_fixed.specs.View.{after_extend_from_slice, after_keep_newe
 
 mod convert;
 mod middle;
+mod order;
 
 use core::mem::replace_with;
 use ring_core::{

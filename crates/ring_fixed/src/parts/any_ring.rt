@@ -1,7 +1,8 @@
 //! Rings of any type: comparing two of them, and pushing clones.
 
-ghost use Rattle.std.specs.Prelude.{◌≡◌, [], ◌∷◌, ◌++◌, IsOk, IsSome, List, OnErr, OnOk, Some, length, map};
-ghost use Rattle.std.specs.Cmp.Lexicographic.{pointwise};
+ghost use Rattle.std.specs.Prelude.{◌≡◌, [], ◌∷◌, ◌++◌, IsOk, IsSome, List, OnErr, OnOk, Some, fold, length, map};
+ghost use Rattle.std.specs.Cmp.Lexicographic.{pointwise, slice_cmp, slice_partial_cmp};
+ghost use Rattle.std.specs.Hash as fed;
 ghost use Rattle.std.specs.Borrow.{Bor};
 ghost use Rattle.std.specs.Iterator.{Drains, IsFinite, YieldsThen};
 ghost use Rattle.std.specs.List.{AllZip};
@@ -10,12 +11,42 @@ ghost use Rattle.ring_fixed.specs.Somes.{somes};
 
 use ring_core::{RingBuffer, RingBufferIterator};
 use std::alloc::AllocError;
+use std::cmp::Ordering;
+use std::hash::{Hash, Hasher};
 
 /// Returns whether two rings hold equal items, place by place.
 pub fn same_items<T: PartialEq + Drop, R: RingBuffer<T>>(a: &R, b: &R) -> bool
     ensures { result ≡ pointwise T.eq (R.contents a.now) (R.contents b.now) }
 {
     a.len() == b.len() && RingBufferIterator::new(a).eq(RingBufferIterator::new(b))
+}
+
+/// Returns how the items of two rings compare, where they do: as those at the first place where they differ, or as the
+/// numbers of items.
+pub fn partial_cmp_items<T: PartialOrd + Drop, R: RingBuffer<T>>(a: &R, b: &R) -> Option<Ordering>
+    ensures { result ≡ slice_partial_cmp T.partial_cmp (R.contents a.now) (R.contents b.now) }
+{
+    RingBufferIterator::new(a).partial_cmp(RingBufferIterator::new(b))
+}
+
+/// Returns how the items of two rings compare: as those at the first place where they differ, or as the numbers of
+/// items.
+pub fn cmp_items<T: Ord + Drop, R: RingBuffer<T>>(a: &R, b: &R) -> Ordering
+    ensures { result ≡ slice_cmp T.cmp (R.contents a.now) (R.contents b.now) }
+{
+    RingBufferIterator::new(a).cmp(RingBufferIterator::new(b))
+}
+
+/// Feeds the number of items of a ring to a hasher, and then each item.
+pub fn hash_items<T: Hash + Drop, R: RingBuffer<T>, H: Hasher>(ring: &R, state: &mut H)
+    ensures { state.new
+        ≡ fold H.write state.old (fed.slice T.hash_input (R.contents ring.now)) }
+{
+    let n = ring.len();
+    state.write_usize(n);
+    for i in 0..n {
+        ring.get(i).unwrap().hash(state);
+    }
 }
 
 // Pushes an item, and drops the one that it overwrites. An item that is refused is dropped too.

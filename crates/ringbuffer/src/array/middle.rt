@@ -1,6 +1,6 @@
 //! The calls at an index, and rotations, of the ring in an array.
 ghost use Rattle.std.specs.Prelude.{◌≡◌, ◌↔◌, ◌-◌, ◌<◌, ◌≤◌, IfErr, IsErr, OnOk, length, slice_get};
-ghost use Rattle.ring_fixed.specs.View.{after_insert, after_remove, after_rotate};
+ghost use Rattle.ring_fixed.specs.View.{after_insert, after_remove, after_rotate, after_swap};
 
 use super::ConstGenericRingBuffer;
 use ring_core::RingBuffer;
@@ -34,6 +34,15 @@ impl<T: Drop, const CAP: usize> ConstGenericRingBuffer<T, CAP> {
             return None;
         }
         self.ring.remove(index)
+    }
+
+    /// Exchanges the items at two indices below the length, by four slot changes, or none where the indices are equal.
+    pub fn swap(&mut self, i: usize, j: usize)
+        requires first { i < length self.old.items }
+        requires second { j < length self.old.items }
+        ensures { self.new ≡ after_swap i j self.old }
+    {
+        self.ring.swap(i, j);
     }
 
     /// Moves the oldest items behind the newest, as many as `count` says.

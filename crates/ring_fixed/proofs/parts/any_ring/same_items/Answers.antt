@@ -1,12 +1,8 @@
 -- Both walks gave items that are equal pair by pair, and the two answers after them decide.
 use Rattle.ring_fixed.proofs.Words.{◌≡◌, ◌∙◌, sym, ap, refl, Bool, true, false, ◌&&◌, Bor, List, [], ◌∷◌, ◌++◌, map, Option, None, Some, MatchOption, IfSome, pointwise, Yields, YieldsFirstRef, AllZip}
 use Rattle.ring_core.specs.Walk.{iterator_to_come}
+use Rattle.ring_fixed.proofs.Compared.{given}
 use Rattle.ring_fixed.proofs.parts.any_ring.same_items.Goals as goal
-
--- what a walk gave and what it has left is what it had
-given : {S A : Type 0} (left : S → List A) (s t : S) (xs : List (Bor A)) → Yields (YieldsFirstRef left) s xs t → left s ≡ map (λ x. x.now) xs ++ left t
-given left s t [] took = ap left took
-given left s t (x ∷ xs) took = took.1 ∙ ap (λ l. x.now ∷ l) (given left took.0 t xs took.2)
 
 -- equal pairs in front don't count
 pointwise-after_equal : {A : Type 0} (eq : A → A → Bool) (xs ys : List (Bor A)) (vs ws : List A) → AllZip (λ x y. eq x.now y.now ≡ true) xs ys
