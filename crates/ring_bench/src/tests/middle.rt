@@ -22,6 +22,9 @@ trait Middle: RingBuffer<i64> {
 
     /// Calls `rotate_right` if the ring has as many items.
     fn rotate_right(&mut self, count: usize);
+
+    /// Calls `swap` if the ring has both items.
+    fn swap(&mut self, first: usize, second: usize);
 }
 
 impl<const CAP: usize> Middle for ConstGenericRingBuffer<i64, CAP> {
@@ -52,6 +55,12 @@ impl<const CAP: usize> Middle for ConstGenericRingBuffer<i64, CAP> {
             ConstGenericRingBuffer::rotate_right(self, count);
         }
     }
+
+    fn swap(&mut self, first: usize, second: usize) {
+        if first < self.len() && second < self.len() {
+            ConstGenericRingBuffer::swap(self, first, second);
+        }
+    }
 }
 
 impl Middle for AllocRingBuffer<i64> {
@@ -80,6 +89,12 @@ impl Middle for AllocRingBuffer<i64> {
     fn rotate_right(&mut self, count: usize) {
         if count <= self.len() {
             AllocRingBuffer::rotate_right(self, count);
+        }
+    }
+
+    fn swap(&mut self, first: usize, second: usize) {
+        if first < self.len() && second < self.len() {
+            AllocRingBuffer::swap(self, first, second);
         }
     }
 }
@@ -182,8 +197,29 @@ fn assert_rotates<R: Middle + Drop>(rt: &impl Abort, mut ring: R) {
     }
 }
 
+/// The items of a ring, two indexes, and the items after a `swap` of both.
+const SWAPPED: &[(&[i64], usize, usize, &[i64])] = &[
+    (&[7], 0, 0, &[7]),
+    (&[1, 2], 0, 1, &[2, 1]),
+    (&[1, 2, 3, 4, 5], 3, 3, &[1, 2, 3, 4, 5]),
+    (&[1, 2, 3, 4, 5], 0, 4, &[5, 2, 3, 4, 1]),
+    (&[1, 2, 3, 4, 5], 3, 1, &[1, 4, 3, 2, 5]),
+];
+
+/// Asserts what `swap` does on the items of each row, which begin at each place.
+fn assert_swaps<R: Middle + Drop>(rt: &impl Abort, mut ring: R) {
+    for (items, first, second, left) in SWAPPED {
+        for start in 0..STARTS {
+            lay(rt, &mut ring, start, items);
+            ring.swap(*first, *second);
+            assert_left(rt, &mut ring, left);
+        }
+    }
+}
+
 #[test]
 fn items_are_put_taken_and_turned_at_an_index(rt: HostRuntime) {
+    on_fixed!(&rt, 5, assert_swaps);
     on_fixed!(&rt, 5, assert_puts);
     on_fixed!(&rt, 5, assert_edits);
     on_fixed!(&rt, 5, assert_rotates);
