@@ -60,6 +60,7 @@ fn write_from<E: Write>(errors: &mut E, line: &[u8]) -> io::Result<()>
     ensures begun { Begins (E.contents errors.old) (E.contents errors.new) line.now }
 {
     let mut rest = line;
+    // The loop has a bound since a writer might be interrupted for ever.
     for _ in 0..u64::MAX {
         if rest.is_empty() {
             return Ok(());

@@ -66,7 +66,7 @@ impl<T: Copy, S: Tally<T>, R: RingBuffer<T>> WindowTally<T, S, R> {
         // For the proof: the contents are within the limit.
         let _ = self.ring.len();
         let overwritten = self.ring.push(item)?;
-        // And that there still are so few.
+        // For the proof: and so they are after the push.
         let _ = self.ring.len();
         self.counted.slide(&overwritten, &item);
         Ok(overwritten)
