@@ -8,7 +8,7 @@ ghost use Rattle.std.specs.Io.BufRead.{DropsConsumable, FillKeeps, Rests, drop_t
 ghost use Rattle.ringbuffer.specs.contracts.array.ConstGenericRingBuffer.{the_row as array_row};
 ghost use Rattle.std.specs.Io.KnownBytes.{Keeps, ReadConsumes, WriteAppends};
 ghost use Rattle.ring_core.specs.Contents.{IsWithin};
-ghost use Rattle.ring_fixed.specs.View.{after_extend_from_slice, after_takes};
+ghost use Rattle.ring_fixed.specs.View.{after_extend_from_slice, after_keep_newest, after_takes};
 ghost use Rattle.ringbuffer.specs.contracts.heap.AllocRingBuffer.{the_row as heap_row};
 
 use crate::array::ConstGenericRingBuffer;
@@ -60,6 +60,7 @@ impl<const CAP: usize> BufRead for ConstGenericRingBuffer<u8, CAP> {
     fn consume(&mut self, amount: usize)
         ensures bytes { DropsConsumable (Some self.old.items) (Some self.new.items) None amount }
         ensures rest { self.new.items ≡ drop amount self.old.items }
+        ensures after { self.new ≡ after_keep_newest (length self.old.items - amount) self.old }
     {
         let kept = self.len().saturating_sub(amount);
         self.keep_newest(kept);
@@ -123,7 +124,7 @@ impl BufRead for AllocRingBuffer<u8> {
     fn consume(&mut self, amount: usize)
         ensures bytes { DropsConsumable (Some self.old.items) (Some self.new.items) None amount }
         ensures rest { self.new.items ≡ drop amount self.old.items }
-        ensures capacity { self.new.capacity ≡ self.old.capacity }
+        ensures after { self.new ≡ after_keep_newest (length self.old.items - amount) self.old }
     {
         let kept = self.len().saturating_sub(amount);
         self.keep_newest(kept);

@@ -6,7 +6,7 @@ ghost use Rattle.std.specs.Cmp.{and_per, on_per, partial_equiv_from_equiv};
 ghost use Rattle.std.specs.Cmp.Lexicographic.{lists_per, pointwise};
 ghost use Rattle.std.specs.List.{AllZip};
 ghost use Rattle.std.proofs.lemmas.Cmp.{and_equiv, lists_equiv, nat_eq_equiv, on_equiv};
-ghost use Rattle.ring_core.specs.Contents.{IsWithin, index_at, keep_last, overwritten};
+ghost use Rattle.ring_core.specs.Contents.{ChangesSlots, IsWithin, index_at, keep_last, overwritten};
 ghost use Rattle.ring_core.specs.Walk.{DrainsInOrder, ReadsInOrder, ReadsInReverse, StartsOver, UnpacksInOrder, into_iter_to_come, iterator_to_come};
 ghost use Rattle.ring_fixed.specs.View.{after_extend_from_slice, after_keep_newest, after_pop, after_push, after_push_front, after_put, after_takes, after_truncate, after_write};
 
@@ -296,6 +296,8 @@ impl<T: Drop> AllocRingBuffer<T> {
         requires { 0 < capacity }
         ensures items { OnOk result (self.new.items ≡ keep_last (Some capacity) self.old.items) }
         ensures capacity { OnOk result (self.new.capacity ≡ capacity) }
+        ensures changes { OnOk result
+            (ChangesSlots 0 [] self.new.changes self.new.items (length self.old.items)) }
         ensures err { OnErr result (self.new ≡ self.old) }
         ensures too_large { 2 ^ 63 < capacity → IsErr result }
     {
