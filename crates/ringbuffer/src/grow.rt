@@ -315,6 +315,21 @@ impl<T: Copy + Drop> GrowableAllocRingBuffer<T> {
         ensures ok { OnOk result (self.new ≡ self.old ++ items.now) }
         ensures err { OnErr result (self.new ≡ self.old) }
     {
+        // A vector copies a slice at once, as `extend` has it.
+        if items.len() < FEW || items.len() < self.deque.len() {
+            return self.push_copies(items);
+        }
+        let mut room = self.take_vec();
+        let copied = room.extend_from_slice(items);
+        self.deque = VecDeque::from_vec(room);
+        copied
+    }
+
+    // Pushes copies of a slice's items, one at a time.
+    fn push_copies(&mut self, items: &[T]) -> Result<(), AllocError>
+        ensures ok { OnOk result (self.new ≡ self.old ++ items.now) }
+        ensures err { OnErr result (self.new ≡ self.old) }
+    {
         self.deque.reserve(items.len())?;
         for i in 0..items.len() {
             self.deque.push_back_reserved(items[i]);
