@@ -150,10 +150,11 @@ impl<T: Drop, S: RingSlots<T>> Fixed<T, S> {
         ensures after { ChangesTo S.seen S.is_size self.old self.new
             (after_push_front capacity (view_of S.seen self.old) item) }
     {
-        if self.len == capacity {
-            let old = self.pop_back();
-            self.put_first(item);
-            return old;
+        let before = self.span();
+        if before.len == capacity {
+            let (start, old) = Self::put_under(&mut self.slots, before, item);
+            self.start = start;
+            return Some(old);
         }
         self.put_first(item);
         None
@@ -265,6 +266,25 @@ impl<T: Drop, S: RingSlots<T>> Fixed<T, S> {
         let (next, old) = Self::take_from(slots, span.start);
         slots.put(place, item);
         (next, old)
+    }
+
+    // Puts an item before the first once the last has given way. Returns the next start and the item that was last.
+    #[inline]
+    fn put_under(slots: &mut S, span: Span, item: T) -> (usize, T)
+        requires laid_out { IsLaidOut S.is_size (S.seen slots.old) span.start }
+        requires len { span.len ≡ length (view_from (S.seen slots.old) span.start).items }
+        requires some { 0 < span.len }
+        ensures value { slice_get (view_from (S.seen slots.old) span.start).items (span.len - 1)
+            ≡ Some result.1 }
+        ensures after { LaysOut S.is_size (S.seen slots.old) (S.seen slots.new) result.0
+            (after_put_first (after_pop (view_from (S.seen slots.old) span.start)) item) }
+    {
+        let Span { start, len } = span;
+        let last = slots.place(start, len - 1);
+        let first = slots.place(start, slots.size() - 1);
+        let old = slots.take(last);
+        slots.put(first, item);
+        (first, old)
     }
 
     // Takes the first item, and returns the next start before it.
