@@ -1,5 +1,5 @@
 -- What steps repeated come to.
-use Rattle.ring_fixed.proofs.Words.{◌≡◌, ℕ, suc, ◌+◌, ◌-◌, ◌*◌, ◌<◌, ◌≤◌, List, Some, add-one, ap, drop, drop-cons, get_or, length-take-le, take-append-drop, take_at, drop-append_seam, sym, take-suc, ◌∙◌, [], ◌∷◌, ◌++◌, length, take, refl, arith, append_assoc, append-nil, length-append, length-drop, min, option_to_list, slice_get, drop-length, drop-append-le, drop_min, take_all, View, after_put, after_puts, after_take, after_takes, after_clear, after_push, after_extend, after_extend_from_slice, after_keep_newest, keep_last, drop-append, take-suc_get, keep_last-keep_last}
+use Rattle.ring_fixed.proofs.Words.{◌≡◌, ℕ, suc, ◌+◌, ◌-◌, ◌<◌, ◌≤◌, List, Some, ap, sym, ◌∙◌, [], ◌∷◌, ◌++◌, length, take, refl, arith, append_assoc, append-nil, length-append, length-drop, min, option_to_list, slice_get, drop-length, drop-append-le, drop_min, take_all, View, after_put, after_puts, after_take, after_takes, after_clear, after_push, after_extend, after_extend_from_slice, after_keep_newest, keep_last, drop-append, take-suc_get, keep_last-keep_last}
 
 module _ {X : Type 0} where
   -- the last item behind those before it makes all items

@@ -160,6 +160,22 @@ impl<T: Drop, S: RingSlots<T>> Fixed<T, S> {
         None
     }
 
+    /// Puts an item after the last, where there is room for one.
+    #[inline]
+    pub fn put_last(&mut self, item: T)
+        requires sound { IsSound S.seen S.is_size self.old }
+        requires room { length (view_of S.seen self.old).items < room_of S.seen self.old }
+        ensures { ChangesTo S.seen S.is_size self.old self.new
+            (after_put (view_of S.seen self.old) item) }
+    {
+        // For the proof: the number of slots fits a word.
+        let _ = self.slots.size();
+        let span = self.span();
+        let end = self.slots.place(span.start, span.len);
+        Self::put_at(&mut self.slots, span, end, item);
+        self.len += 1;
+    }
+
     // Puts an item before the first, where there is room for one.
     #[inline]
     pub(crate) fn put_first(&mut self, item: T)

@@ -1,6 +1,6 @@
 //! The calls of a ring of a fixed capacity at an index, and turns of its items.
 ghost use Rattle.std.specs.Prelude.{◌≡◌, ◌+◌, ◌-◌, ◌%◌, ◌<◌, ◌≤◌, Some, length, slice_get};
-ghost use Rattle.ring_fixed.specs.View.{after_insert, after_pop, after_put, after_put_first, after_remove, after_rotate, after_swap, after_turn_left, after_turn_right};
+ghost use Rattle.ring_fixed.specs.View.{after_insert, after_pop, after_put_first, after_remove, after_rotate, after_swap, after_turn_left, after_turn_right};
 
 use crate::fixed::{Fixed, Span};
 use ring_slots::RingSlots;
@@ -131,20 +131,5 @@ impl<T: Drop, S: RingSlots<T>> Fixed<T, S> {
         if let Some(item) = self.pop_back() {
             self.put_first(item);
         }
-    }
-
-    // Puts an item after the last, where there is room for one.
-    fn put_last(&mut self, item: T)
-        requires sound { IsSound S.seen S.is_size self.old }
-        requires room { length (view_of S.seen self.old).items < room_of S.seen self.old }
-        ensures { ChangesTo S.seen S.is_size self.old self.new
-            (after_put (view_of S.seen self.old) item) }
-    {
-        // For the proof: the number of slots fits a word.
-        let _ = self.slots.size();
-        let span = self.span();
-        let end = self.slots.place(span.start, span.len);
-        Self::put_at(&mut self.slots, span, end, item);
-        self.len += 1;
     }
 }

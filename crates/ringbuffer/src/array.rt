@@ -202,7 +202,7 @@ impl<T: Drop, const CAP: usize> ConstGenericRingBuffer<T, CAP> {
         if self.is_full() {
             return Err(item);
         }
-        let _ = self.push(item);
+        self.ring.put_last(item);
         Ok(())
     }
 

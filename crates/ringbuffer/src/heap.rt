@@ -271,7 +271,7 @@ impl<T: Drop> AllocRingBuffer<T> {
         if self.is_full() {
             return Err(item);
         }
-        let _ = self.push(item);
+        self.ring.put_last(item);
         Ok(())
     }
 

@@ -1,6 +1,5 @@
-use Rattle.ring_fixed.proofs.Words.{[], ◌∷◌, append-nil, ap, arith, length, ◌∙◌}
+use Rattle.ring_fixed.proofs.Words.{append-nil, ap, arith, ◌∙◌}
 use Rattle.std.proofs.lemmas.Grind.{flat_map-append, fold-append}
-use Rattle.std.specs.List.{flat_map}
 use Rattle.std.specs.Prelude.{fold}
 use Rattle.ring_core.proofs.Reading.{take_read}
 use Rattle.ring_fixed.proofs.parts.any_ring.hash_items.Goals as goal

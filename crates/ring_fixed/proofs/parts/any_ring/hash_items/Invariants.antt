@@ -1,5 +1,4 @@
 use Rattle.ring_fixed.proofs.Words.{length, take, ◌≡◌, ◌≤◌}
-use Rattle.std.specs.Hash as fed
 use Rattle.std.specs.List.{flat_map}
 use Rattle.std.specs.Prelude.{fold}
 use Rattle.ring_fixed.proofs.parts.any_ring.hash_items.Given as goal

@@ -1,5 +1,5 @@
 -- Both walks gave items that are equal pair by pair, and the two answers after them decide.
-use Rattle.ring_fixed.proofs.Words.{◌≡◌, ◌∙◌, sym, ap, refl, Bool, true, false, ◌&&◌, Bor, List, [], ◌∷◌, ◌++◌, map, Option, None, Some, MatchOption, IfSome, pointwise, Yields, YieldsFirstRef, AllZip}
+use Rattle.ring_fixed.proofs.Words.{◌≡◌, ◌∙◌, sym, ap, refl, Bool, true, false, ◌&&◌, Bor, List, [], ◌∷◌, ◌++◌, map, Option, None, Some, MatchOption, IfSome, pointwise, YieldsFirstRef, AllZip}
 use Rattle.ring_core.specs.Walk.{iterator_to_come}
 use Rattle.ring_fixed.proofs.Compared.{given}
 use Rattle.ring_fixed.proofs.parts.any_ring.same_items.Goals as goal
