@@ -45,6 +45,12 @@ pub trait RingBuffer<T: Drop>: Sized {
 
     /// Returns whether the ring holds as many items as `capacity` says. The next push onto a full ring takes out the
     /// oldest item if the ring has a limit, and asks for memory if it has none.
+    ///
+    /// ```rust
+    /// if queue.is_full() {
+    ///     return Err(job);
+    /// }
+    /// ```
     fn is_full(&self) -> bool
         ensures value { IfSome (limit self.now)
             (λ n. IsTrue result ↔ (length (contents self.now) ≡ n)) }
@@ -67,6 +73,11 @@ pub trait RingBuffer<T: Drop>: Sized {
 
     /// Puts the item last. A ring that is at its limit hands back its oldest item, which gave way for it.
     ///
+    /// ```rust
+    /// let _ = ring.push(42);
+    /// let _overwritten = ring.push(1); // Ok(Some(5))
+    /// ```
+    ///
     /// # Errors
     ///
     /// Hands `item` back where memory was refused, which no ring with a limit meets.
@@ -84,7 +95,11 @@ pub trait RingBuffer<T: Drop>: Sized {
         self.push(item)
     }
 
-    /// Pushes the items of a source that ends, in order. What they overwrite is dropped.
+    /// Pushes the items of a source that ends, in order. What they overwrite is dropped. Takes O(n) in the new items.
+    ///
+    /// ```rust
+    /// ring.extend(numbers)
+    /// ```
     ///
     /// # Errors
     ///
@@ -102,6 +117,10 @@ pub trait RingBuffer<T: Drop>: Sized {
         ensures succeeds { IsSome (limit self.old) → IsOk result };
 
     /// Takes out the oldest item.
+    ///
+    /// ```rust
+    /// let oldest = ring.dequeue();
+    /// ```
     fn dequeue(&mut self) -> Option<T>
         ensures value { result ≡ slice_get (contents self.old) 0 }
         ensures rest { contents self.new ≡ drop 1 (contents self.old) }
@@ -117,14 +136,14 @@ pub trait RingBuffer<T: Drop>: Sized {
         let _ = self.dequeue();
     }
 
-    /// Drops all items.
+    /// Drops all items. Takes O(n).
     fn clear(&mut self)
         ensures empty { contents self.new ≡ [] }
         ensures limit { limit self.new ≡ limit self.old }
         ensures changes { Counts limit contents slot_changes self.old self.new 0 };
 
     /// Drops all items, and then pushes as many results of `make` as `capacity` said before. An item counts as held
-    /// only after it is stored.
+    /// only after it is stored. Takes O(n), as the other fills do.
     ///
     /// # Errors
     ///
@@ -179,12 +198,17 @@ pub trait RingBuffer<T: Drop>: Sized {
         Ok(())
     }
 
-    /// Returns the item at a position, or `None` if the ring is empty.
+    /// Returns the item at a position, which is taken modulo the length, or `None` if the ring is empty.
     fn get(&self, index: usize) -> Option<&T>
         ensures { option_copied result
             ≡ slice_get (contents self.now) (index_at (length (contents self.now)) index) };
 
-    /// Returns the item at a position that may be negative, or `None` if the ring is empty.
+    /// Returns the item at a position that may be negative, and is taken modulo the length: -1 is the newest. Returns `None`
+    /// if the ring is empty.
+    ///
+    /// ```rust
+    /// let newest = ring.get_signed(-1).copied();
+    /// ```
     fn get_signed(&self, index: isize) -> Option<&T>
         ensures { option_copied result
             ≡ slice_get (contents self.now) (signed_index_at (length (contents self.now)) index) };
@@ -215,6 +239,11 @@ pub trait RingBuffer<T: Drop>: Sized {
     }
 
     /// Returns the oldest item.
+    ///
+    /// ```rust
+    /// let _ = ring.push(x);
+    /// *ring.front().unwrap()
+    /// ```
     fn front(&self) -> Option<&T>
         ensures { option_copied result ≡ slice_get (contents self.now) 0 }
     {
@@ -232,6 +261,11 @@ pub trait RingBuffer<T: Drop>: Sized {
     }
 
     /// Returns the newest item.
+    ///
+    /// ```rust
+    /// let _ = ring.push(x);
+    /// *ring.back().unwrap()
+    /// ```
     fn back(&self) -> Option<&T>
         ensures { option_copied result
             ≡ slice_get (contents self.now) (length (contents self.now) - 1) }
@@ -251,7 +285,7 @@ pub trait RingBuffer<T: Drop>: Sized {
         self.get_mut_signed(-1)
     }
 
-    /// Returns clones of the items, in order.
+    /// Returns clones of the items, in order, in new memory. Takes O(n).
     ///
     /// # Errors
     ///
@@ -268,7 +302,7 @@ pub trait RingBuffer<T: Drop>: Sized {
         Ok(items)
     }
 
-    /// Returns whether an item equals `x`.
+    /// Returns whether an item equals `x`. Takes O(n).
     fn contains(&self, x: &T) -> bool
     where
         T: PartialEq,

@@ -1,5 +1,5 @@
 -- An item put before the first once the last has given way. The place before the first was found before.
-use Rattle.ring_fixed.proofs.Words.{◌≡◌, ℕ, ◌+◌, ◌-◌, ◌%◌, ◌<◌, length, Some, None, ap, ◌∙◌, arith, length-take, Slots, IsEmptyAt, changed, View, after_pop, after_put_first, items_from, view_from, IsLaidOut, LaysOut}
+use Rattle.ring_fixed.proofs.Words.{◌≡◌, ℕ, ◌+◌, ◌-◌, ◌%◌, ◌<◌, length, Some, None, sym, ap, ◌∙◌, arith, length-take, slice_get, slot_at, Slots, IsEmptyAt, changed, View, after_pop, after_put_first, items_from, view_from, IsLaidOut, LaysOut}
 use Rattle.ring_fixed.proofs.LaysOut.{LaysOut-pop, LaysOut-then}
 use Rattle.ring_fixed.proofs.PutFirst.{LaysOut-put_first, before_empty}
 
@@ -18,6 +18,10 @@ module _ {X : Type 0} {P : ℕ → Type 0} {s taken : Slots X} {start first last
 
   found_again : first ≡ (start + (length taken.slots - 1)) % length taken.slots
   found_again = rw after.same_size found
+
+  -- what was taken is the last item
+  pub last_is : (x : X) → slot_at s last ≡ Some x → slice_get (items_from s.slots start) (len - 1) ≡ Some x
+  last_is x value = let fit = laid_out.fit in sym (laid_out.layout (len - 1) (omega (arith, counted))) ∙ rw lies at value
 
   pub under_empty : IsEmptyAt taken first
   under_empty = before_empty taken start after.laid_out first room found_again

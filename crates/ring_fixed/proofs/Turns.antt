@@ -3,7 +3,7 @@ use Rattle.ring_fixed.proofs.Words.{◌≡◌, ℕ, suc, ◌+◌, ◌-◌, ◌*�
 use Rattle.std.proofs.Math.Seq.{take-append_seam}
 use Rattle.ring_fixed.proofs.LaysOut.{LaysOut-then}
 use Rattle.ring_fixed.specs.declared.fixed.Fixed.{Fixed}
-use Rattle.ring_fixed.specs.fixed.Sound.{ChangesTo, IsSound, view_of}
+use Rattle.ring_fixed.specs.fixed.Sound.{ChangesTo, view_of}
 use Rattle.ring_slots.specs.Slots.{Slots}
 
 module _ {X : Type 0} where
@@ -124,7 +124,3 @@ module _ {T S : Type 0} (seen : S → Slots T) (P : ℕ → Type 0) where
   -- one call, and then another that works on what the first one shows
   pub ChangesTo-then : (a b c : Fixed T S) {v : View T} (step : View T → View T) → ChangesTo seen P a b v → ChangesTo seen P b c (step (view_of seen b)) → ChangesTo seen P a c (step v)
   ChangesTo-then a b c step first second = (LaysOut-then step first.0 second.0, second.1 ∙ ap (λ (w : View T). length (step w).items) first.0.shows)
-
-  -- a call leaves the ring sound
-  pub ChangesTo-sound : (a b : Fixed T S) {v : View T} → ChangesTo seen P a b v → IsSound seen P b
-  ChangesTo-sound a b change = (change.0.laid_out, change.1 ∙ ap (λ (w : View T). length w.items) (sym change.0.shows))

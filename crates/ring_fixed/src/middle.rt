@@ -1,6 +1,7 @@
 //! The calls of a ring of a fixed capacity at an index, and turns of its items.
 ghost use Rattle.std.specs.Prelude.{◌≡◌, ◌+◌, ◌-◌, ◌%◌, ◌<◌, ◌≤◌, Some, length, slice_get};
 ghost use Rattle.ring_fixed.specs.View.{after_insert, after_pop, after_put_first, after_remove, after_rotate, after_swap, after_turn_left, after_turn_right};
+ghost use Rattle.ring_fixed.specs.Layout.{IsLaidOut, LaysOut, view_from};
 
 use crate::fixed::{Fixed, Span};
 use ring_slots::RingSlots;
@@ -112,24 +113,29 @@ impl<T: Drop, S: RingSlots<T>> Fixed<T, S> {
         ensures { ChangesTo S.seen S.is_size self.old self.new
             (after_turn_right count (view_of S.seen self.old)) }
     {
+        let (mut start, len) = (self.start, self.len);
         for _ in 0..count {
-            self.last_to_first();
+            start = Self::last_to_first(&mut self.slots, Span { start, len });
         }
+        self.start = start;
     }
 
-    // Moves the last item before the first.
+    // Moves the last item before the first, and returns the next start.
     #[inline]
-    fn last_to_first(&mut self)
-        requires sound { IsSound S.seen S.is_size self.old }
-        requires some { 0 < length (view_of S.seen self.old).items }
+    fn last_to_first(slots: &mut S, span: Span) -> usize
+        requires laid_out { IsLaidOut S.is_size (S.seen slots.old) span.start }
+        requires len { span.len ≡ length (view_from (S.seen slots.old) span.start).items }
+        requires some { 0 < span.len }
         ensures { (x : T)
-            × (slice_get (view_of S.seen self.old).items
-            (length (view_of S.seen self.old).items - 1) ≡ Some x)
-            × ChangesTo S.seen S.is_size self.old self.new
-            (after_put_first (after_pop (view_of S.seen self.old)) x) }
+            × (slice_get (view_from (S.seen slots.old) span.start).items (span.len - 1) ≡ Some x)
+            × LaysOut S.is_size (S.seen slots.old) (S.seen slots.new) result
+            (after_put_first (after_pop (view_from (S.seen slots.old) span.start)) x) }
     {
-        if let Some(item) = self.pop_back() {
-            self.put_first(item);
-        }
+        let Span { start, len } = span;
+        let last = slots.place(start, len - 1);
+        let first = slots.place(start, slots.size() - 1);
+        let item = slots.take(last);
+        slots.put(first, item);
+        first
     }
 }

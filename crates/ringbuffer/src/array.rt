@@ -45,7 +45,12 @@ impl<T, const CAP: usize> Model for ConstGenericRingBuffer<T, CAP> {
 }
 
 impl<T: Drop, const CAP: usize> ConstGenericRingBuffer<T, CAP> {
-    /// Makes an empty ring.
+    /// Makes an empty ring. Takes O(`CAP`).
+    ///
+    /// ```rust
+    /// let mut ring = ConstGenericRingBuffer::<u32, 2>::new();
+    /// let _ = ring.push(5);
+    /// ```
     pub fn new() -> Self
         requires { 0 < CAP }
         ensures { result ≡ record { items = []; changes = 0; capacity = CAP } }
@@ -190,6 +195,10 @@ impl<T: Drop, const CAP: usize> ConstGenericRingBuffer<T, CAP> {
 
     /// Puts the item last if there is room for it, and overwrites nothing.
     ///
+    /// ```rust
+    /// queue.try_push(job)
+    /// ```
+    ///
     /// # Errors
     ///
     /// Hands `item` back if the ring is full, which stays as it was.
@@ -228,14 +237,16 @@ impl<T: Drop, const CAP: usize> ConstGenericRingBuffer<T, CAP> {
         self.ring.pop_back()
     }
 
-    /// Keeps the oldest items, as many as `len` says, and drops the others. Does nothing to a ring of no more items.
+    /// Keeps the oldest items, as many as `len` says, and drops the others. Does nothing to a ring of no more items. Takes
+    /// O(n) in those that are dropped.
     pub fn truncate(&mut self, len: usize)
         ensures { self.new ≡ after_truncate len self.old }
     {
         self.ring.truncate(len);
     }
 
-    /// Keeps the newest items, as many as `len` says, and drops the others. Does nothing to a ring of no more items.
+    /// Keeps the newest items, as many as `len` says, and drops the others. Does nothing to a ring of no more items. Takes
+    /// O(n) in those that are dropped.
     pub fn keep_newest(&mut self, len: usize)
         ensures { self.new ≡ after_keep_newest len self.old }
     {
@@ -245,7 +256,7 @@ impl<T: Drop, const CAP: usize> ConstGenericRingBuffer<T, CAP> {
 
 impl<T: Copy + Drop, const CAP: usize> ConstGenericRingBuffer<T, CAP> {
     /// Pushes copies of a slice's items in order, as `extend` would: the oldest items give way. Items of the slice that
-    /// later ones would overwrite are passed over.
+    /// later ones would overwrite are passed over. Takes O(n) in those that are put.
     pub fn extend_from_slice(&mut self, items: &[T])
         ensures { self.new ≡ after_extend_from_slice CAP self.old items.now }
     {
@@ -253,7 +264,8 @@ impl<T: Copy + Drop, const CAP: usize> ConstGenericRingBuffer<T, CAP> {
         self.ring.extend(newest.iter().copied(), CAP);
     }
 
-    /// Copies the oldest items to the first places of a slice, as many as it has, and returns how many.
+    /// Copies the oldest items to the first places of a slice, as many as it has, and returns how many. Takes O(n) in
+    /// these.
     pub fn copy_to_slice(&self, output: &mut [T]) -> usize
         ensures count { result ≡ min (length output.old) (length self.now.items) }
         ensures copied { output.new ≡ take result self.now.items ++ drop result output.old }
@@ -271,6 +283,7 @@ impl<T: Copy + Drop, const CAP: usize> ConstGenericRingBuffer<T, CAP> {
     }
 
     /// Takes out the oldest items, as many as a slice has places, copies them to its first places, and returns how many.
+    /// Takes O(n) in these.
     pub fn dequeue_into(&mut self, output: &mut [T]) -> usize
         ensures count { result ≡ min (length output.old) (length self.old.items) }
         ensures copied { output.new ≡ take result self.old.items ++ drop result output.old }
@@ -313,6 +326,10 @@ impl<T: Drop, const CAP: usize> IndexMut<usize> for ConstGenericRingBuffer<T, CA
 
 impl<T: Drop, const CAP: usize> ConstGenericRingBuffer<T, CAP> {
     /// Returns a walk over the items, oldest first, from either end.
+    ///
+    /// ```rust
+    /// ring.iter().count()
+    /// ```
     #[inline]
     pub fn iter(&self) -> RingBufferIterator<'_, T, Self>
         ensures left { iterator_to_come ⟦<ConstGenericRingBuffer<T, CAP> as RingBuffer<T>>⟧.contents
@@ -335,6 +352,10 @@ impl<T: Drop, const CAP: usize> ConstGenericRingBuffer<T, CAP> {
     }
 
     /// Returns a walk that takes the items out, oldest first. Those that it didn't hand out stay.
+    ///
+    /// ```rust
+    /// ring.drain().collect(alloc)
+    /// ```
     #[inline]
     pub fn drain(&mut self) -> RingBufferDrainingIterator<'_, T, Self>
         ensures same_reference { result.ring.ghost_name ≡ self.entry.ghost_name }
@@ -394,7 +415,7 @@ impl<'a, T: Drop, const CAP: usize> IntoIterator for &'a ConstGenericRingBuffer<
 }
 
 impl<T: Clone + Drop, const CAP: usize> ConstGenericRingBuffer<T, CAP> {
-    /// Returns a ring of clones of the items.
+    /// Returns a ring of clones of the items. Takes O(`CAP`).
     ///
     /// # Errors
     ///

@@ -43,6 +43,10 @@ impl<T> Model for GrowableAllocRingBuffer<T> {
 
 impl<T: Drop> GrowableAllocRingBuffer<T> {
     /// Makes an empty ring, which has asked for no memory.
+    ///
+    /// ```rust
+    /// let mut ring = GrowableAllocRingBuffer::new(alloc);
+    /// ```
     pub fn new(alloc: Global) -> Self
         ensures { result ≡ [] }
     {
@@ -289,14 +293,16 @@ impl<T: Drop> GrowableAllocRingBuffer<T> {
         self.deque.pop_back()
     }
 
-    /// Keeps the oldest items, as many as `len` says, and drops the others. Does nothing to a ring of no more items.
+    /// Keeps the oldest items, as many as `len` says, and drops the others. Does nothing to a ring of no more items. Takes
+    /// O(n) in those that are dropped.
     pub fn truncate(&mut self, len: usize)
         ensures { self.new ≡ take len self.old }
     {
         self.deque.truncate(len);
     }
 
-    /// Keeps the newest items, as many as `len` says, and drops the others. Does nothing to a ring of no more items.
+    /// Keeps the newest items, as many as `len` says, and drops the others. Does nothing to a ring of no more items. Takes
+    /// O(n) in those that are dropped.
     pub fn keep_newest(&mut self, len: usize)
         ensures { self.new ≡ keep_last (Some len) self.old }
     {
@@ -306,7 +312,7 @@ impl<T: Drop> GrowableAllocRingBuffer<T> {
 }
 
 impl<T: Copy + Drop> GrowableAllocRingBuffer<T> {
-    /// Puts copies of a slice's items last, in order.
+    /// Puts copies of a slice's items last, in order. Takes O(n) in these.
     ///
     /// # Errors
     ///
@@ -337,7 +343,8 @@ impl<T: Copy + Drop> GrowableAllocRingBuffer<T> {
         Ok(())
     }
 
-    /// Copies the oldest items to the first places of a slice, as many as it has, and returns how many.
+    /// Copies the oldest items to the first places of a slice, as many as it has, and returns how many. Takes O(n) in
+    /// these.
     pub fn copy_to_slice(&self, output: &mut [T]) -> usize
         ensures count { result ≡ min (length output.old) (length self.now) }
         ensures copied { output.new ≡ take result self.now ++ drop result output.old }
@@ -346,6 +353,7 @@ impl<T: Copy + Drop> GrowableAllocRingBuffer<T> {
     }
 
     /// Takes out the oldest items, as many as a slice has places, copies them to its first places, and returns how many.
+    /// Takes O(n) in these.
     pub fn dequeue_into(&mut self, output: &mut [T]) -> usize
         ensures count { result ≡ min (length output.old) (length self.old) }
         ensures copied { output.new ≡ take result self.old ++ drop result output.old }
@@ -369,7 +377,8 @@ impl<T: Drop> GrowableAllocRingBuffer<T> {
         self.deque.as_slices()
     }
 
-    /// Lends the items in one slice, oldest first, for writing. The deque moves them where they don't lie side by side.
+    /// Lends the items in one slice, oldest first, for writing. The deque moves them where they don't lie side by side,
+    /// in O(n).
     pub fn make_contiguous(&mut self) -> &mut [T]
         ensures* writes_back { sem 𝓛 (lends_items T.row self.entry result) }
         ensures value { result.now ≡ self.old }
@@ -378,6 +387,10 @@ impl<T: Drop> GrowableAllocRingBuffer<T> {
     }
 
     /// Returns a walk over the items, oldest first, from either end.
+    ///
+    /// ```rust
+    /// ring.iter().count()
+    /// ```
     #[inline]
     pub fn iter(&self) -> RingBufferIterator<'_, T, Self>
         ensures left { iterator_to_come ⟦<GrowableAllocRingBuffer<T> as RingBuffer<T>>⟧.contents
@@ -400,6 +413,10 @@ impl<T: Drop> GrowableAllocRingBuffer<T> {
     }
 
     /// Returns a walk that takes the items out, oldest first. Those that it didn't hand out stay.
+    ///
+    /// ```rust
+    /// ring.drain().collect(alloc)
+    /// ```
     #[inline]
     pub fn drain(&mut self) -> RingBufferDrainingIterator<'_, T, Self>
         ensures same_reference { result.ring.ghost_name ≡ self.entry.ghost_name }
@@ -485,7 +502,7 @@ impl<T: Drop> IndexMut<usize> for GrowableAllocRingBuffer<T> {
 }
 
 impl<T: Clone + Drop> GrowableAllocRingBuffer<T> {
-    /// Returns a ring of clones of the items.
+    /// Returns a ring of clones of the items. Takes O(n).
     ///
     /// # Errors
     ///

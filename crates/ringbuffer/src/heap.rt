@@ -57,6 +57,10 @@ impl<T> Model for AllocRingBuffer<T> {
 impl<T: Drop> AllocRingBuffer<T> {
     /// Makes an empty ring of this capacity.
     ///
+    /// ```rust
+    /// let mut ring = AllocRingBuffer::new(alloc, 2)?;
+    /// ```
+    ///
     /// # Errors
     ///
     /// Where memory was refused or the bytes can't be asked for, and for every capacity above the greatest power of two.
@@ -259,6 +263,10 @@ impl<T: Drop> AllocRingBuffer<T> {
 
     /// Puts the item last if there is room for it, and overwrites nothing.
     ///
+    /// ```rust
+    /// queue.try_push(job)
+    /// ```
+    ///
     /// # Errors
     ///
     /// Hands `item` back if the ring is full, which stays as it was.
@@ -286,7 +294,7 @@ impl<T: Drop> AllocRingBuffer<T> {
     }
 
     /// Moves the items into memory for another capacity, and keeps the newest if they are more. The count of slot changes
-    /// begins anew.
+    /// begins anew. Takes O(n).
     ///
     /// # Errors
     ///
@@ -318,14 +326,16 @@ impl<T: Drop> AllocRingBuffer<T> {
         self.ring.pop_back()
     }
 
-    /// Keeps the oldest items, as many as `len` says, and drops the others. Does nothing to a ring of no more items.
+    /// Keeps the oldest items, as many as `len` says, and drops the others. Does nothing to a ring of no more items. Takes
+    /// O(n) in those that are dropped.
     pub fn truncate(&mut self, len: usize)
         ensures { self.new ≡ after_truncate len self.old }
     {
         self.ring.truncate(len);
     }
 
-    /// Keeps the newest items, as many as `len` says, and drops the others. Does nothing to a ring of no more items.
+    /// Keeps the newest items, as many as `len` says, and drops the others. Does nothing to a ring of no more items. Takes
+    /// O(n) in those that are dropped.
     pub fn keep_newest(&mut self, len: usize)
         ensures { self.new ≡ after_keep_newest len self.old }
     {
@@ -335,7 +345,7 @@ impl<T: Drop> AllocRingBuffer<T> {
 
 impl<T: Copy + Drop> AllocRingBuffer<T> {
     /// Pushes copies of a slice's items in order, as `extend` would: the oldest items give way. Items of the slice that
-    /// later ones would overwrite are passed over.
+    /// later ones would overwrite are passed over. Takes O(n) in those that are put.
     pub fn extend_from_slice(&mut self, items: &[T])
         ensures { self.new ≡ after_extend_from_slice self.old.capacity self.old items.now }
     {
@@ -346,7 +356,8 @@ impl<T: Copy + Drop> AllocRingBuffer<T> {
         );
     }
 
-    /// Copies the oldest items to the first places of a slice, as many as it has, and returns how many.
+    /// Copies the oldest items to the first places of a slice, as many as it has, and returns how many. Takes O(n) in
+    /// these.
     pub fn copy_to_slice(&self, output: &mut [T]) -> usize
         ensures count { result ≡ min (length output.old) (length self.now.items) }
         ensures copied { output.new ≡ take result self.now.items ++ drop result output.old }
@@ -355,6 +366,7 @@ impl<T: Copy + Drop> AllocRingBuffer<T> {
     }
 
     /// Takes out the oldest items, as many as a slice has places, copies them to its first places, and returns how many.
+    /// Takes O(n) in these.
     pub fn dequeue_into(&mut self, output: &mut [T]) -> usize
         ensures count { result ≡ min (length output.old) (length self.old.items) }
         ensures copied { output.new ≡ take result self.old.items ++ drop result output.old }
@@ -423,7 +435,7 @@ impl<T: Drop> AllocRingBuffer<T> {
     }
 
     /// Lends the items in one slice, oldest first, for writing. Where some go on at the beginning of the block, they
-    /// are moved first, without memory. This counts as four changes an item, moved or not.
+    /// are moved first, without memory, in O(n). This counts as four changes an item, moved or not.
     pub fn make_contiguous(&mut self) -> &mut [T]
         ensures* writes_back { sem 𝓛 (lends_items T.row self.entry result) }
         ensures value { result.now ≡ self.old.items }
@@ -432,6 +444,10 @@ impl<T: Drop> AllocRingBuffer<T> {
     }
 
     /// Returns a walk over the items, oldest first, from either end.
+    ///
+    /// ```rust
+    /// ring.iter().count()
+    /// ```
     #[inline]
     pub fn iter(&self) -> RingBufferIterator<'_, T, Self>
         ensures left { iterator_to_come ⟦<AllocRingBuffer<T> as RingBuffer<T>>⟧.contents result
@@ -453,6 +469,10 @@ impl<T: Drop> AllocRingBuffer<T> {
     }
 
     /// Returns a walk that takes the items out, oldest first. Those that it didn't hand out stay.
+    ///
+    /// ```rust
+    /// ring.drain().collect(alloc)
+    /// ```
     #[inline]
     pub fn drain(&mut self) -> RingBufferDrainingIterator<'_, T, Self>
         ensures same_reference { result.ring.ghost_name ≡ self.entry.ghost_name }
@@ -522,7 +542,7 @@ impl<T: Clone + Drop> Clone for AllocRingBuffer<T> {
 }
 
 impl<T: Clone + Drop> AllocRingBuffer<T> {
-    /// Returns a ring of the same capacity, of clones of the items.
+    /// Returns a ring of the same capacity, of clones of the items. Takes O(n).
     ///
     /// # Errors
     ///

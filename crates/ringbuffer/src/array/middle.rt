@@ -6,7 +6,8 @@ use super::ConstGenericRingBuffer;
 use ring_core::RingBuffer;
 
 impl<T: Drop, const CAP: usize> ConstGenericRingBuffer<T, CAP> {
-    /// Puts an item at an index, before the items from there on. At the length it is put last.
+    /// Puts an item at an index, before the items from there on. At the length it is put last. Moves the fewer of the items
+    /// before and behind, one at a time: O(n).
     ///
     /// # Errors
     ///
@@ -24,7 +25,8 @@ impl<T: Drop, const CAP: usize> ConstGenericRingBuffer<T, CAP> {
         Ok(())
     }
 
-    /// Takes out the item at an index, or returns `None` from the length on.
+    /// Takes out the item at an index, or returns `None` from the length on. Moves the fewer of the items before and behind,
+    /// one at a time: O(n).
     pub fn remove(&mut self, index: usize) -> Option<T>
         ensures value { result ≡ slice_get self.old.items index }
         ensures some { index < length self.old.items → self.new ≡ after_remove index self.old }
@@ -45,7 +47,7 @@ impl<T: Drop, const CAP: usize> ConstGenericRingBuffer<T, CAP> {
         self.ring.swap(i, j);
     }
 
-    /// Moves the oldest items behind the newest, as many as `count` says.
+    /// Moves the oldest items behind the newest, as many as `count` says, or the others the other way: O(n) in the fewer.
     pub fn rotate_left(&mut self, count: usize)
         requires { count ≤ length self.old.items }
         ensures { self.new ≡ after_rotate count self.old }
@@ -53,7 +55,7 @@ impl<T: Drop, const CAP: usize> ConstGenericRingBuffer<T, CAP> {
         self.ring.rotate_left(count);
     }
 
-    /// Moves the newest items before the oldest, as many as `count` says.
+    /// Moves the newest items before the oldest, as many as `count` says, or the others the other way: O(n) in the fewer.
     pub fn rotate_right(&mut self, count: usize)
         requires { count ≤ length self.old.items }
         ensures { self.new ≡ after_rotate (length self.old.items - count) self.old }

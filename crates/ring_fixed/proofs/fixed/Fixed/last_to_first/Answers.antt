@@ -1,16 +1,15 @@
-use Rattle.ring_fixed.proofs.Words.{◌-◌, ◌∙◌, arith, length, sym, IsSome, None, after_put_first, slice_get, view_of}
-use Rattle.ring_fixed.proofs.LaysOut.{slice_get_some}
-use Rattle.ring_fixed.proofs.Turns.{ChangesTo-then}
+use Rattle.ring_fixed.proofs.PutUnder.{last_is, under_empty, under_lays_out}
 use Rattle.ring_fixed.proofs.fixed.Fixed.last_to_first.Goals as goal
 
-pub returns-in-Some : goal.returns-in-Some
-returns-in-Some g c =
-    let S = g.S.RingSlots in let x = c.in-Some.item in
-    (x, sym c.pop_back.ensures.value ∙ c.in-Some.is, ChangesTo-then S.seen S.is_size c.args.self.now c.pop_back.new.self c.put_first.new.self (λ w. after_put_first w x) c.pop_back.ensures.after c.put_first.ensures)
+-- Once the last item is taken, the place before the first is empty.
+pub put-requires : goal.put-requires
+put-requires g c =
+    under_empty c.requires.laid_out c.requires.len c.requires.some c.place-last.ensures (rw c.size.ensures at c.place-first.ensures) c.take-item.ensures.after
 
--- A ring that holds an item has a last one.
-pub returns-in_default : goal.returns-in_default
-returns-in_default g c =
-    let items = (view_of g.S.RingSlots.seen c.args.self.now).items in
-    let last : IsSome (slice_get items (length items - 1)) = slice_get_some items (length items - 1) (omega (arith, c.requires.some)) in
-    absurd (let no : IsSome {T = g.row.T.Denot} None = rw (sym c.pop_back.ensures.value ∙ c.in_default.is) at last in cc)
+pub returns : goal.returns
+returns g c =
+    let before = rw c.size.ensures at c.place-first.ensures in let taken = c.take-item.ensures in (
+      c.take-item.result,
+      last_is c.requires.laid_out c.requires.len c.requires.some c.place-last.ensures before taken.after _ taken.value,
+      under_lays_out c.requires.laid_out c.requires.len c.requires.some c.place-last.ensures before taken.after _ _ c.put.ensures,
+    )
