@@ -1,9 +1,9 @@
-//! Links the static library of the crate `ring_workloads`, the toolchain's part of the C library, and the Boost side.
+//! Links the static libraries of the crate `ring_workloads` and of the toolchain's rings, the toolchain's part of the C library, and the Boost side.
 
 use std::env;
 
 fn main() {
-    for name in ["RING_WORKLOADS_LIBRARY", "RATTLE_C_LIBRARY"] {
+    for name in ["RING_WORKLOADS_LIBRARY", "RIVAL_WORKLOADS_LIBRARY", "RATTLE_C_LIBRARY"] {
         println!("cargo:rerun-if-env-changed={name}");
         let path = env::var(name).unwrap_or_else(|_| panic!("{name} isn't set: bench/run sets it"));
         println!("cargo:rerun-if-changed={path}");

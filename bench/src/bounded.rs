@@ -5,6 +5,7 @@ use crate::sliding;
 use crate::work::{Work, EXTENSION};
 use std::collections::VecDeque;
 use std::hint::black_box;
+use std::io::{Read, Write};
 
 fn push_one(ring: &mut VecDeque<u64>, capacity: usize, item: u64) {
     if ring.len() == capacity {
@@ -128,6 +129,44 @@ fn undo(ring: &mut VecDeque<u64>, capacity: usize, items: usize) -> u64 {
     sum
 }
 
+#[inline(never)]
+fn push_front(ring: &mut VecDeque<u64>, capacity: usize, items: usize) {
+    for number in 0..items {
+        if ring.len() == capacity {
+            ring.pop_back();
+        }
+        ring.push_front(number as u64);
+    }
+}
+
+#[inline(never)]
+fn exchange(ring: &mut VecDeque<u64>, capacity: usize, items: usize) -> u64 {
+    let mut sum = 0u64;
+    let mut random = 0u64;
+    for _ in 0..items {
+        random = sliding::after_random(random);
+        let from = (random >> 33) as usize % capacity;
+        random = sliding::after_random(random);
+        let to = (random >> 33) as usize % capacity;
+        sum = sum.wrapping_add(ring.remove(from).unwrap_or(0));
+        ring.insert(to.min(ring.len()), random);
+    }
+    sum
+}
+
+#[inline(never)]
+fn copy_in(ring: &mut VecDeque<u64>, items: &[u64]) {
+    ring.clear();
+    ring.extend(items);
+}
+
+#[inline(never)]
+fn straighten(ring: &mut VecDeque<u64>, half: &[u64]) -> u64 {
+    ring.drain(..half.len());
+    ring.extend(half);
+    ring.make_contiguous()[0]
+}
+
 /// A pipe of bytes, and the capacity that it is kept to.
 struct Pipe {
     bytes: VecDeque<u8>,
@@ -145,11 +184,18 @@ fn relay(pipe: &mut Pipe, block: &[u8], output: &mut [u8]) {
     }
 }
 
-fn through_pipe(capacity: usize, items: usize) -> u64 {
+/// The same by the traits of `std::io`. The block fits: as many bytes leave as come.
+#[inline(never)]
+fn stream(pipe: &mut Pipe, block: &[u8], output: &mut [u8]) {
+    let _ = pipe.bytes.write(block);
+    let _ = pipe.bytes.read(output);
+}
+
+fn through_pipe(work: Work, capacity: usize, items: usize) -> u64 {
     let mut bytes = VecDeque::with_capacity(capacity);
     bytes.extend(pipe::first_bytes());
     bytes.drain(..pipe::START);
-    pipe::relay_blocks(&mut Pipe { bytes, capacity }, items, relay)
+    pipe::relay_blocks(&mut Pipe { bytes, capacity }, items, if work == Work::Stream { stream } else { relay })
 }
 
 /// A sum that is kept by hand.
@@ -219,7 +265,18 @@ pub fn deque(work: Work, capacity: usize, items: usize) -> u64 {
         Work::Fill => (0..rounds).for_each(|round| fill(&mut ring, capacity, round as u64)),
         Work::Refill => (0..rounds).for_each(|round| refill(&mut ring, capacity, round as u64)),
         Work::Slide => return slide(capacity, items),
-        Work::Pipe => return through_pipe(capacity, items),
+        Work::Pipe | Work::Stream => return through_pipe(work, capacity, items),
+        Work::PushFront => push_front(&mut ring, capacity, items),
+        Work::Exchange => sum = exchange(&mut ring, capacity, items),
+        Work::CopyIn => {
+            let source: Vec<u64> = ring.iter().copied().collect();
+            (0..rounds).for_each(|_| copy_in(black_box(&mut ring), &source));
+        }
+        Work::Straighten => {
+            let half: Vec<u64> = ring.iter().take(capacity / 2).copied().collect();
+            (0..rounds).for_each(|_| sum = sum.wrapping_add(straighten(&mut ring, &half)));
+        }
+        Work::PushOwned | Work::PushDequeueOwned | Work::RefillOwned | Work::TryRefill => unreachable!("not of a deque"),
         Work::Undo => sum = undo(&mut ring, capacity, items),
         Work::Least | Work::LeastRising | Work::LeastFalling | Work::Product => {
             return sliding::by_hand(work, capacity, items);

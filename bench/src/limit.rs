@@ -2,6 +2,7 @@
 
 use crate::pipe;
 use crate::work::{Work, EXTENSION};
+use std::hint::black_box;
 
 struct Masked {
     slots: Box<[u64]>,
@@ -98,6 +99,19 @@ fn slide(ring: &mut Masked, sum: &mut i128, items: usize) -> i128 {
     sums
 }
 
+#[inline(never)]
+fn copy_in(slots: &mut [u64], items: &[u64]) {
+    slots.copy_from_slice(items);
+}
+
+/// Puts a half in place of the first one, and turns the slice by it.
+#[inline(never)]
+fn straighten(slots: &mut [u64], half: &[u64]) -> u64 {
+    slots[..half.len()].copy_from_slice(half);
+    slots.rotate_left(half.len());
+    slots[0]
+}
+
 /// A pipe that keeps no length, and whose blocks never go round its end.
 struct Pipe {
     bytes: Box<[u8]>,
@@ -149,8 +163,16 @@ pub fn slices(work: Work, capacity: usize, items: usize) -> u64 {
             (0..rounds).for_each(|round| refill(&mut ring.slots[..capacity], round as u64));
         }
         Work::Slide => sum = slide(&mut ring, &mut 0, items) as u64,
-        Work::Pipe => return through_pipe(capacity, items),
-        Work::Undo | Work::Least | Work::LeastRising | Work::LeastFalling | Work::Product => unreachable!("no such limit"),
+        Work::Pipe | Work::Stream => return through_pipe(capacity, items),
+        Work::CopyIn => {
+            let source = ring.slots[..capacity].to_vec();
+            (0..rounds).for_each(|_| copy_in(black_box(&mut ring.slots[..capacity]), &source));
+        }
+        Work::Straighten => {
+            let half = ring.slots[..capacity / 2].to_vec();
+            (0..rounds).for_each(|_| sum = sum.wrapping_add(straighten(&mut ring.slots[..capacity], &half)));
+        }
+        _ => unreachable!("no such limit"),
     }
     sum.wrapping_add(ring.read(0))
 }

@@ -1,8 +1,9 @@
 //! Times the rings of this repository beside others, all in one process.
 //!
-//! `time` prints a line `work,capacity,contender,nanoseconds` for each, `time WORK` those of one kind of work. `list` prints the same names without a time, and
-//! `once CONTENDER WORK CAPACITY ITEMS` does one piece of work, for a program that counts instructions. `table TIMES
-//! COUNTS` prints both as tables of Markdown.
+//! `time` prints a line `work;capacity;contender;nanoseconds` for each, `time WORK` those of one kind of work. `list`
+//! prints the same names, each with how many items to count instructions for, and `once CONTENDER WORK CAPACITY ITEMS`
+//! does one piece of work, for a program that counts them. `table TIMES COUNTS` prints both as tables of Markdown, and
+//! `chart COUNTS` the ratios that the chart shows.
 
 mod bounded;
 mod limit;
@@ -14,12 +15,14 @@ mod work;
 
 use std::time::Instant;
 use std::{env, fs};
-use work::{Work, CAPACITIES};
+use work::Work;
 
 extern "C" {
     fn ring_workloads_array(work: u32, capacity: usize, items: usize) -> u64;
     fn ring_workloads_heap(work: u32, capacity: usize, items: usize) -> u64;
     fn ring_workloads_growable(work: u32, capacity: usize, items: usize) -> u64;
+    fn rival_deque(work: u32, capacity: usize, items: usize) -> u64;
+    fn rival_circular_buffer(work: u32, capacity: usize, items: usize) -> u64;
     #[cfg(feature = "boost")]
     fn boost_side(work: u32, capacity: usize, items: usize) -> u64;
 }
@@ -39,6 +42,17 @@ const PIPES: [&str; 5] = ["heap", "Rust heap", "VecDeque", "Boost", "limit"];
 /// The contenders at undoing, of those that can take out their newest item.
 const HISTORIES: [&str; 5] = ["heap", "growable", "Rust growable", "VecDeque", "Boost"];
 
+/// The contenders of the toolchain, which do what each ring does that a program would use for one.
+const RIVALS: [&str; 2] = ["Rattle VecDeque", "circular_buffer"];
+
+/// The contenders at loops that own their ring, and those at what the Rust crate lacks.
+const OWNED: [&str; 3] = ["heap", "Rust heap", "Rust growable"];
+const FRONTS: [&str; 4] = ["array", "heap", "growable", "VecDeque"];
+const TRIES: [&str; 2] = ["array", "heap"];
+const COPIES: [&str; 5] = ["array", "heap", "growable", "VecDeque", "limit"];
+const SLICES: [&str; 4] = ["heap", "growable", "VecDeque", "limit"];
+const STREAMS: [&str; 3] = ["heap", "VecDeque", "limit"];
+
 /// The contenders at windows with their least sample or their product. `VecDeque` keeps pairs of them, or two stacks, by hand.
 const WINDOWS: [&str; 2] = ["heap", "VecDeque"];
 
@@ -46,12 +60,20 @@ impl Contender {
     /// Whether it is timed at this work with this capacity.
     fn does(&self, work: Work, capacity: usize) -> bool {
         match work {
-            Work::Slide => self.name != ANEW || capacity <= 1000,
+            Work::Slide => !RIVALS.contains(&self.name) && (self.name != ANEW || capacity <= 1000),
             Work::Pipe => capacity == pipe::CAPACITY && PIPES.contains(&self.name),
-            Work::Undo => HISTORIES.contains(&self.name),
+            Work::Undo => HISTORIES.contains(&self.name) || RIVALS.contains(&self.name),
             Work::Least | Work::LeastRising | Work::LeastFalling | Work::Product => {
                 WINDOWS.contains(&self.name) || self.name == ANEW && capacity <= 1000
             }
+            Work::PushOwned | Work::PushDequeueOwned | Work::RefillOwned => OWNED.contains(&self.name),
+            Work::PushFront | Work::Exchange => FRONTS.contains(&self.name),
+            Work::TryRefill => TRIES.contains(&self.name),
+            Work::CopyIn => COPIES.contains(&self.name),
+            Work::Straighten => SLICES.contains(&self.name),
+            Work::Stream => capacity == pipe::CAPACITY && STREAMS.contains(&self.name),
+            // An extension from a source: `circular_buffer` has none, and a deque would outgrow its capacity.
+            Work::Reextend => self.name != ANEW && !RIVALS.contains(&self.name),
             _ => self.name != ANEW,
         }
     }
@@ -66,6 +88,8 @@ pub const CONTENDERS: &[Contender] = &[
     Contender { name: "growable", run: |work, capacity, items| unsafe { ring_workloads_growable(work as u32, capacity, items) } },
     Contender { name: "Rust growable", run: rust_side::growable },
     Contender { name: "VecDeque", run: bounded::deque },
+    Contender { name: "Rattle VecDeque", run: |work, capacity, items| unsafe { rival_deque(work as u32, capacity, items) } },
+    Contender { name: "circular_buffer", run: |work, capacity, items| unsafe { rival_circular_buffer(work as u32, capacity, items) } },
     #[cfg(feature = "boost")]
     Contender { name: "Boost", run: |work, capacity, items| unsafe { boost_side(work as u32, capacity, items) } },
     Contender { name: ANEW, run: sliding::anew },
@@ -79,11 +103,22 @@ const ITEMS: usize = 1 << 19;
 /// Bytes go so fast that as many of them would be lost in the time of making the pipe.
 const BYTES: usize = ITEMS << 5;
 
-fn items(work: Work) -> usize {
-    if work == Work::Pipe {
-        BYTES
-    } else {
-        ITEMS
+/// An item takes as many steps here as the ring holds.
+const EXCHANGES: usize = 1 << 9;
+
+fn items(work: Work, capacity: usize) -> usize {
+    match work {
+        Work::Pipe | Work::Stream => BYTES,
+        Work::Exchange => EXCHANGES,
+        _ => ITEMS.max(capacity),
+    }
+}
+
+/// How many of them instructions are counted for.
+fn counted(work: Work, capacity: usize) -> usize {
+    match work {
+        Work::Exchange => EXCHANGES,
+        _ => capacity.max(65536),
     }
 }
 
@@ -96,18 +131,19 @@ fn seconds(contender: &Contender, work: Work, capacity: usize, items: usize) -> 
 /// The least time of many rounds in which all contenders take turns, less the least time of making and filling the ring.
 fn time(works: &[Work]) {
     for &work in works {
-        for capacity in CAPACITIES {
+        for &capacity in work.capacities() {
+            let items = items(work, capacity);
             let contenders: Vec<_> = CONTENDERS.iter().filter(|it| it.does(work, capacity)).collect();
             let mut least = vec![(f64::MAX, f64::MAX); contenders.len()];
             for _ in 0..ROUNDS {
                 for (contender, (made, done)) in contenders.iter().zip(&mut least) {
                     *made = made.min(seconds(contender, work, capacity, 0));
-                    *done = done.min(seconds(contender, work, capacity, items(work)));
+                    *done = done.min(seconds(contender, work, capacity, items));
                 }
             }
             for (contender, (made, done)) in contenders.iter().zip(least) {
-                let nanoseconds = (done - made) * 1e9 / items(work) as f64;
-                println!("{},{capacity},{},{nanoseconds:.4}", work.name(), contender.name);
+                let nanoseconds = (done - made) * 1e9 / items as f64;
+                println!("{};{capacity};{};{nanoseconds:.4}", work.name(), contender.name);
             }
         }
     }
@@ -115,9 +151,9 @@ fn time(works: &[Work]) {
 
 fn list() {
     for work in Work::ALL {
-        for capacity in CAPACITIES {
+        for &capacity in work.capacities() {
             for contender in CONTENDERS.iter().filter(|it| it.does(work, capacity)) {
-                println!("{},{capacity},{}", work.name(), contender.name);
+                println!("{};{capacity};{};{}", work.name(), contender.name, counted(work, capacity));
             }
         }
     }
@@ -145,6 +181,7 @@ fn main() {
             let read = |path: &str| fs::read_to_string(path).expect("a file of measurements");
             print!("{}", table::tables(&read(times), &read(counts)));
         }
-        _ => panic!("time [WORK] | list | once CONTENDER WORK CAPACITY ITEMS | table TIMES COUNTS"),
+        ["chart", counts] => print!("{}", table::ratios_to_best(&fs::read_to_string(counts).expect("a file of measurements"))),
+        _ => panic!("time [WORK] | list | once CONTENDER WORK CAPACITY ITEMS | table TIMES COUNTS | chart COUNTS"),
     }
 }

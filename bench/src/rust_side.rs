@@ -48,6 +48,35 @@ fn push_dequeue<R: RingBuffer<u64>>(ring: &mut R, items: usize) -> u64 {
 }
 
 #[inline(never)]
+fn push_owned<R: RingBuffer<u64>>(mut ring: R, items: usize) -> R {
+    for number in 0..items {
+        ring.push(number as u64);
+    }
+    ring
+}
+
+#[inline(never)]
+fn push_dequeue_owned<R: RingBuffer<u64>>(mut ring: R, items: usize) -> (R, u64) {
+    let mut sum = 0u64;
+    for number in 0..items {
+        ring.push(number as u64);
+        if let Some(item) = ring.dequeue() {
+            sum = sum.wrapping_add(item);
+        }
+    }
+    (ring, sum)
+}
+
+#[inline(never)]
+fn refill_owned<R: RingBuffer<u64>>(mut ring: R, capacity: usize, round: u64) -> R {
+    ring.clear();
+    for number in 0..capacity {
+        ring.push(round.wrapping_add(number as u64));
+    }
+    ring
+}
+
+#[inline(never)]
 fn extend<R: RingBuffer<u64>>(ring: &mut R) {
     ring.extend(0..EXTENSION);
 }
@@ -227,6 +256,16 @@ fn on_full<R: Own>(mut ring: R, work: Work, capacity: usize, items: usize) -> u6
         Work::FromSlice => {
             let source = ring.to_vec();
             (0..rounds).for_each(|_| sum = of_slice::<R>(&source, sum));
+        }
+        Work::PushOwned => ring = push_owned(ring, items),
+        Work::PushDequeueOwned => {
+            ring.skip();
+            (ring, sum) = push_dequeue_owned(ring, items);
+        }
+        Work::RefillOwned => {
+            for round in 0..rounds {
+                ring = refill_owned(ring, capacity, round as u64);
+            }
         }
         _ => (0..rounds).for_each(|round| refill(&mut ring, capacity, round as u64)),
     }

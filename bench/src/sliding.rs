@@ -9,8 +9,16 @@ fn series(work: Work) -> (u64, u64) {
     match work {
         Work::LeastRising => (1, 1),
         Work::LeastFalling => (1, u64::MAX),
-        _ => (6364136223846793005, 1442695040888963407),
+        _ => RANDOM,
     }
+}
+
+/// The factor and the step of a series that looks random.
+const RANDOM: (u64, u64) = (6364136223846793005, 1442695040888963407);
+
+/// The number that follows in that series.
+pub fn after_random(number: u64) -> u64 {
+    number.wrapping_mul(RANDOM.0).wrapping_add(RANDOM.1)
 }
 
 /// The samples that are below all that came after them, each with its number, oldest first.

@@ -1,6 +1,6 @@
-//! Tables of Markdown out of lines `work,capacity,contender,number`.
+//! Tables of Markdown out of lines `work;capacity;contender;number`.
 
-use crate::work::{Work, CAPACITIES};
+use crate::work::Work;
 use crate::CONTENDERS;
 use std::collections::HashMap;
 use std::fmt::Write;
@@ -11,7 +11,7 @@ fn numbers(lines: &str) -> Numbers<'_> {
     lines
         .lines()
         .map(|line| {
-            let mut fields = line.split(',');
+            let mut fields = line.split(';');
             let mut field = || fields.next().expect("four fields a line");
             let (work, capacity, contender, number) = (field(), field(), field(), field());
             let capacity = capacity.parse().expect("a capacity");
@@ -22,7 +22,7 @@ fn numbers(lines: &str) -> Numbers<'_> {
 
 /// Each kind of work at each capacity that was measured.
 fn rows<'a>(numbers: &'a Numbers) -> impl Iterator<Item = (&'static str, usize)> + 'a {
-    let all = Work::ALL.into_iter().flat_map(|work| CAPACITIES.map(|capacity| (work.name(), capacity)));
+    let all = Work::ALL.into_iter().flat_map(|work| work.capacities().iter().map(move |capacity| (work.name(), *capacity)));
     all.filter(|row| numbers.keys().any(|(work, capacity, _)| (*work, *capacity) == *row))
 }
 
@@ -54,17 +54,26 @@ fn table(numbers: &Numbers) -> String {
 }
 
 /// The ratios that there are targets for, where both were measured.
-fn ratios(times: &Numbers) -> String {
-    let pairs = [("heap", "Rust heap"), ("growable", "Rust growable"), ("array", "Rust array"), ("heap", "limit")];
+fn ratios(numbers: &Numbers) -> String {
+    let pairs = [
+        ("heap", "Rust heap"),
+        ("growable", "Rust growable"),
+        ("array", "Rust array"),
+        ("heap", "circular_buffer"),
+        ("heap", "Rattle VecDeque"),
+        ("heap", "limit"),
+    ];
     let mut text = String::from("| work | capacity |");
     for (ours, theirs) in pairs {
         write!(text, " {ours} / {theirs} |").unwrap();
     }
-    text.push_str("\n|---|---|---|---|---|---|\n");
-    for (work, capacity) in rows(times) {
+    text.push_str("\n|---|---|");
+    text.push_str(&"---|".repeat(pairs.len()));
+    text.push('\n');
+    for (work, capacity) in rows(numbers) {
         write!(text, "| {work} | {capacity} |").unwrap();
         for (ours, theirs) in pairs {
-            let of = |contender| times.get(&(work, capacity, contender));
+            let of = |contender| numbers.get(&(work, capacity, contender));
             text.push_str(&cell(of(ours).zip(of(theirs)).map(|(ours, theirs)| ours / theirs)));
         }
         text.push('\n');
@@ -72,12 +81,38 @@ fn ratios(times: &Numbers) -> String {
     text
 }
 
+/// Rings of this repository, each with the others that a program could take in its place.
+const RIVALS: [(&str, &[&str]); 3] = [
+    ("heap", &["Rust heap", "VecDeque", "Rattle VecDeque", "circular_buffer", "Boost"]),
+    ("growable", &["Rust growable", "VecDeque", "Rattle VecDeque", "Boost"]),
+    ("array", &["Rust array"]),
+];
+
+/// For each ring a block of lines `work;ratio`, by the least number that a rival has at a capacity of 1024 items. An empty
+/// pair of lines ends a block.
+pub fn ratios_to_best(lines: &str) -> String {
+    let numbers = numbers(lines);
+    let mut text = String::new();
+    for (ours, rivals) in RIVALS {
+        for (work, capacity) in rows(&numbers).filter(|(_, capacity)| *capacity == 1024) {
+            let of = |contender| numbers.get(&(work, capacity, contender)).copied();
+            let best = rivals.iter().filter_map(|rival| of(rival)).reduce(f64::min);
+            if let (Some(ours), Some(best)) = (of(ours), best) {
+                writeln!(text, "{work};{:.4}", ours / best).unwrap();
+            }
+        }
+        text.push_str("\n\n");
+    }
+    text
+}
+
 pub fn tables(times: &str, counts: &str) -> String {
-    let times = numbers(times);
+    let (times, counts) = (numbers(times), numbers(counts));
     format!(
-        "## Nanoseconds per item\n\n{}\n## Ratios of these times\n\n{}\n## Instructions per item\n\n{}",
+        "## Instructions per item\n\n{}\n## Ratios of these instructions\n\n{}\n## Nanoseconds per item\n\n{}\n## Ratios of these times\n\n{}",
+        table(&counts),
+        ratios(&counts),
         table(&times),
-        ratios(&times),
-        table(&numbers(counts))
+        ratios(&times)
     )
 }

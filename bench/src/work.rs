@@ -3,7 +3,13 @@
 /// The number of items of one extension.
 pub const EXTENSION: u64 = 4096;
 
-pub const CAPACITIES: [usize; 4] = [7, 1000, 1024, 65536];
+const CAPACITIES: [usize; 4] = [7, 1000, 1024, 65536];
+
+/// The capacities at which items move to lie in one slice: powers of two up to far beyond the cache.
+const STRAIGHTENED: [usize; 4] = [1 << 10, 1 << 16, 1 << 20, 1 << 23];
+
+/// Those at which items leave and come at an index, which takes as many steps as the ring holds.
+const EXCHANGED: [usize; 2] = [1000, 65536];
 
 #[derive(Clone, Copy, PartialEq, Eq)]
 #[repr(u32)]
@@ -30,10 +36,19 @@ pub enum Work {
     LeastRising,
     LeastFalling,
     Product,
+    PushOwned,
+    PushDequeueOwned,
+    RefillOwned,
+    PushFront,
+    TryRefill,
+    Exchange,
+    CopyIn,
+    Straighten,
+    Stream,
 }
 
 impl Work {
-    pub const ALL: [Work; 22] = [
+    pub const ALL: [Work; 31] = [
         Work::Push,
         Work::PushCall,
         Work::PushDequeue,
@@ -56,7 +71,25 @@ impl Work {
         Work::LeastRising,
         Work::LeastFalling,
         Work::Product,
+        Work::PushOwned,
+        Work::PushDequeueOwned,
+        Work::RefillOwned,
+        Work::PushFront,
+        Work::TryRefill,
+        Work::Exchange,
+        Work::CopyIn,
+        Work::Straighten,
+        Work::Stream,
     ];
+
+    /// The capacities that it is measured at.
+    pub fn capacities(self) -> &'static [usize] {
+        match self {
+            Work::Straighten => &STRAIGHTENED,
+            Work::Exchange => &EXCHANGED,
+            _ => &CAPACITIES,
+        }
+    }
 
     pub fn name(self) -> &'static str {
         match self {
@@ -82,6 +115,15 @@ impl Work {
             Work::LeastRising => "sliding least, rising",
             Work::LeastFalling => "sliding least, falling",
             Work::Product => "sliding product",
+            Work::PushOwned => "push, ring owned",
+            Work::PushDequeueOwned => "push and dequeue, ring owned",
+            Work::RefillOwned => "clear and refill, ring owned",
+            Work::PushFront => "push at the front",
+            Work::TryRefill => "clear and refill by try_push",
+            Work::Exchange => "remove and insert at random",
+            Work::CopyIn => "clear and extend by a slice",
+            Work::Straighten => "extend by half and make contiguous",
+            Work::Stream => "bytes read and written",
         }
     }
 }

@@ -3,10 +3,11 @@
 //! Each export makes a ring of u64 items, a window over one of i64 samples, or a pipe of bytes, fills it, does so much
 //! work on it, and returns a number that depends on that work. Its first argument names the work, by the numbers of
 //! `Work`. It returns 0 where the work or the array's capacity isn't one of those named here, where the capacity is 0,
-//! and where memory is refused. Only the heap ring does `Work::Pipe` and the work on windows with their least sample or
-//! their product: the others return 0 for it.
+//! and where memory is refused. Only the heap ring does the work on pipes, on rings that a loop owns, and on windows with
+//! their least sample or their product: the others return 0 for it.
 #![tactic(auto)]
 
+mod own;
 mod pipes;
 mod rings;
 mod windows;
@@ -34,8 +35,15 @@ pub extern "C" fn ring_workloads_array(
     };
     match work {
         Work::Slide => return on_array_window(capacity, items),
-        Work::Pipe | Work::Least | Work::LeastRising | Work::LeastFalling | Work::Product =>
-            return 0,
+        Work::Pipe
+        | Work::Stream
+        | Work::Least
+        | Work::LeastRising
+        | Work::LeastFalling
+        | Work::Product
+        | Work::PushOwned
+        | Work::PushDequeueOwned
+        | Work::RefillOwned => return 0,
         _ => {}
     }
     match capacity {
@@ -81,7 +89,9 @@ pub extern "C" fn ring_workloads_heap(
 ) -> u64 {
     match Work::numbered(work) {
         Some(Work::Slide) if capacity > 0 => { on_heap_window(alloc, capacity, items).unwrap_or(0) }
-        Some(Work::Pipe) if capacity > 0 => on_heap_pipe(alloc, capacity, items).unwrap_or(0),
+        Some(work @ (Work::Pipe | Work::Stream)) if capacity > 0 => {
+            on_heap_pipe(alloc, work, capacity, items).unwrap_or(0)
+        }
         Some(Work::Least) if capacity > 0 => {
             on_heap_least(alloc, capacity, items, Series::RANDOM).unwrap_or(0)
         }
@@ -111,8 +121,17 @@ pub extern "C" fn ring_workloads_growable(
         Some(Work::Slide) if capacity > 0 => {
             on_growable_window(alloc, capacity, items).unwrap_or(0)
         }
-        Some(Work::Pipe | Work::Least | Work::LeastRising | Work::LeastFalling | Work::Product) =>
-            0,
+        Some(
+            Work::Pipe
+            | Work::Stream
+            | Work::Least
+            | Work::LeastRising
+            | Work::LeastFalling
+            | Work::Product
+            | Work::PushOwned
+            | Work::PushDequeueOwned
+            | Work::RefillOwned,
+        ) => 0,
         Some(work) if capacity > 0 => on_growable(alloc, work, capacity, items).unwrap_or(0),
         _ => 0,
     }

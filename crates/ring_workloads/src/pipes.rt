@@ -1,8 +1,10 @@
 //! The work on a pipe of bytes.
 ghost use Rattle.std.specs.Prelude.{◌<◌};
 
+use crate::work::Work;
 use ringbuffer::AllocRingBuffer;
 use std::alloc::{AllocError, Global};
+use std::io::{Read, Write};
 
 const BLOCK: usize = 4096;
 
@@ -10,9 +12,14 @@ const BLOCK: usize = 4096;
 // then, on their way in and on their way out.
 const START: usize = 1000;
 
-/// Relays blocks of so many bytes together through a pipe on the heap. Returns the sum of the last byte of each block
-/// that came out.
-pub fn on_heap_pipe(alloc: Global, capacity: usize, items: usize) -> Result<u64, AllocError>
+/// Relays blocks of so many bytes together through a pipe on the heap, by the ring's calls or by those of `std::io`.
+/// Returns the sum of the last byte of each block that came out.
+pub fn on_heap_pipe(
+    alloc: Global,
+    work: Work,
+    capacity: usize,
+    items: usize,
+) -> Result<u64, AllocError>
     requires { 0 < capacity }
 {
     let mut pipe = half_full(alloc, capacity)?;
@@ -20,7 +27,10 @@ pub fn on_heap_pipe(alloc: Global, capacity: usize, items: usize) -> Result<u64,
     let mut output = vec![in alloc; 0u8; BLOCK]?;
     let mut sum = 0u64;
     for _ in 0..items / BLOCK {
-        relay(&mut pipe, &block, &mut output);
+        match work {
+            Work::Stream => stream(&mut pipe, &block, &mut output),
+            _ => relay(&mut pipe, &block, &mut output),
+        }
         sum = sum.wrapping_add(output.last().map_or(0, |byte| u64::from(*byte)));
     }
     Ok(sum)
@@ -49,4 +59,11 @@ fn bytes(alloc: Global, count: usize) -> Result<Vec<u8>, AllocError> {
 fn relay(pipe: &mut AllocRingBuffer<u8>, block: &[u8], output: &mut [u8]) {
     pipe.extend_from_slice(block);
     let _ = pipe.dequeue_into(output);
+}
+
+// The same by the traits of `std::io`.
+#[inline(never)]
+fn stream(pipe: &mut AllocRingBuffer<u8>, block: &[u8], output: &mut [u8]) {
+    let _ = pipe.write(block);
+    let _ = pipe.read(output);
 }

@@ -1,130 +1,14 @@
 //! The work on each type of ring.
 ghost use Rattle.std.specs.Prelude.{◌<◌};
 
+use crate::own::Own;
 use crate::work::{
-    EXTENSION, Work, contains, extend, fill, get, push, push_dequeue, push_one, push_one_within,
-    push_within, reextend, refill, to_vec, walk,
+    EXTENSION, Series, Work, contains, extend, fill, get, push, push_dequeue, push_dequeue_owned,
+    push_one, push_one_within, push_owned, push_within, reextend, refill, refill_owned, to_vec,
+    walk,
 };
-use ringbuffer::{AllocRingBuffer, ConstGenericRingBuffer, GrowableAllocRingBuffer, RingBuffer};
+use ringbuffer::{AllocRingBuffer, GrowableAllocRingBuffer, RingBuffer};
 use std::alloc::{AllocError, Global};
-
-// The calls that each type has of its own, which the trait of rings lacks.
-pub trait Own: RingBuffer<u64> {
-    fn cloned(&self) -> Result<Self, AllocError>;
-
-    // Whether both hold equal items.
-    fn equals(&self, other: &Self) -> bool;
-
-    // The sum of the items, added to `sum`.
-    fn sum(&self, sum: u64) -> u64;
-
-    // Another ring, of the items of a slice.
-    fn of_slice(&self, alloc: Global, items: &[u64]) -> Result<Self, AllocError>;
-
-    // Takes out the newest item.
-    fn take_newest(&mut self) -> Option<u64>;
-}
-
-impl<const CAP: usize> Own for ConstGenericRingBuffer<u64, CAP> {
-    #[inline]
-    fn cloned(&self) -> Result<Self, AllocError> {
-        self.clone()
-    }
-
-    #[inline]
-    fn equals(&self, other: &Self) -> bool {
-        self == other
-    }
-
-    #[inline]
-    fn sum(&self, sum: u64) -> u64 {
-        let mut sum = sum;
-        for item in self {
-            sum = sum.wrapping_add(*item);
-        }
-        sum
-    }
-
-    #[inline]
-    fn of_slice(&self, _alloc: Global, items: &[u64]) -> Result<Self, AllocError> {
-        let _held = self.len();
-        ConstGenericRingBuffer::from_slice(items)
-    }
-
-    #[inline]
-    fn take_newest(&mut self) -> Option<u64> {
-        self.pop_back()
-    }
-}
-
-impl Own for AllocRingBuffer<u64> {
-    #[inline]
-    fn cloned(&self) -> Result<Self, AllocError> {
-        self.clone()
-    }
-
-    #[inline]
-    fn equals(&self, other: &Self) -> bool {
-        self == other
-    }
-
-    #[inline]
-    fn sum(&self, sum: u64) -> u64 {
-        let (first, second) = self.as_slices();
-        add(second, add(first, sum))
-    }
-
-    #[inline]
-    fn of_slice(&self, alloc: Global, items: &[u64]) -> Result<Self, AllocError> {
-        if items.is_empty() {
-            return Err(AllocError);
-        }
-        AllocRingBuffer::from_slice(alloc, items)
-    }
-
-    #[inline]
-    fn take_newest(&mut self) -> Option<u64> {
-        self.pop_back()
-    }
-}
-
-impl Own for GrowableAllocRingBuffer<u64> {
-    #[inline]
-    fn cloned(&self) -> Result<Self, AllocError> {
-        self.clone()
-    }
-
-    #[inline]
-    fn equals(&self, other: &Self) -> bool {
-        self == other
-    }
-
-    #[inline]
-    fn sum(&self, sum: u64) -> u64 {
-        let (first, second) = self.as_slices();
-        add(second, add(first, sum))
-    }
-
-    #[inline]
-    fn of_slice(&self, alloc: Global, items: &[u64]) -> Result<Self, AllocError> {
-        GrowableAllocRingBuffer::from_slice(alloc, items)
-    }
-
-    #[inline]
-    fn take_newest(&mut self) -> Option<u64> {
-        self.pop_back()
-    }
-}
-
-// The sum of the items of a slice, added to `sum`.
-#[inline]
-fn add(items: &[u64], sum: u64) -> u64 {
-    let mut sum = sum;
-    for item in items {
-        sum = sum.wrapping_add(*item);
-    }
-    sum
-}
 
 // A clone, of which one item is read and added to `sum`.
 #[inline(never)]
@@ -176,12 +60,88 @@ fn undo<R: Own>(ring: &mut R, items: usize) -> u64 {
     sum
 }
 
+// Puts each number below `items` first.
+#[inline(never)]
+fn push_first<R: Own>(ring: &mut R, items: usize) {
+    for number in 0..items {
+        ring.push_first(number as u64);
+    }
+}
+
+// Empties the ring, and puts as many numbers as `capacity` where there is room, from `round` on.
+#[inline(never)]
+fn refill_room<R: Own>(ring: &mut R, capacity: usize, round: u64) {
+    ring.clear();
+    for number in 0..capacity {
+        ring.push_into_room(round.wrapping_add(number as u64));
+    }
+}
+
+// Takes out an item at a random index and puts one in at another, for each number below `items`. Returns the sum of
+// what came out.
+#[inline(never)]
+fn exchange<R: Own>(ring: &mut R, capacity: usize, items: usize) -> u64
+    requires { 0 < capacity }
+{
+    let mut sum = 0u64;
+    let mut random = 0u64;
+    for _ in 0..items {
+        random = Series::RANDOM.after(random);
+        let from = (random >> 33) as usize % capacity;
+        random = Series::RANDOM.after(random);
+        let to = (random >> 33) as usize % capacity;
+        sum = sum.wrapping_add(ring.exchange(from, to, random));
+    }
+    sum
+}
+
+// Empties the ring, and pushes copies of the items of a slice.
+#[inline(never)]
+fn copy_in<R: Own>(ring: &mut R, items: &[u64]) {
+    ring.clear();
+    ring.extend_by(items);
+}
+
+// Pushes copies of half as many items as the ring holds, makes it lie in one slice, and returns the first of its items.
+#[inline(never)]
+fn straighten<R: Own>(ring: &mut R, half: &[u64]) -> u64 {
+    ring.extend_by(half);
+    ring.straighten()
+}
+
 /// Work on a heap ring.
 pub fn on_heap(alloc: Global, work: Work, capacity: usize, items: usize) -> Result<u64, AllocError>
     requires { 0 < capacity }
 {
     let mut ring = AllocRingBuffer::new(alloc, capacity)?;
+    if let Work::PushOwned | Work::PushDequeueOwned | Work::RefillOwned = work {
+        return Ok(on_owned(ring, work, capacity, items));
+    }
     Ok(on_fixed(alloc, &mut ring, work, capacity, items))
+}
+
+// Work in loops that own a heap ring.
+fn on_owned(ring: AllocRingBuffer<u64>, work: Work, capacity: usize, items: usize) -> u64
+    requires { 0 < capacity }
+{
+    let mut ring = push_owned(ring, capacity);
+    match work {
+        Work::PushOwned => {
+            ring = push_owned(ring, items);
+            outcome(&ring)
+        }
+        Work::PushDequeueOwned => {
+            ring.skip();
+            let (ring, sum) = push_dequeue_owned(ring, items);
+            sum.wrapping_add(outcome(&ring))
+        }
+        _ => {
+            for round in 0..items / capacity {
+                ring = refill_owned(ring, capacity, round as u64);
+            }
+            outcome(&ring)
+        }
+    }
 }
 
 /// Work on a growable ring.
@@ -316,6 +276,29 @@ fn on_full<R: Own + Drop>(
             }
         }
         Work::Undo => sum = undo(ring, items),
+        Work::PushFront => push_first(ring, items),
+        Work::TryRefill => {
+            for round in 0..rounds {
+                refill_room(ring, capacity, round as u64);
+            }
+        }
+        Work::Exchange => sum = exchange(ring, capacity, items),
+        Work::CopyIn => {
+            let Ok(source) = ring.to_vec(alloc) else {
+                return 0;
+            };
+            for _ in 0..rounds {
+                copy_in(ring, &source);
+            }
+        }
+        Work::Straighten => {
+            let Ok(source) = ring.to_vec(alloc) else {
+                return 0;
+            };
+            for _ in 0..rounds {
+                sum = sum.wrapping_add(straighten(ring, &source[..source.len() / 2]));
+            }
+        }
         _ => {
             for round in 0..rounds {
                 refill(ring, capacity, round as u64);

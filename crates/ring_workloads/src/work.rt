@@ -57,6 +57,24 @@ pub enum Work {
     LeastFalling,
     /// Pushes of matrices onto a full window, and a read of their product after each.
     Product,
+    /// Pushes onto a full ring, in a loop that owns it.
+    PushOwned,
+    /// A push and a dequeue at a time, in a loop that owns the ring.
+    PushDequeueOwned,
+    /// A clear and then as many pushes as the capacity, in a loop that owns the ring.
+    RefillOwned,
+    /// Pushes at the front of a full ring.
+    PushFront,
+    /// A clear and then as many pushes as the capacity, each of which is refused onto a full ring.
+    TryRefill,
+    /// An item out at a random index, and one in at another.
+    Exchange,
+    /// A clear and then a slice of as many items as the capacity.
+    CopyIn,
+    /// A slice of half as many items as the capacity onto a full ring, which is then made to lie in one slice.
+    Straighten,
+    /// Bytes through a pipe by the traits of `std::io`, a block in and a block out at a time.
+    Stream,
 }
 
 impl Work {
@@ -85,6 +103,15 @@ impl Work {
             19 => Some(Work::LeastRising),
             20 => Some(Work::LeastFalling),
             21 => Some(Work::Product),
+            22 => Some(Work::PushOwned),
+            23 => Some(Work::PushDequeueOwned),
+            24 => Some(Work::RefillOwned),
+            25 => Some(Work::PushFront),
+            26 => Some(Work::TryRefill),
+            27 => Some(Work::Exchange),
+            28 => Some(Work::CopyIn),
+            29 => Some(Work::Straighten),
+            30 => Some(Work::Stream),
             _ => None,
         }
     }
@@ -135,6 +162,38 @@ pub fn push_dequeue<R: RingBuffer<u64>>(ring: &mut R, items: usize) -> u64 {
         }
     }
     sum
+}
+
+/// Pushes the numbers below `items` onto a ring that it owns, and hands back.
+#[inline(never)]
+pub fn push_owned<R: RingBuffer<u64>>(mut ring: R, items: usize) -> R {
+    for number in 0..items {
+        let _ = ring.push(number as u64);
+    }
+    ring
+}
+
+/// Pushes the numbers below `items` onto a ring that it owns, takes out an item after each, and hands back the ring.
+#[inline(never)]
+pub fn push_dequeue_owned<R: RingBuffer<u64>>(mut ring: R, items: usize) -> (R, u64) {
+    let mut sum = 0u64;
+    for number in 0..items {
+        let _ = ring.push(number as u64);
+        if let Some(item) = ring.dequeue() {
+            sum = sum.wrapping_add(item);
+        }
+    }
+    (ring, sum)
+}
+
+/// A clear of a ring that it owns, and then as many pushes as `capacity`, of numbers that begin at `round`.
+#[inline(never)]
+pub fn refill_owned<R: RingBuffer<u64>>(mut ring: R, capacity: usize, round: u64) -> R {
+    ring.clear();
+    for number in 0..capacity {
+        let _ = ring.push(round.wrapping_add(number as u64));
+    }
+    ring
 }
 
 /// One extension.
@@ -258,8 +317,9 @@ impl Series {
         step: 18446744073709551615,
     };
 
+    /// The number that follows.
     #[inline]
-    fn after(self, number: u64) -> u64 {
+    pub fn after(self, number: u64) -> u64 {
         number.wrapping_mul(self.factor).wrapping_add(self.step)
     }
 }

@@ -1,0 +1,225 @@
+//! What the work asks of a ring besides the trait of rings.
+
+use ringbuffer::{AllocRingBuffer, ConstGenericRingBuffer, GrowableAllocRingBuffer, RingBuffer};
+use std::alloc::{AllocError, Global};
+
+/// The calls that each type has of its own, which the trait of rings lacks.
+pub trait Own: RingBuffer<u64> {
+    fn cloned(&self) -> Result<Self, AllocError>;
+
+    // Whether both hold equal items.
+    fn equals(&self, other: &Self) -> bool;
+
+    // The sum of the items, added to `sum`.
+    fn sum(&self, sum: u64) -> u64;
+
+    // Another ring, of the items of a slice.
+    fn of_slice(&self, alloc: Global, items: &[u64]) -> Result<Self, AllocError>;
+
+    // Takes out the newest item.
+    fn take_newest(&mut self) -> Option<u64>;
+
+    // Puts an item last where there is room.
+    fn push_into_room(&mut self, item: u64);
+
+    // Puts an item first, over the newest of a full ring.
+    fn push_first(&mut self, item: u64);
+
+    // Takes out the item at an index, and puts another before the one at an index, or last where the ring ends before it.
+    fn exchange(&mut self, from: usize, to: usize, item: u64) -> u64;
+
+    // Pushes copies of the items of a slice. As many of a growable ring leave before.
+    fn extend_by(&mut self, items: &[u64]);
+
+    // Makes the items lie in one slice, and returns the first of them. Of a ring without slices just the first.
+    fn straighten(&mut self) -> u64;
+}
+
+impl<const CAP: usize> Own for ConstGenericRingBuffer<u64, CAP> {
+    #[inline]
+    fn cloned(&self) -> Result<Self, AllocError> {
+        self.clone()
+    }
+
+    #[inline]
+    fn equals(&self, other: &Self) -> bool {
+        self == other
+    }
+
+    #[inline]
+    fn sum(&self, sum: u64) -> u64 {
+        let mut sum = sum;
+        for item in self {
+            sum = sum.wrapping_add(*item);
+        }
+        sum
+    }
+
+    #[inline]
+    fn of_slice(&self, _alloc: Global, items: &[u64]) -> Result<Self, AllocError> {
+        let _held = self.len();
+        ConstGenericRingBuffer::from_slice(items)
+    }
+
+    #[inline]
+    fn take_newest(&mut self) -> Option<u64> {
+        self.pop_back()
+    }
+
+    #[inline]
+    fn push_into_room(&mut self, item: u64) {
+        let _ = self.try_push(item);
+    }
+
+    #[inline]
+    fn push_first(&mut self, item: u64) {
+        let _ = self.push_front(item);
+    }
+
+    #[inline]
+    fn exchange(&mut self, from: usize, to: usize, item: u64) -> u64 {
+        let old = self.remove(from).unwrap_or(0);
+        let length = self.len();
+        let _ = self.insert(if to < length { to } else { length }, item);
+        old
+    }
+
+    #[inline]
+    fn extend_by(&mut self, items: &[u64]) {
+        self.extend_from_slice(items);
+    }
+
+    #[inline]
+    fn straighten(&mut self) -> u64 {
+        self.front().map_or(0, |item| *item)
+    }
+}
+
+impl Own for AllocRingBuffer<u64> {
+    #[inline]
+    fn cloned(&self) -> Result<Self, AllocError> {
+        self.clone()
+    }
+
+    #[inline]
+    fn equals(&self, other: &Self) -> bool {
+        self == other
+    }
+
+    #[inline]
+    fn sum(&self, sum: u64) -> u64 {
+        let (first, second) = self.as_slices();
+        add(second, add(first, sum))
+    }
+
+    #[inline]
+    fn of_slice(&self, alloc: Global, items: &[u64]) -> Result<Self, AllocError> {
+        if items.is_empty() {
+            return Err(AllocError);
+        }
+        AllocRingBuffer::from_slice(alloc, items)
+    }
+
+    #[inline]
+    fn take_newest(&mut self) -> Option<u64> {
+        self.pop_back()
+    }
+
+    #[inline]
+    fn push_into_room(&mut self, item: u64) {
+        let _ = self.try_push(item);
+    }
+
+    #[inline]
+    fn push_first(&mut self, item: u64) {
+        let _ = self.push_front(item);
+    }
+
+    #[inline]
+    fn exchange(&mut self, from: usize, to: usize, item: u64) -> u64 {
+        let old = self.remove(from).unwrap_or(0);
+        let length = self.len();
+        let _ = self.insert(if to < length { to } else { length }, item);
+        old
+    }
+
+    #[inline]
+    fn extend_by(&mut self, items: &[u64]) {
+        self.extend_from_slice(items);
+    }
+
+    #[inline]
+    fn straighten(&mut self) -> u64 {
+        self.make_contiguous().first().map_or(0, |item| *item)
+    }
+}
+
+impl Own for GrowableAllocRingBuffer<u64> {
+    #[inline]
+    fn cloned(&self) -> Result<Self, AllocError> {
+        self.clone()
+    }
+
+    #[inline]
+    fn equals(&self, other: &Self) -> bool {
+        self == other
+    }
+
+    #[inline]
+    fn sum(&self, sum: u64) -> u64 {
+        let (first, second) = self.as_slices();
+        add(second, add(first, sum))
+    }
+
+    #[inline]
+    fn of_slice(&self, alloc: Global, items: &[u64]) -> Result<Self, AllocError> {
+        GrowableAllocRingBuffer::from_slice(alloc, items)
+    }
+
+    #[inline]
+    fn take_newest(&mut self) -> Option<u64> {
+        self.pop_back()
+    }
+
+    #[inline]
+    fn push_into_room(&mut self, item: u64) {
+        let _ = self.push(item);
+    }
+
+    #[inline]
+    fn push_first(&mut self, item: u64) {
+        let _ = self.pop_back();
+        let _ = self.as_mut().push_front(item);
+    }
+
+    #[inline]
+    fn exchange(&mut self, from: usize, to: usize, item: u64) -> u64 {
+        let deque = self.as_mut();
+        let old = deque.remove(from).unwrap_or(0);
+        let length = deque.len();
+        let _ = deque.insert(if to < length { to } else { length }, item);
+        old
+    }
+
+    #[inline]
+    fn extend_by(&mut self, items: &[u64]) {
+        let length = self.len();
+        self.keep_newest(length.saturating_sub(items.len()));
+        let _ = self.extend_from_slice(items);
+    }
+
+    #[inline]
+    fn straighten(&mut self) -> u64 {
+        self.make_contiguous().first().map_or(0, |item| *item)
+    }
+}
+
+// The sum of the items of a slice, added to `sum`.
+#[inline]
+fn add(items: &[u64], sum: u64) -> u64 {
+    let mut sum = sum;
+    for item in items {
+        sum = sum.wrapping_add(*item);
+    }
+    sum
+}
