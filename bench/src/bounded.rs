@@ -283,7 +283,7 @@ pub fn deque(work: Work, capacity: usize, items: usize) -> u64 {
         }
         Work::Reextend => (0..rounds).for_each(|_| reextend(black_box(&mut ring), capacity)),
         Work::Slices => (0..rounds).for_each(|_| sum = sum_slices(&ring, sum)),
-        Work::ToVec => (0..rounds).for_each(|_| sum = to_vec(&ring, sum)),
+        Work::ToVec | Work::ToVecCopied => (0..rounds).for_each(|_| sum = to_vec(&ring, sum)),
         Work::Equal => {
             let other = ring.clone();
             (0..rounds).for_each(|_| sum = equal(&ring, &other, sum));

@@ -147,7 +147,7 @@ pub fn slices(work: Work, capacity: usize, items: usize) -> u64 {
         Work::Walk | Work::Get | Work::Slices => {
             (0..rounds).for_each(|_| sum = walk(&ring.slots[..capacity], sum));
         }
-        Work::Clone | Work::ToVec | Work::FromSlice => {
+        Work::Clone | Work::ToVec | Work::ToVecCopied | Work::FromSlice => {
             (0..rounds).for_each(|_| sum = clone(&ring.slots[..capacity], sum));
         }
         Work::Equal => {

@@ -71,6 +71,7 @@ impl Contender {
             Work::TryRefill => TRIES.contains(&self.name),
             Work::CopyIn => COPIES.contains(&self.name),
             Work::Straighten => SLICES.contains(&self.name),
+            Work::ToVecCopied => SLICES.contains(&self.name) || RIVALS.contains(&self.name),
             Work::Stream => capacity == pipe::CAPACITY && STREAMS.contains(&self.name),
             // An extension from a source: `circular_buffer` has none, and a deque would outgrow its capacity.
             Work::Reextend => self.name != ANEW && !RIVALS.contains(&self.name),

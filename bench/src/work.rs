@@ -45,10 +45,11 @@ pub enum Work {
     CopyIn,
     Straighten,
     Stream,
+    ToVecCopied,
 }
 
 impl Work {
-    pub const ALL: [Work; 31] = [
+    pub const ALL: [Work; 32] = [
         Work::Push,
         Work::PushCall,
         Work::PushDequeue,
@@ -80,6 +81,7 @@ impl Work {
         Work::CopyIn,
         Work::Straighten,
         Work::Stream,
+        Work::ToVecCopied,
     ];
 
     /// The capacities that it is measured at.
@@ -124,6 +126,7 @@ impl Work {
             Work::CopyIn => "clear and extend by a slice",
             Work::Straighten => "extend by half and make contiguous",
             Work::Stream => "bytes read and written",
+            Work::ToVecCopied => "to_vec_copied",
         }
     }
 }

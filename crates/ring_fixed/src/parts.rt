@@ -8,4 +8,4 @@ pub use any_ring::{
     cmp_items, extend_cloned, extend_somes, hash_items, partial_cmp_items, same_items,
 };
 pub use position::{index_at, signed_index_at};
-pub use two_slices::{clone_slices, copy_slices, same_in_slices};
+pub use two_slices::{clone_slices, copy_slices, same_in_slices, slices_to_vec};

@@ -153,6 +153,13 @@ pub fn second_of(ring: GrowableAllocRingBuffer<u32>) -> Option<u32>
     ring.into_iter().nth(1)
 }
 
+/// Returns the numbers of a heap ring as a vector, by copies.
+pub fn snapshot(alloc: Global, ring: &AllocRingBuffer<u32>) -> Result<Vec<u32>, AllocError>
+    ensures { IfOk result (λ numbers. numbers.items ≡ ring.now.items) }
+{
+    ring.to_vec_copied(alloc)
+}
+
 /// Turns an array ring into a vector.
 pub fn into_vector(
     alloc: Global,

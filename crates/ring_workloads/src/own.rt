@@ -31,6 +31,9 @@ pub trait Own: RingBuffer<u64> {
     // Pushes copies of the items of a slice. As many of a growable ring leave before.
     fn extend_by(&mut self, items: &[u64]);
 
+    // A vector of copies of the items.
+    fn copies(&self, alloc: Global) -> Result<Vec<u64>, AllocError>;
+
     // Makes the items lie in one slice, and returns the first of them. Of a ring without slices just the first.
     fn straighten(&mut self) -> u64;
 }
@@ -87,6 +90,11 @@ impl<const CAP: usize> Own for ConstGenericRingBuffer<u64, CAP> {
     #[inline]
     fn extend_by(&mut self, items: &[u64]) {
         self.extend_from_slice(items);
+    }
+
+    #[inline]
+    fn copies(&self, alloc: Global) -> Result<Vec<u64>, AllocError> {
+        self.to_vec(alloc)
     }
 
     #[inline]
@@ -149,6 +157,11 @@ impl Own for AllocRingBuffer<u64> {
     }
 
     #[inline]
+    fn copies(&self, alloc: Global) -> Result<Vec<u64>, AllocError> {
+        self.to_vec_copied(alloc)
+    }
+
+    #[inline]
     fn straighten(&mut self) -> u64 {
         self.make_contiguous().first().map_or(0, |item| *item)
     }
@@ -206,6 +219,11 @@ impl Own for GrowableAllocRingBuffer<u64> {
         let length = self.len();
         self.keep_newest(length.saturating_sub(items.len()));
         let _ = self.extend_from_slice(items);
+    }
+
+    #[inline]
+    fn copies(&self, alloc: Global) -> Result<Vec<u64>, AllocError> {
+        self.to_vec_copied(alloc)
     }
 
     #[inline]

@@ -95,6 +95,15 @@ fn exchange<R: Own>(ring: &mut R, capacity: usize, items: usize) -> u64
     sum
 }
 
+// A vector of copies of the items, of which the first is added to `sum`.
+#[inline(never)]
+fn to_vec_copied<R: Own>(alloc: Global, ring: &R, sum: u64) -> u64 {
+    match ring.copies(alloc) {
+        Ok(items) => items.first().map_or(0, |item| sum.wrapping_add(*item)),
+        Err(_) => 0,
+    }
+}
+
 // Empties the ring, and pushes copies of the items of a slice.
 #[inline(never)]
 fn copy_in<R: Own>(ring: &mut R, items: &[u64]) {
@@ -251,6 +260,11 @@ fn on_full<R: Own + Drop>(
         Work::ToVec => {
             for _ in 0..rounds {
                 sum = to_vec(alloc, ring, sum);
+            }
+        }
+        Work::ToVecCopied => {
+            for _ in 0..rounds {
+                sum = to_vec_copied(alloc, ring, sum);
             }
         }
         Work::Equal => {

@@ -75,6 +75,8 @@ pub enum Work {
     Straighten,
     /// Bytes through a pipe by the traits of `std::io`, a block in and a block out at a time.
     Stream,
+    /// Vectors made of a full ring, by copies.
+    ToVecCopied,
 }
 
 impl Work {
@@ -112,6 +114,7 @@ impl Work {
             28 => Some(Work::CopyIn),
             29 => Some(Work::Straighten),
             30 => Some(Work::Stream),
+            31 => Some(Work::ToVecCopied),
             _ => None,
         }
     }

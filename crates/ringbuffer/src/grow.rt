@@ -16,7 +16,9 @@ use ring_core::{
     RingBuffer, RingBufferDrainingIterator, RingBufferIntoIterator, RingBufferIterator,
     RingBufferMutIterator,
 };
-use ring_fixed::{clone_slices, copy_slices, index_at, same_in_slices, signed_index_at};
+use ring_fixed::{
+    clone_slices, copy_slices, index_at, same_in_slices, signed_index_at, slices_to_vec,
+};
 use std::alloc::{AllocError, Global};
 use std::collections::VecDeque;
 use std::fmt::{self, Debug, Formatter, Write};
@@ -341,6 +343,17 @@ impl<T: Copy + Drop> GrowableAllocRingBuffer<T> {
             self.deque.push_back_reserved(items[i]);
         }
         Ok(())
+    }
+
+    /// Returns copies of the items, oldest first, in new memory, as `to_vec` returns clones. Takes O(n).
+    ///
+    /// # Errors
+    ///
+    /// Where memory was refused. The ring is as it was.
+    pub fn to_vec_copied(&self, alloc: Global) -> Result<Vec<T>, AllocError>
+        ensures { IfOk result (λ copies. copies.items ≡ self.now) }
+    {
+        slices_to_vec(self.as_slices(), alloc)
     }
 
     /// Copies the oldest items to the first places of a slice, as many as it has, and returns how many. Takes O(n) in

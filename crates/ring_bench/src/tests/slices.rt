@@ -3,7 +3,7 @@
 use super::{STARTS, assert_equal, assert_gives, assert_holds, lay, push_all};
 use ring_test_support::{on_array, on_each, on_growable, on_heap};
 use ringbuffer::{AllocRingBuffer, ConstGenericRingBuffer, GrowableAllocRingBuffer, RingBuffer};
-use std::alloc::AllocError;
+use std::alloc::{AllocError, Global};
 use std::process::Abort;
 
 /// The calls that each ring type has of its own and no trait of the library has.
@@ -228,4 +228,39 @@ fn items_are_made_one_slice(rt: HostRuntime) -> Result<(), AllocError> {
         assert_gives(&rt, &mut ring, &[1, 2, 3, 4, 6]);
     }
     Ok(())
+}
+
+/// The call of the rings whose items lie in slices.
+trait Copied: RingBuffer<i64> {
+    fn to_vec_copied(&self, alloc: Global) -> Result<Vec<i64>, AllocError>;
+}
+
+impl Copied for AllocRingBuffer<i64> {
+    fn to_vec_copied(&self, alloc: Global) -> Result<Vec<i64>, AllocError> {
+        AllocRingBuffer::to_vec_copied(self, alloc)
+    }
+}
+
+impl Copied for GrowableAllocRingBuffer<i64> {
+    fn to_vec_copied(&self, alloc: Global) -> Result<Vec<i64>, AllocError> {
+        GrowableAllocRingBuffer::to_vec_copied(self, alloc)
+    }
+}
+
+/// Copies the items of each row, which begin at each place, into a vector.
+fn assert_copies_into_a_vector<R: Copied + Drop>(rt: &impl Abort, mut ring: R, alloc: Global) {
+    for (items, _, _) in COPIES {
+        for start in 0..STARTS {
+            lay(rt, &mut ring, start, items);
+            let copies = ring.to_vec_copied(alloc).expect(rt, "memory");
+            assert_equal(rt, &*copies, items);
+            assert_holds(rt, &ring, items);
+        }
+    }
+}
+
+#[test]
+fn vectors_hold_the_items_in_order(rt: HostRuntime) {
+    on_heap!(&rt, 5, assert_copies_into_a_vector, rt.alloc());
+    on_growable!(&rt, 0, assert_copies_into_a_vector, rt.alloc());
 }

@@ -30,6 +30,24 @@ fn copy_slice<T: Copy>(items: &[T], output: &mut [T]) -> usize
     count
 }
 
+/// Returns copies of the items of two slices, in order.
+///
+/// # Errors
+///
+/// Where memory was refused.
+pub fn slices_to_vec<T: Copy + Drop>(
+    items: (&[T], &[T]),
+    alloc: Global,
+) -> Result<Vec<T>, AllocError>
+    ensures { IfOk result (λ v. v.items ≡ items.entry.0.now ++ items.entry.1.now) }
+{
+    let (first, second) = items;
+    let mut copies = Vec::with_capacity(alloc, first.len().saturating_add(second.len()))?;
+    copies.extend_from_slice(first)?;
+    copies.extend_from_slice(second)?;
+    Ok(copies)
+}
+
 /// Returns clones of the items of two slices, in order.
 ///
 /// # Errors
