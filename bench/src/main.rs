@@ -3,9 +3,10 @@
 //! `time` prints a line `work;capacity;contender;nanoseconds` for each, `time WORK` those of one kind of work. `list`
 //! prints the same names, each with how many items to count instructions for, and `once CONTENDER WORK CAPACITY ITEMS`
 //! does one piece of work, for a program that counts them. `table TIMES COUNTS` prints both as tables of Markdown, and
-//! `chart COUNTS` the ratios that the chart shows.
+//! `chart COUNTS` a picture of ratios to the best rival.
 
 mod bounded;
+mod chart;
 mod limit;
 mod pipe;
 mod rust_side;
@@ -182,7 +183,7 @@ fn main() {
             let read = |path: &str| fs::read_to_string(path).expect("a file of measurements");
             print!("{}", table::tables(&read(times), &read(counts)));
         }
-        ["chart", counts] => print!("{}", table::ratios_to_best(&fs::read_to_string(counts).expect("a file of measurements"))),
+        ["chart", counts] => print!("{}", chart::svg(&table::ratios_to_best(&fs::read_to_string(counts).expect("a file of measurements")))),
         _ => panic!("time [WORK] | list | once CONTENDER WORK CAPACITY ITEMS | table TIMES COUNTS | chart COUNTS"),
     }
 }

@@ -1,5 +1,6 @@
 //! Tables of Markdown out of lines `work;capacity;contender;number`.
 
+use crate::chart::Panel;
 use crate::work::Work;
 use crate::CONTENDERS;
 use std::collections::HashMap;
@@ -88,22 +89,19 @@ const RIVALS: [(&str, &[&str]); 3] = [
     ("array", &["Rust array"]),
 ];
 
-/// For each ring a block of lines `work;ratio`, by the least number that a rival has at a capacity of 1024 items. An empty
-/// pair of lines ends a block.
-pub fn ratios_to_best(lines: &str) -> String {
+/// For each ring its ratios to the least number that a rival has, at a capacity of 1024 items.
+pub fn ratios_to_best(lines: &str) -> Vec<Panel> {
     let numbers = numbers(lines);
-    let mut text = String::new();
-    for (ours, rivals) in RIVALS {
-        for (work, capacity) in rows(&numbers).filter(|(_, capacity)| *capacity == 1024) {
-            let of = |contender| numbers.get(&(work, capacity, contender)).copied();
-            let best = rivals.iter().filter_map(|rival| of(rival)).reduce(f64::min);
-            if let (Some(ours), Some(best)) = (of(ours), best) {
-                writeln!(text, "{work};{:.4}", ours / best).unwrap();
-            }
-        }
-        text.push_str("\n\n");
-    }
-    text
+    let ratio = |ours, rivals: &[&str], work| {
+        let of = |contender| numbers.get(&(work, 1024, contender)).copied();
+        let best = rivals.iter().filter_map(|rival| of(rival)).reduce(f64::min);
+        of(ours).zip(best).map(|(ours, best)| ours / best)
+    };
+    let ratios = |ours, rivals: &[&str]| {
+        let works = Work::ALL.into_iter().map(Work::name);
+        works.filter_map(|work| ratio(ours, rivals, work).map(|ratio| (work, ratio))).collect()
+    };
+    RIVALS.into_iter().map(|(ring, rivals)| Panel { ring, ratios: ratios(ring, rivals) }).collect()
 }
 
 pub fn tables(times: &str, counts: &str) -> String {

@@ -8,6 +8,7 @@ pub mod callers;
 pub mod events;
 pub mod everyday;
 pub mod headline;
+pub mod job_queue;
 pub mod last_lines;
 pub mod last_two;
 pub mod limiter;
