@@ -1,0 +1,175 @@
+//! A run is a ring, and 1,024 calls of it that a seed draws. What the calls answer and what the ring then holds is summed
+//! up in a digest after every 64 of them, and compared with that of the Rust crate's ring, or of a `VecDeque` where that
+//! crate is at fault or lacks the call (`bench/replay`).
+
+mod calls;
+mod digests;
+mod items;
+mod player;
+mod rings;
+
+use digests::{BLOCKS, DIGESTS};
+use items::{Counted, Maker, Tally, Values, Wide};
+use player::Player;
+use ringbuffer::{AllocRingBuffer, ConstGenericRingBuffer, GrowableAllocRingBuffer};
+use rings::{Plain, Played, PlayedCopies};
+use std::alloc::Global;
+use std::fmt::Debug;
+use std::process::Abort;
+
+/// Asserts that both are equal. A failure names the test and both values.
+fn assert_equal<T: PartialEq + Debug + Drop>(rt: &impl Abort, found: T, wanted: T) {
+    assert_eq!(rt; found, wanted);
+}
+
+/// A run: its number, its ring, and the capacity that this is made with.
+#[derive(Clone, Copy, Debug, PartialEq, Drop)]
+struct Run {
+    number: usize,
+    ring: &'static str,
+    items: &'static str,
+    capacity: usize,
+}
+
+impl Run {
+    /// Makes the run before the first of a kind of items.
+    fn before(number: usize, items: &'static str) -> Run {
+        Run {
+            number,
+            ring: "",
+            items,
+            capacity: 0,
+        }
+    }
+
+    /// Makes the run after this.
+    fn next(self, ring: &'static str, capacity: usize) -> Run {
+        Run {
+            number: self.number.wrapping_add(1),
+            ring,
+            items: self.items,
+            capacity,
+        }
+    }
+}
+
+/// Makes the player of a run.
+fn begin<T: Clone + Drop, M: Maker<T>, R: Played<T>>(
+    ring: &mut R,
+    run: Run,
+    maker: M,
+    alloc: Global,
+) -> Player<M> {
+    let mut player = Player::new(maker, alloc, run.capacity, run.number);
+    calls::rotate(ring, &mut player);
+    player
+}
+
+/// Asserts that a run's digest is that of the same calls in Rust.
+fn assert_agrees<T: Clone + Drop, M: Maker<T>, R: Played<T>>(
+    rt: &impl Abort,
+    ring: &R,
+    player: &mut Player<M>,
+    run: Run,
+    block: usize,
+) {
+    player.note_ring(ring);
+    let (count, sum) = player.maker.alive();
+    player.note(count);
+    player.note(sum);
+    let first = run.number.wrapping_sub(1).wrapping_mul(BLOCKS);
+    let wanted = DIGESTS.get(first.wrapping_add(block)).copied();
+    let calls = block.wrapping_add(1).wrapping_mul(64);
+    let found = Some(player.digest());
+    assert_equal(rt, (run, calls, found), (run, calls, wanted));
+}
+
+/// Plays a run of a ring whose items can't be copied.
+fn replay<T: Clone + Drop, M: Maker<T> + Drop, R: Played<T> + Drop>(
+    rt: &(impl Abort + AllocGlobal),
+    maker: M,
+    mut ring: R,
+    run: Run,
+) {
+    let mut player = begin(&mut ring, run, maker, rt.alloc());
+    for block in 0..BLOCKS {
+        for _ in 0..64 {
+            calls::play(&mut ring, &mut player).expect(rt, "memory");
+        }
+        assert_agrees(rt, &ring, &mut player, run, block);
+    }
+}
+
+/// Plays a run of a ring whose items can. Every fourth call copies or compares some.
+fn replay_copies<T: Plain, M: Maker<T> + Drop, R: PlayedCopies<T> + Drop>(
+    rt: &(impl Abort + AllocGlobal),
+    maker: M,
+    mut ring: R,
+    run: Run,
+) {
+    let mut player = begin(&mut ring, run, maker, rt.alloc());
+    for block in 0..BLOCKS {
+        for call in 1..65u8 {
+            if call % 4 == 0 {
+                ring.play_copies(&mut player).expect(rt, "memory");
+            } else {
+                calls::play(&mut ring, &mut player).expect(rt, "memory");
+            }
+        }
+        assert_agrees(rt, &ring, &mut player, run, block);
+    }
+}
+
+/// The capacities of heap rings and of growable rings.
+const CAPACITIES: &[usize] = &[
+    1, 2, 3, 4, 5, 6, 7, 8, 9, 10, 11, 12, 13, 14, 15, 16, 17, 20, 25, 31, 32, 33, 50, 64, 65, 100,
+    127, 128, 129, 200, 255, 256, 299, 300,
+];
+
+/// Plays runs on array rings of these capacities.
+macro_rules! on_arrays {
+    ($rt:expr, $run:ident, $replay:ident, $type:ty, $maker:expr, $($capacity:literal)*) => {$(
+        $run = $run.next("ConstGenericRingBuffer", $capacity);
+        $replay($rt, $maker, ConstGenericRingBuffer::<$type, $capacity>::new(), $run);
+    )*};
+}
+
+/// Plays the runs of a kind of items.
+macro_rules! replay_all {
+    ($rt:expr, $items:literal, $first:literal, $replay:ident::<$type:ty>, $maker:expr) => {
+        let mut run = Run::before($first, $items);
+        on_arrays!($rt, run, $replay, $type, $maker, 1 2 3 4 5 7 8 16 31 64 100 300);
+        for capacity in CAPACITIES {
+            assert!($rt; 0 < *capacity);
+            run = run.next("AllocRingBuffer", *capacity);
+            let ring = AllocRingBuffer::<$type>::new($rt.alloc(), *capacity);
+            $replay($rt, $maker, ring.expect($rt, "memory"), run);
+        }
+        for capacity in CAPACITIES {
+            run = run.next("GrowableAllocRingBuffer", *capacity);
+            let ring = GrowableAllocRingBuffer::<$type>::with_capacity($rt.alloc(), *capacity);
+            $replay($rt, $maker, ring.expect($rt, "memory"), run);
+        }
+    };
+}
+
+#[test]
+fn rings_of_numbers(rt: HostRuntime) {
+    replay_all!(&rt, "u64", 0, replay_copies::<u64>, Values);
+}
+
+#[test]
+fn rings_of_nothings(rt: HostRuntime) {
+    replay_all!(&rt, "()", 80, replay_copies::<()>, Values);
+}
+
+#[test]
+fn rings_of_wide_items(rt: HostRuntime) {
+    replay_all!(&rt, "320 bytes", 160, replay_copies::<Wide>, Values);
+}
+
+#[test]
+fn rings_of_counted_items(rt: HostRuntime) {
+    let tally = Tally::new();
+    replay_all!(&rt, "counted", 240, replay::<Counted<'_>>, &tally);
+}

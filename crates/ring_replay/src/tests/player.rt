@@ -1,0 +1,167 @@
+//! What both sides draw and note alike.
+
+ghost use Rattle.std.specs.Prelude.{◌≤◌};
+
+use super::digests::SEED;
+use super::items::Maker;
+use ringbuffer::{RingBuffer, RingBufferIterator};
+use std::alloc::{AllocError, Global};
+
+/// What comes of a call. An error says that memory was refused.
+pub type Done = Result<(), AllocError>;
+
+/// Draws what the calls are given, and sums up what they answer.
+#[derive(Drop)]
+pub struct Player<M> {
+    pub maker: M,
+    pub alloc: Global,
+    /// How many items the calls speak of at most, mostly.
+    pub most: usize,
+    state: u64,
+    digest: u64,
+}
+
+impl<M> Player<M> {
+    pub fn new(maker: M, alloc: Global, most: usize, run: usize) -> Player<M> {
+        let state = SEED.wrapping_add(run as u64);
+        Player {
+            maker,
+            alloc,
+            most,
+            state,
+            digest: state,
+        }
+    }
+
+    /// Returns the digest of all that was noted.
+    pub fn digest(&self) -> u32 {
+        (self.digest >> 32) as u32
+    }
+
+    /// Draws a number, by SplitMix64.
+    pub fn draw(&mut self) -> u64 {
+        self.state = self.state.wrapping_add(0x9e37_79b9_7f4a_7c15);
+        let mixed = (self.state ^ (self.state >> 30)).wrapping_mul(0xbf58_476d_1ce4_e5b9);
+        let mixed = (mixed ^ (mixed >> 27)).wrapping_mul(0x94d0_49bb_1331_11eb);
+        mixed ^ (mixed >> 31)
+    }
+
+    pub fn flip(&mut self) -> bool {
+        self.draw() % 2 == 0
+    }
+
+    /// Draws a number from zero to `most`.
+    pub fn up_to(&mut self, most: usize) -> usize
+        ensures { result ≤ most }
+    {
+        (self.draw() % (most as u64).saturating_add(1)) as usize
+    }
+
+    /// Draws a position, of which every second is near zero.
+    pub fn position(&mut self) -> usize {
+        if self.flip() {
+            self.draw() as usize
+        } else {
+            self.up_to(700)
+        }
+    }
+
+    pub fn signed_position(&mut self) -> isize {
+        let position = (self.position() as u64).cast_signed() as isize;
+        if self.flip() {
+            position
+        } else {
+            position.wrapping_neg()
+        }
+    }
+
+    /// Draws a number of items: mostly few, sometimes more than the ring may hold.
+    pub fn some(&mut self) -> usize {
+        let most = if self.draw() % 4 == 0 { self.most } else { 3 };
+        self.up_to(most.saturating_add(2))
+    }
+
+    /// Draws how many of `len` items to keep: mostly most of them.
+    pub fn kept_of(&mut self, len: usize) -> usize {
+        if self.draw() % 8 == 0 {
+            self.up_to(len)
+        } else {
+            len.saturating_sub(self.up_to(2))
+        }
+    }
+
+    pub fn item<T: Drop>(&mut self) -> T
+    where
+        M: Maker<T>,
+    {
+        let number = self.draw() % 1000;
+        self.maker.make(number)
+    }
+
+    pub fn items<T: Drop>(&mut self) -> Result<Vec<T>, AllocError>
+    where
+        M: Maker<T>,
+    {
+        let mut items = Vec::new(self.alloc);
+        for _ in 0..self.some() {
+            items.push(self.item())?;
+        }
+        Ok(items)
+    }
+
+    /// Notes an answer.
+    pub fn note(&mut self, answer: u64) {
+        let mixed = (self.digest.rotate_left(5) ^ answer).wrapping_add(1);
+        self.digest = mixed.wrapping_mul(0x517c_c1b7_2722_0a95);
+    }
+
+    pub fn note_item<T: Drop>(&mut self, item: Option<&T>)
+    where
+        M: Maker<T>,
+    {
+        let read = match item {
+            Some(item) => self.maker.read(item).wrapping_add(1),
+            None => 0,
+        };
+        self.note(read);
+    }
+
+    /// Notes an item, and drops it.
+    pub fn note_taken<T: Drop>(&mut self, item: Option<T>)
+    where
+        M: Maker<T>,
+    {
+        self.note_item(item.as_ref());
+    }
+
+    pub fn note_each<T: Drop>(&mut self, items: &[T])
+    where
+        M: Maker<T>,
+    {
+        for item in items {
+            self.note_item(Some(item));
+        }
+    }
+
+    /// Notes the items of a ring, and how many they are.
+    pub fn note_ring<T: Drop, R: RingBuffer<T>>(&mut self, ring: &R)
+    where
+        M: Maker<T>,
+    {
+        self.note(ring.len() as u64);
+        for item in RingBufferIterator::new(ring) {
+            self.note_item(Some(item));
+        }
+    }
+
+    /// Notes the item that is lent, and writes another there.
+    pub fn write<T: Drop>(&mut self, place: Option<&mut T>)
+    where
+        M: Maker<T>,
+    {
+        self.note_item(place.as_deref());
+        if let Some(place) = place {
+            *place = self.item();
+        }
+    }
+}

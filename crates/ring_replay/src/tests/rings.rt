@@ -1,0 +1,209 @@
+//! The calls that each ring type has of its own.
+
+use super::calls::fill;
+use super::items::{Maker, Wide};
+use super::player::{Done, Player};
+use ringbuffer::{
+    AllocRingBuffer, ConstGenericRingBuffer, GrowableAllocRingBuffer, RingBuffer, move_all,
+};
+use std::alloc::AllocError;
+use std::collections::VecDeque;
+
+/// A ring with calls of its own.
+pub trait Played<T: Clone + Drop>: RingBuffer<T> {
+    fn play_own<M: Maker<T>>(&mut self, player: &mut Player<M>) -> Done;
+}
+
+/// What items are that are copied and compared too.
+pub trait Plain: Copy + Clone + Default + PartialOrd + Drop {}
+
+impl Plain for u64 {}
+
+impl Plain for () {}
+
+impl Plain for Wide {}
+
+/// A ring with calls of its own that copy items, or compare them.
+pub trait PlayedCopies<T: Plain>: Played<T> {
+    fn play_copies<M: Maker<T>>(&mut self, player: &mut Player<M>) -> Done;
+}
+
+// Calls that all types have.
+macro_rules! play_ends {
+    ($ring:expr, $player:expr) => {
+        match $player.up_to(7) {
+            0 => $player.note_taken($ring.pop_back()),
+            1 => $ring.truncate($player.kept_of($ring.len())),
+            2 => $ring.keep_newest($player.kept_of($ring.len())),
+            3 => {
+                let position = $player.position();
+                if !$ring.is_empty() {
+                    $player.note_item(Some(&$ring[position]));
+                }
+            }
+            4 => {
+                let (position, item) = ($player.position(), $player.item());
+                if !$ring.is_empty() {
+                    $ring[position] = item;
+                }
+            }
+            5 => $player.note_ring(&$ring.clone()?),
+            6 => {
+                for item in $ring.clone()?.into_iter() {
+                    $player.note_item(Some(&item));
+                }
+            }
+            _ => {
+                let mut twin = $ring.clone()?;
+                twin.keep_newest(3);
+                if move_all($ring, &mut twin).is_err() {
+                    return Err(AllocError);
+                }
+                $player.note(twin.len() as u64);
+            }
+        }
+    };
+}
+
+// Calls of fixed rings.
+macro_rules! play_middle {
+    ($ring:expr, $player:expr) => {{
+        let (item, index) = ($player.item(), $player.up_to($ring.len()));
+        match $player.up_to(7) {
+            0 => $player.note_taken($ring.try_push(item).err()),
+            1 => $player.note_taken($ring.push_front(item)),
+            2 => $player.note_taken($ring.insert(index, item).err()),
+            3 => $player.note_taken($ring.remove(index)),
+            4 => $ring.rotate_left(index),
+            5 => $ring.rotate_right(index),
+            6 => {
+                let other = $player.up_to($ring.len());
+                if index < $ring.len() && other < $ring.len() {
+                    $ring.swap(index, other);
+                }
+            }
+            _ => {
+                $player.note($ring.capacity() as u64);
+                $player.note($ring.buffer_size() as u64);
+                $player.note($ring.is_full() as u64);
+            }
+        }
+    }};
+}
+
+// Calls of rings that lie in memory of their own.
+macro_rules! play_slices {
+    ($ring:expr, $player:expr) => {
+        if $player.flip() {
+            let (older, newer) = $ring.as_slices();
+            $player.note(older.is_empty() as u64);
+            $player.note_each(older);
+            $player.note_each(newer);
+        } else {
+            let items = $ring.make_contiguous();
+            $player.note_each(items);
+            $player.write(items.last_mut());
+        }
+    };
+}
+
+// Calls that copy items, or compare them.
+macro_rules! play_copies {
+    ($ring:expr, $player:expr, $items:ident, $extended:expr) => {{
+        let (mut $items, item) = ($player.items()?, $player.item());
+        match $player.up_to(5) {
+            0 => $extended,
+            1 => {
+                $player.note($ring.copy_to_slice(&mut $items) as u64);
+                $player.note_each(&$items);
+            }
+            2 => {
+                $player.note($ring.dequeue_into(&mut $items) as u64);
+                $player.note_each(&$items);
+            }
+            3 => $player.note($ring.contains(&item) as u64),
+            4 => {
+                let mut twin = $ring.clone()?;
+                $player.write(twin.back_mut());
+                $player.note((twin == *$ring) as u64);
+                $player.note((twin < *$ring) as u64);
+            }
+            _ => {
+                let len = $ring.len();
+                $ring.fill_default()?;
+                $ring.truncate(len);
+            }
+        }
+        Ok(())
+    }};
+}
+
+impl<T: Clone + Drop, const CAP: usize> Played<T> for ConstGenericRingBuffer<T, CAP> {
+    fn play_own<M: Maker<T>>(&mut self, player: &mut Player<M>) -> Done {
+        match player.up_to(15) {
+            0..=6 => play_ends!(self, player),
+            7..=13 => play_middle!(self, player),
+            14 => fill(self, player)?,
+            _ => {
+                let items: Vec<T> = player.items()?;
+                if 0 < CAP {
+                    player.note_ring(&ConstGenericRingBuffer::<T, CAP>::from_iter(items));
+                }
+            }
+        }
+        Ok(())
+    }
+}
+
+impl<T: Plain, const CAP: usize> PlayedCopies<T> for ConstGenericRingBuffer<T, CAP> {
+    fn play_copies<M: Maker<T>>(&mut self, player: &mut Player<M>) -> Done {
+        play_copies!(self, player, items, self.extend_from_slice(&items))
+    }
+}
+
+impl<T: Clone + Drop> Played<T> for AllocRingBuffer<T> {
+    fn play_own<M: Maker<T>>(&mut self, player: &mut Player<M>) -> Done {
+        match player.up_to(15) {
+            0..=5 => play_ends!(self, player),
+            6..=11 => play_middle!(self, player),
+            12 => play_slices!(self, player),
+            13 => self.set_capacity(player.up_to(299) + 1)?,
+            14 => fill(self, player)?,
+            _ => {
+                let ring = GrowableAllocRingBuffer::<T>::from(player.items()?);
+                if !ring.is_empty() {
+                    player.note_ring(&AllocRingBuffer::from_growable(player.alloc, ring)?);
+                }
+            }
+        }
+        Ok(())
+    }
+}
+
+impl<T: Plain> PlayedCopies<T> for AllocRingBuffer<T> {
+    fn play_copies<M: Maker<T>>(&mut self, player: &mut Player<M>) -> Done {
+        play_copies!(self, player, items, self.extend_from_slice(&items))
+    }
+}
+
+impl<T: Clone + Drop> Played<T> for GrowableAllocRingBuffer<T> {
+    fn play_own<M: Maker<T>>(&mut self, player: &mut Player<M>) -> Done {
+        match player.up_to(7) {
+            0..=4 => play_ends!(self, player),
+            5 => play_slices!(self, player),
+            6 => {
+                let len = self.len();
+                fill(self, player)?;
+                self.truncate(len);
+            }
+            _ => *self = GrowableAllocRingBuffer::from(VecDeque::from(player.items()?)),
+        }
+        Ok(())
+    }
+}
+
+impl<T: Plain> PlayedCopies<T> for GrowableAllocRingBuffer<T> {
+    fn play_copies<M: Maker<T>>(&mut self, player: &mut Player<M>) -> Done {
+        play_copies!(self, player, items, self.extend_from_slice(&items)?)
+    }
+}
