@@ -1,7 +1,7 @@
 -- What stands while the items of a ring are asked about in turn, and those picked come behind the others.
 use Rattle.ring_core.proofs.Words.{◌≡◌, ℕ, ◌+◌, ◌<◌, ◌≤◌, Bool, true, false, List, [], ◌∷◌, ◌++◌, length, drop, slice_get, Option, None, Some, IsSome, refl, sym, ap, ◌∙◌, append-nil, append_assoc, arith, length-append, IsWithin, keep_last}
 use Rattle.std.specs.List.{items_where_true}
-use Rattle.std.specs.List.Retain.{IsFiltered, ReturnsInTurn}
+use Rattle.std.specs.List.Retain.{ReturnsInTurn}
 use Rattle.ring_core.proofs.Limits.{keep_last_within}
 use Rattle.ring_core.specs.Filtering.{FiltersPart}
 
@@ -29,10 +29,6 @@ module _ {A : Type 0} where
   within_limit : (old now : List A) (limit : Option ℕ) → IsWithin old limit → length now ≤ length old → keep_last limit now ≡ now
   within_limit old now None within few = refl
   within_limit old now (Some n) within few = keep_last_within (Some n) now (within.0, omega arith)
-
-  no_rest : (rest : List A) → length rest ≡ 0 → rest ≡ []
-  no_rest [] none = refl
-  no_rest (x ∷ rest) none = absurd (omega arith)
 
   some_first : (rest picked : List A) → 0 < length rest → IsSome (slice_get (rest ++ picked) 0)
   some_first [] picked some = absurd (omega arith)
@@ -122,10 +118,3 @@ module _ {A P : Type 0} (R : P → A → Bool → P → Type 0) where
       -- a limit leaves the item that is put back
       pub put_back : (limit : Option ℕ) → IsWithin old limit → keep_last limit (drop 1 now ++ x ∷ []) ≡ drop 1 now ++ x ∷ []
       put_back limit within = within_limit old _ limit within (omega (arith, ap length taken, length-append others picked, length-append (drop 1 now) (x ∷ []), ap length parts, length-append at.asked (x ∷ others), pick-few at.answers at.asked))
-
-    -- at the end all were asked about
-    pub all_asked : turns ≡ length old → IsFiltered R p old now
-    all_asked all =
-        let none : at.rest ≡ [] = no_rest at.rest (omega (arith, at.counted, ap length at.parts, length-append at.asked at.rest)) in
-        let whole : old ≡ at.asked = at.parts ∙ ap (λ l. at.asked ++ l) none ∙ append-nil at.asked in
-        rw whole (at.answers, q, at.answered, at.told, at.left ∙ ap (λ l. l ++ items_where_true at.answers at.asked) none)

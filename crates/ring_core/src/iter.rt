@@ -253,8 +253,7 @@ impl<'rb, T: Drop, RB: RingBuffer<T>> Iterator for RingBufferDrainingIterator<'r
 }
 
 impl<'rb, T: Drop, RB: DoubleEndedRing<T>> DoubleEndedIterator
-    for RingBufferDrainingIterator<'rb, T, RB>
-{
+    for RingBufferDrainingIterator<'rb, T, RB> {
     ghost next_back_gives = { DrainsLast RB.contents RB.limit RB.slot_changes };
 
     fn next_back(&mut self) -> Option<T> {
