@@ -3,6 +3,7 @@
 //! A test is a list of calls with their answers, or a function that is generic over the ring. A macro of
 //! `ring_test_support` calls such a function on a new ring of each type.
 
+mod both_ends;
 mod bytes;
 mod ends;
 mod faults;
@@ -12,6 +13,7 @@ mod moving;
 mod positions;
 mod pushing;
 mod runs;
+mod selection;
 mod slices;
 mod sums;
 mod uses;

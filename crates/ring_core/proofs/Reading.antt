@@ -9,7 +9,7 @@ slice_get-index_at xs i below = ap (slice_get xs) (mod-eq_of_lt below)
 module _ {A : Type 0} (xs : List A) (i : ℕ) (o : Option (Bor A)) (x : Bor A) (below : i < length xs)
     (copied : option_copied o ≡ slice_get xs (index_at (length xs) i)) (is_some : o ≡ Some x) where
   -- what `get` at an index below the length answers is the item there
-  read_at : slice_get xs i ≡ Some x.now
+  pub read_at : slice_get xs i ≡ Some x.now
   read_at = sym (slice_get-index_at xs i below) ∙ sym copied ∙ ap option_copied is_some
 
   -- the items up to and with the one just read

@@ -11,6 +11,16 @@ abbrev pub overwritten : {A : Type 0} → Option ℕ → List A → Option A
 overwritten None xs = None
 overwritten (Some limit) xs = slice_get (take (length xs + 1 - limit) xs) 0
 
+-- what a limit leaves of a list whose last items give way: its first items, at most `limit` of them
+abbrev pub keep_first : {A : Type 0} → Option ℕ → List A → List A
+keep_first None xs = xs
+keep_first (Some limit) xs = take limit xs
+
+-- the first of the items that are too many there
+abbrev pub past_limit : {A : Type 0} → Option ℕ → List A → Option A
+past_limit None xs = None
+past_limit (Some limit) xs = slice_get xs limit
+
 -- a list is no longer than the limit, which is above zero
 abbrev pub IsWithin : {A : Type 0} → List A → Option ℕ → Type 0
 IsWithin xs None = Unit {0}

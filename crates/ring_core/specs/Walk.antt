@@ -1,7 +1,7 @@
 -- What the walks over a ring have still to come.
 use Rattle.std.specs.Prelude.{◌≡◌, ℕ, IsSome, Option, List, length, take, drop}
-use Rattle.std.specs.Iterator.{YieldsFirst, YieldsFirstRef, YieldsLastRef}
-use Rattle.std.specs.Iterator.Runs.{YieldsInOrder, YieldsRefsInOrder, YieldsRefsInReverse}
+use Rattle.std.specs.Iterator.{YieldsFirst, YieldsFirstRef, YieldsLast, YieldsLastRef}
+use Rattle.std.specs.Iterator.Runs.{YieldsInOrder, YieldsInReverse, YieldsRefsInOrder, YieldsRefsInReverse}
 use Rattle.ring_core.specs.Contents.{ChangesSlots}
 use Rattle.ring_core.specs.declared.iter.RingBufferDrainingIterator.{RingBufferDrainingIterator}
 use Rattle.ring_core.specs.declared.iter.RingBufferIntoIterator.{RingBufferIntoIterator}
@@ -61,3 +61,19 @@ module _ {T RB : Type 0} (contents : RB → List T) (limit : RB → Option ℕ) 
   -- owning walks give what their rings held, in order
   abbrev pub UnpacksInOrder : Type 0
   UnpacksInOrder = YieldsInOrder UnpacksFirst (into_iter_to_come contents)
+
+  -- from its other end a drain takes the last item out of its ring, and does nothing else to it
+  abbrev pub DrainsLast : RingBufferDrainingIterator T RB → Option T → RingBufferDrainingIterator T RB → Type 0
+  DrainsLast s r t = YieldsLast (drain_to_come contents) s r t × (t.ring.ghost_name ≡ s.ring.ghost_name) × OnlyTakes s.ring.now t.ring.now
+
+  -- and so does an owning walk
+  abbrev pub UnpacksLast : RingBufferIntoIterator T RB → Option T → RingBufferIntoIterator T RB → Type 0
+  UnpacksLast s r t = YieldsLast (into_iter_to_come contents) s r t × OnlyTakes s.ring t.ring
+
+  -- from there drains give what their rings held, in reverse
+  abbrev pub DrainsInReverse : Type 0
+  DrainsInReverse = YieldsInReverse DrainsLast (drain_to_come contents)
+
+  -- and so do owning walks
+  abbrev pub UnpacksInReverse : Type 0
+  UnpacksInReverse = YieldsInReverse UnpacksLast (into_iter_to_come contents)

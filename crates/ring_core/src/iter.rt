@@ -5,8 +5,9 @@ ghost use Rattle.std.specs.Borrow.{sem};
 ghost use Rattle.std.specs.Iterator.{YieldsFirstRef, YieldsLastRef, UpTo, at_most, item_count};
 ghost use Rattle.std.specs.Iterator.SizeHint.{IsWithinCount};
 ghost use Rattle.std.specs.Option.{option_copied, option_copied_mut};
-ghost use Rattle.ring_core.specs.Walk.{DrainsFirst, DrainsInOrder, ReadsInOrder, ReadsInReverse, StartsOver, UnpacksFirst, UnpacksInOrder, drain_to_come, into_iter_to_come, iterator_to_come, cursor_to_come};
+ghost use Rattle.ring_core.specs.Walk.{DrainsFirst, DrainsInOrder, DrainsInReverse, DrainsLast, ReadsInOrder, ReadsInReverse, StartsOver, UnpacksFirst, UnpacksInOrder, UnpacksInReverse, UnpacksLast, drain_to_come, into_iter_to_come, iterator_to_come, cursor_to_come};
 
+use crate::double_ended::DoubleEndedRing;
 use crate::ring::RingBuffer;
 use std::alloc::AllocError;
 use std::iter::FusedIterator;
@@ -204,7 +205,8 @@ impl<'rb, T: Drop, RB: RingBuffer<T>> RingBufferMutIterator<'rb, T, RB> {
     }
 }
 
-/// A walk that takes the items out of a ring, oldest first. Those that it didn't hand out stay in the ring, in order.
+/// A walk that takes the items out of a ring, oldest first, and from either end if the ring is a `DoubleEndedRing`. Those
+/// that it didn't hand out stay in the ring, in order.
 #[derive(Drop)]
 pub struct RingBufferDrainingIterator<'rb, T, RB> {
     ring: &'rb mut RB,
@@ -217,6 +219,7 @@ impl<'rb, T: Drop, RB: RingBuffer<T>> RingBufferDrainingIterator<'rb, T, RB> {
         ensures same_reference { result.ring.ghost_name ≡ ring.entry.ghost_name }
         ensures ring { result.ring.now ≡ ring.entry.now }
         ensures runs { DrainsInOrder RB.contents RB.limit RB.slot_changes }
+        ensures runs_back { DrainsInReverse RB.contents RB.limit RB.slot_changes }
     {
         RingBufferDrainingIterator {
             ring,
@@ -249,7 +252,25 @@ impl<'rb, T: Drop, RB: RingBuffer<T>> Iterator for RingBufferDrainingIterator<'r
     }
 }
 
-/// A walk over a ring that it owns, oldest item first. The ring is dropped with it, and what it still holds.
+impl<'rb, T: Drop, RB: DoubleEndedRing<T>> DoubleEndedIterator
+    for RingBufferDrainingIterator<'rb, T, RB> {
+    ghost next_back_gives = { DrainsLast RB.contents RB.limit RB.slot_changes };
+
+    fn next_back(&mut self) -> Option<T> {
+        self.ring.pop_back()
+    }
+}
+
+impl<'rb, T: Drop, RB: RingBuffer<T>> ExactSizeIterator for RingBufferDrainingIterator<'rb, T, RB> {
+    fn len(&self) -> usize {
+        self.ring.len()
+    }
+}
+
+impl<'rb, T: Drop, RB: RingBuffer<T>> FusedIterator for RingBufferDrainingIterator<'rb, T, RB> {}
+
+/// A walk over a ring that it owns, oldest item first, and from either end if the ring is a `DoubleEndedRing`. The ring is
+/// dropped with it, and what it still holds.
 #[derive(Drop)]
 pub struct RingBufferIntoIterator<T, RB> {
     ring: RB,
@@ -261,6 +282,7 @@ impl<T: Drop, RB: RingBuffer<T>> RingBufferIntoIterator<T, RB> {
     pub fn new(ring: RB) -> Self
         ensures left { into_iter_to_come RB.contents result ≡ RB.contents ring }
         ensures runs { UnpacksInOrder RB.contents RB.limit RB.slot_changes }
+        ensures runs_back { UnpacksInReverse RB.contents RB.limit RB.slot_changes }
     {
         RingBufferIntoIterator {
             ring,
@@ -292,3 +314,19 @@ impl<T: Drop, RB: RingBuffer<T> + Drop> Iterator for RingBufferIntoIterator<T, R
         (left, Some(left))
     }
 }
+
+impl<T: Drop, RB: DoubleEndedRing<T> + Drop> DoubleEndedIterator for RingBufferIntoIterator<T, RB> {
+    ghost next_back_gives = { UnpacksLast RB.contents RB.limit RB.slot_changes };
+
+    fn next_back(&mut self) -> Option<T> {
+        self.ring.pop_back()
+    }
+}
+
+impl<T: Drop, RB: RingBuffer<T> + Drop> ExactSizeIterator for RingBufferIntoIterator<T, RB> {
+    fn len(&self) -> usize {
+        self.ring.len()
+    }
+}
+
+impl<T: Drop, RB: RingBuffer<T> + Drop> FusedIterator for RingBufferIntoIterator<T, RB> {}

@@ -1,15 +1,21 @@
-//! The interface of a ring buffer and what stands on it alone: the trait `RingBuffer`, its iterators, runs of commands, and
-//! moving one ring into another.
+//! The interface of a ring buffer and what stands on it alone: the traits `RingBuffer` and `DoubleEndedRing`, iterators, runs
+//! of commands, moving one ring into another, filters and searches.
 #![tactic(auto)]
 
+mod double_ended;
 mod iter;
 mod moving;
+mod retaining;
 mod ring;
 mod runs;
+mod searching;
 
+pub use double_ended::DoubleEndedRing;
 pub use iter::{
     RingBufferDrainingIterator, RingBufferIntoIterator, RingBufferIterator, RingBufferMutIterator,
 };
 pub use moving::move_all;
+pub use retaining::retain;
 pub use ring::RingBuffer;
 pub use runs::{Command, Refused, Reply, RunFault, Stopped, apply, run, run_into, runs_join};
+pub use searching::{binary_search, partition_point};

@@ -4,6 +4,7 @@
 
 pub mod array_pipe;
 pub mod average;
+pub mod both_ends;
 pub mod callers;
 pub mod events;
 pub mod everyday;
@@ -16,6 +17,7 @@ pub mod pipe;
 pub mod readings;
 pub mod relay;
 pub mod samples;
+pub mod selection;
 pub mod sliding_window;
 pub mod tail;
 pub mod undo;

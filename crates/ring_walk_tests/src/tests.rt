@@ -2,6 +2,7 @@
 //!
 //! A test is a function that is generic over the ring. A macro of `ring_test_support` calls it on a new ring of each type.
 
+mod both_ends;
 mod comparison;
 mod walks;
 

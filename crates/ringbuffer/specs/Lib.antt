@@ -3,6 +3,7 @@ pub mod grow
 pub mod heap
 pub use Rattle.ring_core.specs.Contents
 pub use Rattle.ring_core.specs.Extension
+pub use Rattle.ring_core.specs.Filtering
 pub use Rattle.ring_core.specs.History
 pub use Rattle.ring_core.specs.Meaning
 pub use Rattle.ring_core.specs.Walk

@@ -6,7 +6,7 @@ ghost use Rattle.std.specs.Cmp.Lexicographic.{lists_per, pointwise};
 ghost use Rattle.std.specs.List.{AllZip};
 ghost use Rattle.std.proofs.lemmas.Cmp.{lists_equiv, on_equiv};
 ghost use Rattle.ring_core.specs.Contents.{ChangesSlots, IsWithin, keep_last, overwritten, index_at, Pushes};
-ghost use Rattle.ring_core.specs.Walk.{DrainsInOrder, ReadsInOrder, ReadsInReverse, StartsOver, UnpacksInOrder, into_iter_to_come, iterator_to_come};
+ghost use Rattle.ring_core.specs.Walk.{DrainsInOrder, DrainsInReverse, ReadsInOrder, ReadsInReverse, StartsOver, UnpacksInOrder, UnpacksInReverse, into_iter_to_come, iterator_to_come};
 ghost use Rattle.ring_fixed.specs.View.{View, after_extend_from_slice, after_keep_newest, after_pop, after_push, after_push_front, after_put, after_takes, after_truncate, after_write};
 
 mod convert;
@@ -14,8 +14,8 @@ mod middle;
 mod order;
 
 use ring_core::{
-    RingBuffer, RingBufferDrainingIterator, RingBufferIntoIterator, RingBufferIterator,
-    RingBufferMutIterator,
+    DoubleEndedRing, RingBuffer, RingBufferDrainingIterator, RingBufferIntoIterator,
+    RingBufferIterator, RingBufferMutIterator,
 };
 use ring_fixed::{Fixed, extend_cloned, index_at, same_items, signed_index_at};
 use ring_slots::{ArraySlots, RingSlots};
@@ -254,6 +254,29 @@ impl<T: Drop, const CAP: usize> ConstGenericRingBuffer<T, CAP> {
     }
 }
 
+/// As the ring's own methods of these names.
+impl<T: Drop, const CAP: usize> DoubleEndedRing<T> for ConstGenericRingBuffer<T, CAP> {
+    #[inline]
+    fn push_front(&mut self, item: T) -> Result<Option<T>, T> {
+        // For the proof: the contents are within the limit.
+        let _ = self.len();
+        Ok(ConstGenericRingBuffer::push_front(self, item))
+    }
+
+    #[inline]
+    fn pop_back(&mut self) -> Option<T> {
+        ConstGenericRingBuffer::pop_back(self)
+    }
+
+    fn truncate(&mut self, len: usize) {
+        ConstGenericRingBuffer::truncate(self, len);
+    }
+
+    fn keep_newest(&mut self, len: usize) {
+        ConstGenericRingBuffer::keep_newest(self, len);
+    }
+}
+
 impl<T: Copy + Drop, const CAP: usize> ConstGenericRingBuffer<T, CAP> {
     /// Pushes copies of a slice's items in order, as `extend` would: the oldest items give way. Items of the slice that
     /// later ones would overwrite are passed over. Takes O(n) in those that are put.
@@ -351,7 +374,7 @@ impl<T: Drop, const CAP: usize> ConstGenericRingBuffer<T, CAP> {
         RingBufferMutIterator::new(self)
     }
 
-    /// Returns a walk that takes the items out, oldest first. Those that it didn't hand out stay.
+    /// Returns a walk that takes the items out, oldest first, from either end. Those that it didn't hand out stay.
     ///
     /// ```rust
     /// ring.drain().collect(alloc)
@@ -363,16 +386,22 @@ impl<T: Drop, const CAP: usize> ConstGenericRingBuffer<T, CAP> {
         ensures runs { DrainsInOrder ⟦<ConstGenericRingBuffer<T, CAP> as RingBuffer<T>>⟧.contents
             ⟦<ConstGenericRingBuffer<T, CAP> as RingBuffer<T>>⟧.limit
             ⟦<ConstGenericRingBuffer<T, CAP> as RingBuffer<T>>⟧.slot_changes }
+        ensures runs_back { DrainsInReverse ⟦<ConstGenericRingBuffer<T, CAP> as RingBuffer<T>>⟧.contents
+            ⟦<ConstGenericRingBuffer<T, CAP> as RingBuffer<T>>⟧.limit
+            ⟦<ConstGenericRingBuffer<T, CAP> as RingBuffer<T>>⟧.slot_changes }
     {
         RingBufferDrainingIterator::new(self)
     }
 
-    /// Turns the ring into a walk that owns it, oldest item first.
+    /// Turns the ring into a walk that owns it, oldest item first, from either end.
     #[inline]
     pub fn into_iter(self) -> RingBufferIntoIterator<T, Self>
         ensures left { into_iter_to_come ⟦<ConstGenericRingBuffer<T, CAP> as RingBuffer<T>>⟧.contents
             result ≡ self.items }
         ensures runs { UnpacksInOrder ⟦<ConstGenericRingBuffer<T, CAP> as RingBuffer<T>>⟧.contents
+            ⟦<ConstGenericRingBuffer<T, CAP> as RingBuffer<T>>⟧.limit
+            ⟦<ConstGenericRingBuffer<T, CAP> as RingBuffer<T>>⟧.slot_changes }
+        ensures runs_back { UnpacksInReverse ⟦<ConstGenericRingBuffer<T, CAP> as RingBuffer<T>>⟧.contents
             ⟦<ConstGenericRingBuffer<T, CAP> as RingBuffer<T>>⟧.limit
             ⟦<ConstGenericRingBuffer<T, CAP> as RingBuffer<T>>⟧.slot_changes }
     {

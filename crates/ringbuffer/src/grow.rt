@@ -7,14 +7,14 @@ ghost use Rattle.std.specs.Iterator.{Drains, IsFinite, YieldsThen};
 ghost use Rattle.std.specs.List.{AllZip};
 ghost use Rattle.std.proofs.lemmas.Cmp.{lists_equiv};
 ghost use Rattle.ring_core.specs.Contents.{keep_last};
-ghost use Rattle.ring_core.specs.Walk.{DrainsInOrder, ReadsInOrder, ReadsInReverse, StartsOver, UnpacksInOrder, into_iter_to_come, iterator_to_come};
+ghost use Rattle.ring_core.specs.Walk.{DrainsInOrder, DrainsInReverse, ReadsInOrder, ReadsInReverse, StartsOver, UnpacksInOrder, UnpacksInReverse, into_iter_to_come, iterator_to_come};
 
 mod convert;
 mod order;
 
 use ring_core::{
-    RingBuffer, RingBufferDrainingIterator, RingBufferIntoIterator, RingBufferIterator,
-    RingBufferMutIterator,
+    DoubleEndedRing, RingBuffer, RingBufferDrainingIterator, RingBufferIntoIterator,
+    RingBufferIterator, RingBufferMutIterator,
 };
 use ring_fixed::{
     clone_slices, copy_slices, index_at, same_in_slices, signed_index_at, slices_to_vec,
@@ -313,6 +313,28 @@ impl<T: Drop> GrowableAllocRingBuffer<T> {
     }
 }
 
+/// `push_front` as the deque's, and the others as the ring's own methods of these names.
+impl<T: Drop> DoubleEndedRing<T> for GrowableAllocRingBuffer<T> {
+    fn push_front(&mut self, item: T) -> Result<Option<T>, T> {
+        if let Err(failed) = self.deque.push_front(item) {
+            return Err(failed.value);
+        }
+        Ok(None)
+    }
+
+    fn pop_back(&mut self) -> Option<T> {
+        GrowableAllocRingBuffer::pop_back(self)
+    }
+
+    fn truncate(&mut self, len: usize) {
+        GrowableAllocRingBuffer::truncate(self, len);
+    }
+
+    fn keep_newest(&mut self, len: usize) {
+        GrowableAllocRingBuffer::keep_newest(self, len);
+    }
+}
+
 impl<T: Copy + Drop> GrowableAllocRingBuffer<T> {
     /// Puts copies of a slice's items last, in order. Takes O(n) in these.
     ///
@@ -425,7 +447,7 @@ impl<T: Drop> GrowableAllocRingBuffer<T> {
         RingBufferMutIterator::new(self)
     }
 
-    /// Returns a walk that takes the items out, oldest first. Those that it didn't hand out stay.
+    /// Returns a walk that takes the items out, oldest first, from either end. Those that it didn't hand out stay.
     ///
     /// ```rust
     /// ring.drain().collect(alloc)
@@ -437,16 +459,22 @@ impl<T: Drop> GrowableAllocRingBuffer<T> {
         ensures runs { DrainsInOrder ⟦<GrowableAllocRingBuffer<T> as RingBuffer<T>>⟧.contents
             ⟦<GrowableAllocRingBuffer<T> as RingBuffer<T>>⟧.limit
             ⟦<GrowableAllocRingBuffer<T> as RingBuffer<T>>⟧.slot_changes }
+        ensures runs_back { DrainsInReverse ⟦<GrowableAllocRingBuffer<T> as RingBuffer<T>>⟧.contents
+            ⟦<GrowableAllocRingBuffer<T> as RingBuffer<T>>⟧.limit
+            ⟦<GrowableAllocRingBuffer<T> as RingBuffer<T>>⟧.slot_changes }
     {
         RingBufferDrainingIterator::new(self)
     }
 
-    /// Turns the ring into a walk that owns it, oldest item first.
+    /// Turns the ring into a walk that owns it, oldest item first, from either end.
     #[inline]
     pub fn into_iter(self) -> RingBufferIntoIterator<T, Self>
         ensures left { into_iter_to_come ⟦<GrowableAllocRingBuffer<T> as RingBuffer<T>>⟧.contents result
             ≡ self }
         ensures runs { UnpacksInOrder ⟦<GrowableAllocRingBuffer<T> as RingBuffer<T>>⟧.contents
+            ⟦<GrowableAllocRingBuffer<T> as RingBuffer<T>>⟧.limit
+            ⟦<GrowableAllocRingBuffer<T> as RingBuffer<T>>⟧.slot_changes }
+        ensures runs_back { UnpacksInReverse ⟦<GrowableAllocRingBuffer<T> as RingBuffer<T>>⟧.contents
             ⟦<GrowableAllocRingBuffer<T> as RingBuffer<T>>⟧.limit
             ⟦<GrowableAllocRingBuffer<T> as RingBuffer<T>>⟧.slot_changes }
     {

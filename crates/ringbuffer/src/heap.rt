@@ -7,7 +7,7 @@ ghost use Rattle.std.specs.Cmp.Lexicographic.{lists_per, pointwise};
 ghost use Rattle.std.specs.List.{AllZip};
 ghost use Rattle.std.proofs.lemmas.Cmp.{and_equiv, lists_equiv, nat_eq_equiv, on_equiv};
 ghost use Rattle.ring_core.specs.Contents.{ChangesSlots, IsWithin, index_at, keep_last, overwritten};
-ghost use Rattle.ring_core.specs.Walk.{DrainsInOrder, ReadsInOrder, ReadsInReverse, StartsOver, UnpacksInOrder, into_iter_to_come, iterator_to_come};
+ghost use Rattle.ring_core.specs.Walk.{DrainsInOrder, DrainsInReverse, ReadsInOrder, ReadsInReverse, StartsOver, UnpacksInOrder, UnpacksInReverse, into_iter_to_come, iterator_to_come};
 ghost use Rattle.ring_fixed.specs.View.{after_extend_from_slice, after_keep_newest, after_pop, after_push, after_push_front, after_put, after_takes, after_truncate, after_write};
 
 mod convert;
@@ -16,8 +16,8 @@ mod order;
 
 use core::mem::replace_with;
 use ring_core::{
-    RingBuffer, RingBufferDrainingIterator, RingBufferIntoIterator, RingBufferIterator,
-    RingBufferMutIterator, move_all,
+    DoubleEndedRing, RingBuffer, RingBufferDrainingIterator, RingBufferIntoIterator,
+    RingBufferIterator, RingBufferMutIterator, move_all,
 };
 use ring_fixed::{
     Fixed, clone_slices, copy_slices, index_at, same_in_slices, signed_index_at, slices_to_vec,
@@ -345,6 +345,29 @@ impl<T: Drop> AllocRingBuffer<T> {
     }
 }
 
+/// As the ring's own methods of these names.
+impl<T: Drop> DoubleEndedRing<T> for AllocRingBuffer<T> {
+    #[inline]
+    fn push_front(&mut self, item: T) -> Result<Option<T>, T> {
+        // For the proof: the contents are within the limit.
+        let _ = self.len();
+        Ok(AllocRingBuffer::push_front(self, item))
+    }
+
+    #[inline]
+    fn pop_back(&mut self) -> Option<T> {
+        AllocRingBuffer::pop_back(self)
+    }
+
+    fn truncate(&mut self, len: usize) {
+        AllocRingBuffer::truncate(self, len);
+    }
+
+    fn keep_newest(&mut self, len: usize) {
+        AllocRingBuffer::keep_newest(self, len);
+    }
+}
+
 impl<T: Copy + Drop> AllocRingBuffer<T> {
     /// Pushes copies of a slice's items in order, as `extend` would: the oldest items give way. Items of the slice that
     /// later ones would overwrite are passed over. Takes O(n) in those that are put.
@@ -481,7 +504,7 @@ impl<T: Drop> AllocRingBuffer<T> {
         RingBufferMutIterator::new(self)
     }
 
-    /// Returns a walk that takes the items out, oldest first. Those that it didn't hand out stay.
+    /// Returns a walk that takes the items out, oldest first, from either end. Those that it didn't hand out stay.
     ///
     /// ```rust
     /// ring.drain().collect(alloc)
@@ -493,16 +516,22 @@ impl<T: Drop> AllocRingBuffer<T> {
         ensures runs { DrainsInOrder ⟦<AllocRingBuffer<T> as RingBuffer<T>>⟧.contents
             ⟦<AllocRingBuffer<T> as RingBuffer<T>>⟧.limit
             ⟦<AllocRingBuffer<T> as RingBuffer<T>>⟧.slot_changes }
+        ensures runs_back { DrainsInReverse ⟦<AllocRingBuffer<T> as RingBuffer<T>>⟧.contents
+            ⟦<AllocRingBuffer<T> as RingBuffer<T>>⟧.limit
+            ⟦<AllocRingBuffer<T> as RingBuffer<T>>⟧.slot_changes }
     {
         RingBufferDrainingIterator::new(self)
     }
 
-    /// Turns the ring into a walk that owns it, oldest item first.
+    /// Turns the ring into a walk that owns it, oldest item first, from either end.
     #[inline]
     pub fn into_iter(self) -> RingBufferIntoIterator<T, Self>
         ensures left { into_iter_to_come ⟦<AllocRingBuffer<T> as RingBuffer<T>>⟧.contents result
             ≡ self.items }
         ensures runs { UnpacksInOrder ⟦<AllocRingBuffer<T> as RingBuffer<T>>⟧.contents
+            ⟦<AllocRingBuffer<T> as RingBuffer<T>>⟧.limit
+            ⟦<AllocRingBuffer<T> as RingBuffer<T>>⟧.slot_changes }
+        ensures runs_back { UnpacksInReverse ⟦<AllocRingBuffer<T> as RingBuffer<T>>⟧.contents
             ⟦<AllocRingBuffer<T> as RingBuffer<T>>⟧.limit
             ⟦<AllocRingBuffer<T> as RingBuffer<T>>⟧.slot_changes }
     {

@@ -1,5 +1,5 @@
 //! Ring buffers of a fixed capacity, in an array or on the heap, and of any length, in a deque. All implement
-//! `RingBuffer`.
+//! `RingBuffer` and `DoubleEndedRing`.
 #![tactic(auto)]
 
 mod array;
@@ -11,7 +11,7 @@ pub use array::ConstGenericRingBuffer;
 pub use grow::GrowableAllocRingBuffer;
 pub use heap::AllocRingBuffer;
 pub use ring_core::{
-    Command, Refused, Reply, RingBuffer, RingBufferDrainingIterator, RingBufferIntoIterator,
-    RingBufferIterator, RingBufferMutIterator, RunFault, Stopped, apply, move_all, run, run_into,
-    runs_join,
+    Command, DoubleEndedRing, Refused, Reply, RingBuffer, RingBufferDrainingIterator,
+    RingBufferIntoIterator, RingBufferIterator, RingBufferMutIterator, RunFault, Stopped, apply,
+    binary_search, move_all, partition_point, retain, run, run_into, runs_join,
 };

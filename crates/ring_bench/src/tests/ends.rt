@@ -8,7 +8,7 @@ use ringbuffer::RingBuffer;
 use std::process::Abort;
 
 /// The items of a ring, what `pop_back` answers, and what is left.
-const POPS: &[(&[i64], Option<i64>, &[i64])] = &[
+pub const POPS: &[(&[i64], Option<i64>, &[i64])] = &[
     (&[], None, &[]),
     (&[7], Some(7), &[]),
     (&[1, 2], Some(2), &[1]),
@@ -16,7 +16,7 @@ const POPS: &[(&[i64], Option<i64>, &[i64])] = &[
 ];
 
 /// The items of a ring, how many are to be kept, the oldest of them and the newest of them.
-const KEPT: &[(&[i64], usize, &[i64], &[i64])] = &[
+pub const KEPT: &[(&[i64], usize, &[i64], &[i64])] = &[
     (&[], 0, &[], &[]),
     (&[], 3, &[], &[]),
     (&[7], 0, &[], &[]),

@@ -18,13 +18,18 @@ use std::process::Abort;
 
 /// An end that a walk takes a step from.
 #[derive(Clone, Copy)]
-enum End {
+pub enum End {
     Front,
     Back,
 }
 
 /// Asserts that `left` items are still to come before this one is found.
-fn assert_to_come(rt: &impl Abort, hint: (usize, Option<usize>), left: usize, item: Option<i64>) {
+pub fn assert_to_come(
+    rt: &impl Abort,
+    hint: (usize, Option<usize>),
+    left: usize,
+    item: Option<i64>,
+) {
     assert_equal(rt, (item, hint), (item, (left, Some(left))));
 }
 
@@ -100,7 +105,7 @@ fn increment<R: RingBuffer<i64>>(rt: &impl Abort, walk: &mut RingBufferMutIterat
 }
 
 /// Items, the ends that a walk takes its steps from, and what these find.
-const WALKS: &[(&[i64], &[End], &[i64])] = &[
+pub const WALKS: &[(&[i64], &[End], &[i64])] = &[
     (&[1], &[Back, Front, Back, Front], &[1]),
     (
         &[1, 2, 3, 4],

@@ -1,0 +1,120 @@
+-- What stands while the items of a ring are asked about in turn, and those picked come behind the others.
+use Rattle.ring_core.proofs.Words.{◌≡◌, ℕ, ◌+◌, ◌<◌, ◌≤◌, Bool, true, false, List, [], ◌∷◌, ◌++◌, length, drop, slice_get, Option, None, Some, IsSome, refl, sym, ap, ◌∙◌, append-nil, append_assoc, arith, length-append, IsWithin, keep_last}
+use Rattle.std.specs.List.{items_where_true}
+use Rattle.std.specs.List.Retain.{ReturnsInTurn}
+use Rattle.ring_core.proofs.Limits.{keep_last_within}
+use Rattle.ring_core.specs.Filtering.{FiltersPart}
+
+module _ {A : Type 0} where
+  -- an item more is picked if the answer is `true`
+  pick-push : (bs : List Bool) (xs : List A) (b : Bool) (x : A) → length bs ≡ length xs
+      → items_where_true (bs ++ b ∷ []) (xs ++ x ∷ []) ≡ items_where_true bs xs ++ items_where_true (b ∷ []) (x ∷ [])
+  pick-push [] [] b x same = refl
+  pick-push [] (y ∷ xs) b x same = absurd (omega arith)
+  pick-push (c ∷ bs) [] b x same = absurd (omega arith)
+  pick-push (true ∷ bs) (y ∷ xs) b x same = ap (λ l. y ∷ l) (pick-push bs xs b x (omega arith))
+  pick-push (false ∷ bs) (y ∷ xs) b x same = pick-push bs xs b x (omega arith)
+
+  -- no more are picked than there are
+  pick-few : (bs : List Bool) (xs : List A) → length (items_where_true bs xs) ≤ length xs
+  pick-few [] xs = omega arith
+  pick-few (b ∷ bs) [] = omega arith
+  pick-few (true ∷ bs) (x ∷ xs) = omega (arith, pick-few bs xs)
+  pick-few (false ∷ bs) (x ∷ xs) = omega (arith, pick-few bs xs)
+
+  next_in : (rest picked : List A) (x : A) → 0 < length rest → slice_get (rest ++ picked) 0 ≡ Some x → rest ≡ x ∷ drop 1 rest
+  next_in [] picked x some first = absurd (omega arith)
+  next_in (y ∷ rest) picked x some first = cc
+
+  within_limit : (old now : List A) (limit : Option ℕ) → IsWithin old limit → length now ≤ length old → keep_last limit now ≡ now
+  within_limit old now None within few = refl
+  within_limit old now (Some n) within few = keep_last_within (Some n) now (within.0, omega arith)
+
+  some_first : (rest picked : List A) → 0 < length rest → IsSome (slice_get (rest ++ picked) 0)
+  some_first [] picked some = absurd (omega arith)
+  some_first (x ∷ rest) picked some = refl
+
+module _ {A P : Type 0} (R : P → A → Bool → P → Type 0) where
+  -- one more answer
+  returns-push : (p q u : P) (bs : List Bool) (xs : List A) (b : Bool) (x : A) → length bs ≡ length xs → ReturnsInTurn R p bs xs q → R q x b u
+      → ReturnsInTurn R p (bs ++ b ∷ []) (xs ++ x ∷ []) u
+  returns-push p q u [] [] b x same told more = rw told (u, more, refl)
+  returns-push p q u [] (y ∷ xs) b x same told more = absurd (omega arith)
+  returns-push p q u (c ∷ bs) [] b x same told more = absurd told
+  returns-push p q u (c ∷ bs) (y ∷ xs) b x same told more = (told.0, told.1, returns-push told.0 q u bs xs b x (omega arith) told.2 more)
+
+  -- of the items `old` the first ones were asked about, by a test that was p and is q, and those picked lie behind the others
+  pub record Picks (p : P) (old now : List A) (q : P) (turns : ℕ) : Type 0 where
+    pub asked : List A
+    pub rest : List A
+    pub answers : List Bool
+    pub parts : old ≡ asked ++ rest
+    pub counted : length asked ≡ turns
+    pub answered : length answers ≡ length asked
+    pub told : ReturnsInTurn R p answers asked q
+    pub left : now ≡ rest ++ items_where_true answers asked
+
+  pub nothing_asked : (p : P) (old : List A) → Picks p old old p 0
+  nothing_asked p old =
+      record { asked = []; rest = old; answers = []; parts = refl; counted = refl; answered = refl; told = refl; left = sym (append-nil old) }
+
+  module _ {p q : P} {old now : List A} {turns : ℕ} (at : Picks p old now q turns) where
+    -- while not all were asked about, there is a first item
+    pub first_is_some : turns < length old → IsSome (slice_get now 0)
+    first_is_some more = rw at.left (some_first at.rest _ (omega (arith, at.counted, ap length at.parts, length-append at.asked at.rest)))
+
+    -- x is the next item, which is taken out and asked about
+    module _ (more : turns < length old) (x : A) (first : slice_get now 0 ≡ Some x) where
+      abbrev others : List A
+      others = drop 1 at.rest
+
+      abbrev picked : List A
+      picked = items_where_true at.answers at.asked
+
+      next : at.rest ≡ x ∷ others
+      next = next_in at.rest picked x (omega (arith, at.counted, ap length at.parts, length-append at.asked at.rest)) (sym (ap (λ l. slice_get l 0) at.left) ∙ first)
+
+      parts : old ≡ at.asked ++ x ∷ others
+      parts = at.parts ∙ ap (λ l. at.asked ++ l) next
+
+      taken : drop 1 now ≡ others ++ picked
+      taken = ap (drop 1) at.left ∙ ap (λ l. drop 1 (l ++ picked)) next
+
+      -- the next turn, whatever the answer was
+      turn : (b : Bool) (u : P) → R q x b u → Picks p old (drop 1 now ++ items_where_true (b ∷ []) (x ∷ [])) u (turns + 1)
+      turn b u answer = record {
+        asked = at.asked ++ x ∷ [];
+        rest = others;
+        answers = at.answers ++ b ∷ [];
+        parts = parts ∙ sym (append_assoc at.asked (x ∷ []) others);
+        counted = omega (arith, at.counted, length-append at.asked (x ∷ []));
+        answered = omega (arith, at.answered, length-append at.asked (x ∷ []), length-append at.answers (b ∷ []));
+        told = returns-push p q u at.answers at.asked b x at.answered at.told answer;
+        left = rw (taken, append_assoc, ← pick-push at.answers at.asked b x at.answered) refl;
+      }
+
+      pub kept : (u : P) → R q x true u → Picks p old (drop 1 now ++ x ∷ []) u (turns + 1)
+      kept u answer = turn true u answer
+
+      pub dropped : (u : P) → R q x false u → Picks p old (drop 1 now) u (turns + 1)
+      dropped u answer = rw append-nil at (turn false u answer)
+
+      pub refused : (u : P) → R q x true u → FiltersPart R p old (drop 1 now) x
+      refused u answer = (
+        at.asked,
+        picked,
+        others,
+        parts,
+        (
+          at.answers ++ true ∷ [],
+          u,
+          omega (arith, at.answered, length-append at.asked (x ∷ []), length-append at.answers (true ∷ [])),
+          returns-push p q u at.answers at.asked true x at.answered at.told answer,
+          sym (pick-push at.answers at.asked true x at.answered),
+        ),
+        taken,
+      )
+
+      -- a limit leaves the item that is put back
+      pub put_back : (limit : Option ℕ) → IsWithin old limit → keep_last limit (drop 1 now ++ x ∷ []) ≡ drop 1 now ++ x ∷ []
+      put_back limit within = within_limit old _ limit within (omega (arith, ap length taken, length-append others picked, length-append (drop 1 now) (x ∷ []), ap length parts, length-append at.asked (x ∷ others), pick-few at.answers at.asked))

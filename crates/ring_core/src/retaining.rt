@@ -1,0 +1,43 @@
+//! Keeping the items of a ring that a test picks.
+
+ghost use Rattle.std.specs.Prelude.{◌≡◌, IfErr, IsOk, IsSome, OnOk, length};
+ghost use Rattle.std.specs.Fn.{CalledAt};
+ghost use Rattle.std.specs.List.Retain.{IsFiltered};
+ghost use Rattle.ring_core.specs.Contents.{Counts};
+ghost use Rattle.ring_core.specs.Filtering.{FiltersPart};
+
+use crate::ring::RingBuffer;
+
+/// Keeps the items for which `keep` returns `true`, in order, and drops the others. It asks about each item once, oldest
+/// first. A kept item is taken out and pushed again, so it counts as two slot changes, and a dropped one as one. This call
+/// is the library's own: the Rust crate has none like it.
+///
+/// # Errors
+///
+/// The item that `ring` was refused memory for, which no ring with a limit meets. Those after it are then the oldest, and
+/// those kept before it the newest.
+pub fn retain<T: Drop, R: RingBuffer<T>, F: FnMut(&T) -> bool>(
+    ring: &mut R,
+    mut keep: F,
+) -> Result<(), T>
+    requires { F.IsAlwaysCallable keep }
+    ensures filtered { OnOk result
+        (IsFiltered (CalledAt F.FnMut) keep (R.contents ring.old) (R.contents ring.new)) }
+    ensures refused { IfErr result
+        (FiltersPart (CalledAt F.FnMut) keep (R.contents ring.old) (R.contents ring.new)) }
+    ensures succeeds { IsSome (R.limit ring.old) → IsOk result }
+    ensures limit { R.limit ring.new ≡ R.limit ring.old }
+    ensures changes { Counts R.limit R.contents R.slot_changes ring.old ring.new (length (R.contents ring.new)) }
+{
+    for _ in 0..ring.len() {
+        let item = ring.dequeue().unwrap();
+        if !keep(&item) {
+            continue;
+        }
+        match ring.push(item) {
+            Ok(overwritten) => drop(overwritten),
+            Err(item) => return Err(item),
+        }
+    }
+    Ok(())
+}
