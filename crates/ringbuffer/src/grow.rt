@@ -7,7 +7,7 @@ ghost use Rattle.std.specs.Iterator.{Drains, IsFinite, YieldsThen};
 ghost use Rattle.std.specs.List.{AllZip};
 ghost use Rattle.std.proofs.lemmas.Cmp.{lists_equiv};
 ghost use Rattle.ring_core.specs.Contents.{keep_last};
-ghost use Rattle.ring_core.specs.Walk.{DrainsInOrder, ReadsInOrder, ReadsInReverse, StartsOver, UnpacksInOrder, into_iter_to_come, iterator_to_come};
+ghost use Rattle.ring_core.specs.Walk.{DrainsInOrder, ReadsInOrder, ReadsInReverse, StartsOver, UnpacksInOrder, into_iter_to_come, items_between, iterator_to_come};
 
 mod convert;
 mod order;
@@ -22,7 +22,7 @@ use std::collections::VecDeque;
 use std::fmt::{self, Debug, Formatter, Write};
 use std::marker::Model;
 use std::mem;
-use std::ops::{Index, IndexMut};
+use std::ops::{Index, IndexMut, RangeBounds};
 
 /// A ring buffer without a limit: it keeps every item, and grows as a `VecDeque` does.
 ///
@@ -371,6 +371,19 @@ impl<T: Drop> GrowableAllocRingBuffer<T> {
         ensures runs_back { ReadsInReverse ⟦<GrowableAllocRingBuffer<T> as RingBuffer<T>>⟧.contents }
     {
         RingBufferIterator::new(self)
+    }
+
+    /// Returns a walk over the items at the indexes in a range, as `2..5` or `3..`, without walking over those before it.
+    /// A bound past the length is cut to it, and a range that ends before it starts has no items.
+    #[inline]
+    pub fn range<X: RangeBounds<usize>>(&self, range: X) -> RingBufferIterator<'_, T, Self>
+        requires { X.has_bounds range }
+        ensures left { iterator_to_come ⟦<GrowableAllocRingBuffer<T> as RingBuffer<T>>⟧.contents result
+            ≡ items_between (X.start_bound range) (X.end_bound range) self.now }
+        ensures runs { ReadsInOrder ⟦<GrowableAllocRingBuffer<T> as RingBuffer<T>>⟧.contents }
+        ensures runs_back { ReadsInReverse ⟦<GrowableAllocRingBuffer<T> as RingBuffer<T>>⟧.contents }
+    {
+        RingBufferIterator::range(self, range)
     }
 
     /// Returns a cursor that lends the items for writing, one at a time, from either end.
