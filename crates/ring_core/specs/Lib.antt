@@ -3,4 +3,5 @@ pub mod Cursor
 pub mod Extension
 pub mod History
 pub mod Meaning
+pub mod Stream
 pub mod Walk

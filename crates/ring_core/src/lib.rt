@@ -3,13 +3,16 @@
 #![tactic(auto)]
 
 mod iter;
+mod last_bytes;
 mod moving;
 mod ring;
 mod runs;
+mod written;
 
 pub use iter::{
     RingBufferDrainingIterator, RingBufferIntoIterator, RingBufferIterator, RingBufferMutIterator,
 };
+pub use last_bytes::LastBytes;
 pub use moving::move_all;
 pub use ring::RingBuffer;
 pub use runs::{Command, Refused, Reply, RunFault, Stopped, apply, run, run_into, runs_join};

@@ -11,7 +11,7 @@ pub use array::ConstGenericRingBuffer;
 pub use grow::GrowableAllocRingBuffer;
 pub use heap::AllocRingBuffer;
 pub use ring_core::{
-    Command, Refused, Reply, RingBuffer, RingBufferDrainingIterator, RingBufferIntoIterator,
-    RingBufferIterator, RingBufferMutIterator, RunFault, Stopped, apply, move_all, run, run_into,
-    runs_join,
+    Command, LastBytes, Refused, Reply, RingBuffer, RingBufferDrainingIterator,
+    RingBufferIntoIterator, RingBufferIterator, RingBufferMutIterator, RunFault, Stopped, apply,
+    move_all, run, run_into, runs_join,
 };
