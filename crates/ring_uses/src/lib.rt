@@ -5,12 +5,15 @@
 pub mod array_pipe;
 pub mod average;
 pub mod callers;
+pub mod crossing;
 pub mod events;
 pub mod everyday;
 pub mod headline;
 pub mod last_lines;
 pub mod last_two;
 pub mod limiter;
+pub mod log_end;
+pub mod pages;
 pub mod pipe;
 pub mod readings;
 pub mod relay;

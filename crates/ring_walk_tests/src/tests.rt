@@ -3,6 +3,7 @@
 //! A test is a function that is generic over the ring. A macro of `ring_test_support` calls it on a new ring of each type.
 
 mod comparison;
+mod ranges;
 mod walks;
 
 use ring_test_support::steps::{Step, first_fault};
