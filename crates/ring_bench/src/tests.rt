@@ -4,6 +4,7 @@
 //! `ring_test_support` calls such a function on a new ring of each type.
 
 mod bytes;
+mod collections;
 mod ends;
 mod faults;
 mod fills;

@@ -1,5 +1,5 @@
-//! Rings, the walks over them and what lends their bytes may go to other threads, and be shared by them, where their items
-//! may. No thread is started here: each function is proved only if what it names may cross.
+//! Rings, the walks over them and a `LastBytes` may go to other threads, and be shared by them, where their items may. No
+//! thread is started here: each function is proved only if what it is passed may cross.
 
 use ringbuffer::{
     AllocRingBuffer, ConstGenericRingBuffer, GrowableAllocRingBuffer, LastBytes, RingBuffer,

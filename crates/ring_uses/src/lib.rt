@@ -8,6 +8,7 @@ pub mod callers;
 pub mod crossing;
 pub mod events;
 pub mod everyday;
+pub mod extending;
 pub mod headline;
 pub mod last_lines;
 pub mod last_two;

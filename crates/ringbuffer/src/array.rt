@@ -3,9 +3,11 @@ ghost use Rattle.std.specs.Prelude.{◌≡◌, ◌↔◌, ◌+◌, ◌-◌, ◌<
 ghost use Rattle.std.specs.Borrow.{Lends, sem};
 ghost use Rattle.std.specs.Cmp.{on_per};
 ghost use Rattle.std.specs.Cmp.Lexicographic.{lists_per, pointwise};
+ghost use Rattle.std.specs.Iterator.{IsFiniteIterable};
 ghost use Rattle.std.specs.List.{AllZip};
 ghost use Rattle.std.proofs.lemmas.Cmp.{lists_equiv, on_equiv};
 ghost use Rattle.ring_core.specs.Contents.{ChangesSlots, IsWithin, keep_last, overwritten, index_at, Pushes};
+ghost use Rattle.ring_core.specs.Extension.{Extends};
 ghost use Rattle.ring_core.specs.Walk.{DrainsInOrder, ReadsInOrder, ReadsInReverse, StartsOver, UnpacksInOrder, into_iter_to_come, items_between, iterator_to_come};
 ghost use Rattle.ring_fixed.specs.View.{View, after_extend_from_slice, after_keep_newest, after_pop, after_push, after_push_front, after_put, after_takes, after_truncate, after_write};
 
@@ -186,6 +188,18 @@ impl<T: Drop, const CAP: usize> ConstGenericRingBuffer<T, CAP> {
         ensures value { slice_get self.old.items index ≡ Some result.now }
     {
         self.ring.at_mut(index)
+    }
+
+    /// Pushes the items of a source that ends, in order, as the trait's `extend` does. It stands here too, since each
+    /// ring is std's `Extend` as well, and a call by a dot would find both.
+    pub fn extend<I: IntoIterator<Item = T>>(&mut self, items: I) -> Result<(), AllocError>
+        requires { IsFiniteIterable I.into_iter_gives I.IntoIter.can_next I.IntoIter.remaining
+            items }
+        ensures extends { Extends I.into_iter_gives I.IntoIter.next_gives items (Some CAP)
+            self.old.items self.new.items self.old.changes self.new.changes result }
+        ensures succeeds { IsOk result }
+    {
+        RingBuffer::extend(self, items)
     }
 
     /// Puts the item last if there is room for it, and overwrites nothing.

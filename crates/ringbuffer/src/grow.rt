@@ -3,10 +3,11 @@
 ghost use Rattle.std.specs.Prelude.{◌≡◌, ◌↔◌, ◌-◌, ◌%◌, ◌<◌, [], ◌∷◌, ◌++◌, All, IfOk, IsOk, IsSome, List, MatchResult, None, OnErr, OnOk, Some, drop, length, min, option_to_list, refl, slice_get, slice_set, take};
 ghost use Rattle.std.specs.Borrow.{sem};
 ghost use Rattle.std.specs.Cmp.Lexicographic.{lists_per, pointwise};
-ghost use Rattle.std.specs.Iterator.{Drains, IsFinite, YieldsThen};
+ghost use Rattle.std.specs.Iterator.{Drains, IsFinite, IsFiniteIterable, YieldsThen};
 ghost use Rattle.std.specs.List.{AllZip};
 ghost use Rattle.std.proofs.lemmas.Cmp.{lists_equiv};
 ghost use Rattle.ring_core.specs.Contents.{keep_last};
+ghost use Rattle.ring_core.specs.Extension.{Extends};
 ghost use Rattle.ring_core.specs.Walk.{DrainsInOrder, ReadsInOrder, ReadsInReverse, StartsOver, UnpacksInOrder, into_iter_to_come, items_between, iterator_to_come};
 
 mod convert;
@@ -280,6 +281,21 @@ impl<T: Drop> RingBuffer<T> for GrowableAllocRingBuffer<T> {
 }
 
 impl<T: Drop> GrowableAllocRingBuffer<T> {
+    /// Pushes the items of a source that ends, in order, as the trait's `extend` does. It stands here too, since each
+    /// ring is std's `Extend` as well, and a call by a dot would find both.
+    ///
+    /// # Errors
+    ///
+    /// Where memory was refused. The items pushed until then stay.
+    pub fn extend<I: IntoIterator<Item = T>>(&mut self, items: I) -> Result<(), AllocError>
+        requires { IsFiniteIterable I.into_iter_gives I.IntoIter.can_next I.IntoIter.remaining
+            items }
+        ensures { Extends I.into_iter_gives I.IntoIter.next_gives items None self.old self.new 0 0
+            result }
+    {
+        RingBuffer::extend(self, items)
+    }
+
     /// Takes out the newest item, if there is one.
     pub fn pop_back(&mut self) -> Option<T>
         ensures items { self.old ≡ self.new ++ option_to_list result }

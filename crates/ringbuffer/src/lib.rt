@@ -4,6 +4,7 @@
 
 mod array;
 mod bytes;
+mod extend;
 mod grow;
 mod heap;
 
