@@ -1,8 +1,8 @@
-//! Rings, the walks over them and a `LastBytes` may go to other threads, and be shared by them, where their items may. No
-//! thread is started here: each function is proved only if what it is passed may cross.
+//! Rings and the walks over them may go to other threads, and be shared by them, where their items may. No thread is started
+//! here: each function is proved only if what it is passed may cross.
 
 use ringbuffer::{
-    AllocRingBuffer, ConstGenericRingBuffer, GrowableAllocRingBuffer, LastBytes, RingBuffer,
+    AllocRingBuffer, ConstGenericRingBuffer, GrowableAllocRingBuffer, RingBuffer,
     RingBufferDrainingIterator, RingBufferIntoIterator, RingBufferIterator, RingBufferMutIterator,
 };
 use std::marker::{Send, Sync};
@@ -59,10 +59,4 @@ pub fn share_walks<T: Sync + Drop, R: RingBuffer<T> + Sync>(
     shareable(cursor);
     shareable(drain);
     shareable(owning);
-}
-
-/// The writer that keeps the last bytes of a stream may be sent and shared.
-pub fn cross_last_bytes(log: &LastBytes<AllocRingBuffer<u8>>) {
-    sendable(log);
-    shareable(log);
 }

@@ -290,8 +290,8 @@ impl<T: Drop> GrowableAllocRingBuffer<T> {
     pub fn extend<I: IntoIterator<Item = T>>(&mut self, items: I) -> Result<(), AllocError>
         requires { IsFiniteIterable I.into_iter_gives I.IntoIter.can_next I.IntoIter.remaining
             items }
-        ensures { Extends I.into_iter_gives I.IntoIter.next_gives items None self.old self.new 0 0
-            result }
+        ensures extends { Extends I.into_iter_gives I.IntoIter.next_gives items None self.old
+            self.new 0 0 result }
     {
         RingBuffer::extend(self, items)
     }

@@ -8,11 +8,7 @@ use ringbuffer::RingBuffer;
 use std::process::Abort;
 
 /// Adds four numbers to a ring that holds one already, as to any collection.
-fn assert_adds<R: RingBuffer<i64> + Extend<i64> + Drop>(
-    rt: &impl Abort,
-    mut ring: R,
-    items: &[i64],
-)
+fn assert_adds<R: RingBuffer<i64> + Extend<i64> + Drop>(rt: &impl Abort, mut ring: R, items: &[i64])
     requires { (old : R) (xs : List ℤ) → R.can_extend old xs }
 {
     let _ = ring.push(0);
