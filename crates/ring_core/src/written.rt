@@ -2,7 +2,7 @@
 ghost use Rattle.std.specs.Prelude.{◌≡◌, ℕ, List, [], ◌++◌};
 ghost use Rattle.std.specs.Borrow.{ftrue};
 
-use std::marker::{Model, Send, Sync};
+use std::marker::Model;
 
 // The bytes that were written, in order. It takes no bytes, and no code reads it.
 #[derive(Drop)]
@@ -13,10 +13,6 @@ pub(crate) struct WrittenBytes {
 impl Model for WrittenBytes {
     ghost also_owns = { λ _. ftrue };
 }
-
-unsafe impl Send for WrittenBytes {}
-
-unsafe impl Sync for WrittenBytes {}
 
 impl WrittenBytes {
     pub(crate) fn none() -> WrittenBytes
