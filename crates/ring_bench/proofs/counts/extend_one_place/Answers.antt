@@ -18,12 +18,12 @@ taken it xs drained = items_drained xs _ drained (YieldsList-from_shown array_st
 pub returns-clause-contents : goal.returns-clause-contents
 returns-clause-contents g c =
     let (it, xs, from, kept, counted, drained) = c.extend.ensures.extends in
-    let all : xs ≡ 1 ∷ 2 ∷ 3 ∷ [] = taken it xs (on_ok _ _ c.extend.ensures.succeeds drained) ∙ from.0 in
+    let all : xs ≡ 1 ∷ 2 ∷ 3 ∷ [] = taken it xs (on_ok _ _ (c.extend.ensures.succeeds (search rules)) drained) ∙ from.0 in
     kept ∙ rw (c.requires.limit, c.requires.empty, all) refl
 
 pub returns-clause-changes : goal.returns-clause-changes
 returns-clause-changes g c =
     let (it, xs, from, kept, counted, drained) = c.extend.ensures.extends in
-    let all : xs ≡ 1 ∷ 2 ∷ 3 ∷ [] = taken it xs (on_ok _ _ c.extend.ensures.succeeds drained) ∙ from.0 in
+    let all : xs ≡ 1 ∷ 2 ∷ 3 ∷ [] = taken it xs (on_ok _ _ (c.extend.ensures.succeeds (search rules)) drained) ∙ from.0 in
     let risen = rw c.requires.limit at counted in
     omega (arith, risen.1, ap length (returns-clause-contents g c), ap length all, ap length c.requires.empty)
