@@ -5,6 +5,7 @@
 
 mod both_ends;
 mod bytes;
+mod collections;
 mod ends;
 mod faults;
 mod fills;

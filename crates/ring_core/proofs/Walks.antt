@@ -1,5 +1,7 @@
 -- How a step of a walk shortens what is still to come.
-use Rattle.ring_core.proofs.Words.{append_assoc, ◌≡◌, ℕ, ◌+◌, ◌-◌, ◌<◌, ◌≤◌, ◌↔◌, min, List, [], ◌∷◌, ◌++◌, length, take, drop, get_or, Option, Some, None, MatchOption, map, refl, slice_set, suc, sym, ap, ◌∙◌, Bor, add-one, append-nil, arith, length-drop, slice_get, option_copied, option_to_list, drop-cons, take-length, take-suc-set, drop-append-le, drop-drop, drop-set-lt, length-take, length-take-le, take_min, slice_get_within, index_at, to_come}
+use Rattle.ring_core.proofs.Words.{append_assoc, ◌≡◌, ℕ, ◌+◌, ◌-◌, ◌<◌, ◌≤◌, ◌↔◌, min, List, [], ◌∷◌, ◌++◌, length, take, drop, get_or, Option, Some, None, MatchOption, map, refl, slice_set, suc, sym, ap, ◌∙◌, Bor, add-one, append-nil, arith, length-drop, slice_get, option_copied, option_to_list, drop-cons, take-length, take-suc-set, drop-append-le, drop-drop, drop-set-lt, length-take, length-take-le, take_min, slice_get_within, index_at, iterator_to_come, to_come}
+use Rattle.std.proofs.iter.Rest.{run_of_first_by, run_of_last_by}
+use Rattle.ring_core.specs.Walk.{ReadsInOrder, ReadsInReverse}
 use Rattle.ring_core.proofs.Items.{slice_get-drop, slice_get-take, take-suc_get}
 use Rattle.ring_core.proofs.Reading.{slice_get-index_at}
 
@@ -10,6 +12,14 @@ first_read [] None read = (refl, refl)
 first_read [] (Some x) read = cc
 first_read (y ∷ xs) None read = cc
 first_read (y ∷ xs) (Some x) read = cc
+
+-- whatever a reading walk has to come, its calls give it in order, from the front and from the back
+module _ {T RB : Type 0} (contents : RB → List T) where
+  pub reads_in_order : ReadsInOrder contents
+  reads_in_order p _ = (run_of_first_by (λ x. x.now) (iterator_to_come contents) p).1
+
+  pub reads_in_reverse : ReadsInReverse contents
+  reads_in_reverse p _ = (run_of_last_by (λ x. x.now) (iterator_to_come contents) p).1
 
 module _ {A : Type 0} (xs : List A) (front back : ℕ) where
   -- how many items are to come

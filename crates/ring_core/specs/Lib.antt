@@ -4,4 +4,5 @@ pub mod Extension
 pub mod Filtering
 pub mod History
 pub mod Meaning
+pub mod Stream
 pub mod Walk

@@ -2,6 +2,8 @@
 use Rattle.std.specs.Prelude.{◌≡◌, ℕ, IsSome, Option, List, length, take, drop}
 use Rattle.std.specs.Iterator.{YieldsFirst, YieldsFirstRef, YieldsLast, YieldsLastRef}
 use Rattle.std.specs.Iterator.Runs.{YieldsInOrder, YieldsInReverse, YieldsRefsInOrder, YieldsRefsInReverse}
+use Rattle.std.specs.Range.Bound.{end_index, start_index}
+use Rattle.std.specs.declared.ops.Bound.{Bound}
 use Rattle.ring_core.specs.Contents.{ChangesSlots}
 use Rattle.ring_core.specs.declared.iter.RingBufferDrainingIterator.{RingBufferDrainingIterator}
 use Rattle.ring_core.specs.declared.iter.RingBufferIntoIterator.{RingBufferIntoIterator}
@@ -11,6 +13,10 @@ use Rattle.ring_core.specs.declared.iter.RingBufferMutIterator.{RingBufferMutIte
 -- the part of a list from one number up to the other, or up to the list's end
 abbrev pub to_come : {A : Type 0} → List A → ℕ → ℕ → List A
 to_come xs front back = drop front (take back xs)
+
+-- the items of a list at the indexes in a range, whose ends are cut to the list's length
+abbrev pub items_between : {A : Type 0} → Bound ℕ → Bound ℕ → List A → List A
+items_between start end xs = to_come xs (start_index start) (end_index end (length xs))
 
 module _ {T RB : Type 0} (contents : RB → List T) where
   -- what a reading walk has still to come

@@ -1,17 +1,43 @@
 //! Walks over any ring buffer: reading, writing, and taking the items out.
 
-ghost use Rattle.std.specs.Prelude.{◌≡◌, ◌+◌, ◌-◌, ◌↔◌, [], drop, length, IfSome, IsNone, Some, slice_get};
+ghost use Rattle.std.specs.Prelude.{◌≡◌, ◌+◌, ◌-◌, ◌↔◌, [], drop, length, min, IfSome, IsNone, Some, slice_get};
 ghost use Rattle.std.specs.Borrow.{sem};
 ghost use Rattle.std.specs.Iterator.{YieldsFirstRef, YieldsLastRef, UpTo, at_most, item_count};
 ghost use Rattle.std.specs.Iterator.SizeHint.{IsWithinCount};
+ghost use Rattle.std.specs.Range.Bound.{end_index, start_index};
 ghost use Rattle.std.specs.Option.{option_copied, option_copied_mut};
-ghost use Rattle.ring_core.specs.Walk.{DrainsFirst, DrainsInOrder, DrainsInReverse, DrainsLast, ReadsInOrder, ReadsInReverse, StartsOver, UnpacksFirst, UnpacksInOrder, UnpacksInReverse, UnpacksLast, drain_to_come, into_iter_to_come, iterator_to_come, cursor_to_come};
+ghost use Rattle.ring_core.specs.Walk.{DrainsFirst, DrainsInOrder, DrainsInReverse, DrainsLast, ReadsInOrder, ReadsInReverse, StartsOver, UnpacksFirst, UnpacksInOrder, UnpacksInReverse, UnpacksLast, drain_to_come, into_iter_to_come, iterator_to_come, cursor_to_come, items_between};
 
 use crate::double_ended::DoubleEndedRing;
 use crate::ring::RingBuffer;
 use std::alloc::AllocError;
 use std::iter::FusedIterator;
 use std::marker::PhantomData;
+use std::ops::{Bound, RangeBounds};
+
+// Returns the first index of a range, or `len` if that is less.
+fn start_within<X: RangeBounds<usize>>(range: &X, len: usize) -> usize
+    requires { X.has_bounds range.now }
+    ensures { result ≡ min (start_index (X.start_bound range.now)) len }
+{
+    match range.start_bound() {
+        Bound::Included(start) => len.min(*start),
+        Bound::Excluded(start) => len.min(start.saturating_add(1)),
+        Bound::Unbounded => 0,
+    }
+}
+
+// Returns the index after the last of a range, or `len` if that is less.
+fn end_within<X: RangeBounds<usize>>(range: &X, len: usize) -> usize
+    requires { X.has_bounds range.now }
+    ensures { result ≡ min (end_index (X.end_bound range.now) len) len }
+{
+    match range.end_bound() {
+        Bound::Included(end) => len.min(end.saturating_add(1)),
+        Bound::Excluded(end) => len.min(*end),
+        Bound::Unbounded => len,
+    }
+}
 
 /// A walk over the items of a ring, from either end.
 #[derive(Drop)]
@@ -33,6 +59,24 @@ impl<'rb, T: Drop, RB: RingBuffer<T>> RingBufferIterator<'rb, T, RB> {
             ring,
             front: 0,
             back: ring.len(),
+            items: PhantomData,
+        }
+    }
+
+    /// Returns a walk over the items at the indexes in a range, as `2..5` or `3..`, without walking over those before it.
+    /// A bound past the length is cut to it, and a range that ends before it starts has no items.
+    pub fn range<X: RangeBounds<usize>>(ring: &'rb RB, range: X) -> Self
+        requires { X.has_bounds range }
+        ensures left { iterator_to_come RB.contents result
+            ≡ items_between (X.start_bound range) (X.end_bound range) (RB.contents ring.now) }
+        ensures runs { ReadsInOrder RB.contents }
+        ensures runs_back { ReadsInReverse RB.contents }
+    {
+        let len = ring.len();
+        RingBufferIterator {
+            ring,
+            front: start_within(&range, len),
+            back: end_within(&range, len),
             items: PhantomData,
         }
     }

@@ -4,16 +4,19 @@
 
 mod double_ended;
 mod iter;
+mod last_bytes;
 mod moving;
 mod retaining;
 mod ring;
 mod runs;
 mod searching;
+mod written;
 
 pub use double_ended::DoubleEndedRing;
 pub use iter::{
     RingBufferDrainingIterator, RingBufferIntoIterator, RingBufferIterator, RingBufferMutIterator,
 };
+pub use last_bytes::LastBytes;
 pub use moving::move_all;
 pub use retaining::retain;
 pub use ring::RingBuffer;

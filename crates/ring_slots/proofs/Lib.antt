@@ -1,4 +1,5 @@
 mod BlockCalls
+mod Crossing
 mod Parts
 mod SharedSlots
 mod SlotsInMemory

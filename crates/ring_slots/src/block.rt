@@ -10,7 +10,7 @@ ghost use Rattle.ring_slots.specs.Slots.{HoldsStretch, IsFullStretch};
 ghost use Rattle.ring_slots.specs.block.Memory.{owned, lent, right};
 
 use std::alloc::{AllocError, Allocator, Global};
-use std::marker::{Model, PhantomData};
+use std::marker::{Model, PhantomData, Send, Sync};
 use std::mem::{align_of, size_of};
 use std::slice;
 
@@ -28,6 +28,10 @@ impl<T> Model for Owner<T> {
     ghost also_shares = { λ s _ κ. lent T.row s.at s.slots κ };
 }
 
+unsafe impl<T: Send> Send for Owner<T> {}
+
+unsafe impl<T: Sync> Sync for Owner<T> {}
+
 /// The right to give back the block of `len` slots. It takes no bytes, and ends only with its block.
 pub(crate) struct Deed<T> {
     mark: PhantomData<*const T>,
@@ -41,6 +45,12 @@ impl<T> Model for Deed<T> {
 
     ghost also_shares = { λ _ _ _. ftrue };
 }
+
+// The heap takes a block back from any thread.
+unsafe impl<T> Send for Deed<T> {}
+
+// A `&` to it holds nothing.
+unsafe impl<T> Sync for Deed<T> {}
 
 impl<T> Owner<T> {
     ghost use Rattle.ring_slots.specs.block.Block.{IsDeedOf, IsNewBlock};

@@ -2,7 +2,7 @@
 ghost use Rattle.std.specs.Prelude.{◌≡◌, ℕ, ◌+◌};
 ghost use Rattle.std.specs.Borrow.{ftrue};
 
-use std::marker::Model;
+use std::marker::{Model, Send, Sync};
 
 /// A count of slot changes, or the count that `HeapSlots::slice_mut` is to set. It takes no bytes.
 #[derive(Drop)]
@@ -13,6 +13,10 @@ pub struct ChangeCount {
 impl Model for ChangeCount {
     ghost also_owns = { λ _. ftrue };
 }
+
+unsafe impl Send for ChangeCount {}
+
+unsafe impl Sync for ChangeCount {}
 
 impl ChangeCount {
     pub(crate) fn new() -> ChangeCount

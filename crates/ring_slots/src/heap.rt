@@ -11,7 +11,7 @@ use crate::change_count::ChangeCount;
 use crate::place::masked;
 use crate::slots::RingSlots;
 use std::alloc::{AllocError, Global};
-use std::marker::Model;
+use std::marker::{Model, Send, Sync};
 use std::mem::size_of;
 
 /// Slots on the heap, whose number is chosen when they are made.
@@ -46,6 +46,10 @@ impl<T> Model for HeapSlots<T> {
     ghost invariant = { λ s. (length s.owner.slots ≡ (s.mask + 1) % 2 ^ 64)
         × IsDeedOf s.alloc s.ptr s.owner s.deed };
 }
+
+unsafe impl<T: Send> Send for HeapSlots<T> {}
+
+unsafe impl<T: Sync> Sync for HeapSlots<T> {}
 
 impl<T: Drop> HeapSlots<T> {
     ghost use Rattle.ring_slots.specs.heap.Lends.{lends_stretch};

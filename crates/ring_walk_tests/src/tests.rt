@@ -4,6 +4,7 @@
 
 mod both_ends;
 mod comparison;
+mod ranges;
 mod walks;
 
 use ring_test_support::steps::{Step, first_fault};

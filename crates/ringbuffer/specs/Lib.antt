@@ -6,6 +6,7 @@ pub use Rattle.ring_core.specs.Extension
 pub use Rattle.ring_core.specs.Filtering
 pub use Rattle.ring_core.specs.History
 pub use Rattle.ring_core.specs.Meaning
+pub use Rattle.ring_core.specs.Stream
 pub use Rattle.ring_core.specs.Walk
 pub use Rattle.ring_fixed.specs.Somes
 pub use Rattle.ring_fixed.specs.View

@@ -3,10 +3,12 @@ ghost use Rattle.std.specs.Prelude.{◌≡◌, ◌↔◌, ◌+◌, ◌-◌, ◌<
 ghost use Rattle.std.specs.Borrow.{Lends, sem};
 ghost use Rattle.std.specs.Cmp.{on_per};
 ghost use Rattle.std.specs.Cmp.Lexicographic.{lists_per, pointwise};
+ghost use Rattle.std.specs.Iterator.{IsFiniteIterable};
 ghost use Rattle.std.specs.List.{AllZip};
 ghost use Rattle.std.proofs.lemmas.Cmp.{lists_equiv, on_equiv};
 ghost use Rattle.ring_core.specs.Contents.{ChangesSlots, IsWithin, keep_last, overwritten, index_at, Pushes};
-ghost use Rattle.ring_core.specs.Walk.{DrainsInOrder, DrainsInReverse, ReadsInOrder, ReadsInReverse, StartsOver, UnpacksInOrder, UnpacksInReverse, into_iter_to_come, iterator_to_come};
+ghost use Rattle.ring_core.specs.Extension.{Extends};
+ghost use Rattle.ring_core.specs.Walk.{DrainsInOrder, DrainsInReverse, ReadsInOrder, ReadsInReverse, StartsOver, UnpacksInOrder, UnpacksInReverse, into_iter_to_come, items_between, iterator_to_come};
 ghost use Rattle.ring_fixed.specs.View.{View, after_extend_from_slice, after_keep_newest, after_pop, after_push, after_push_front, after_put, after_takes, after_truncate, after_write};
 
 mod convert;
@@ -22,7 +24,7 @@ use ring_slots::{ArraySlots, RingSlots};
 use std::alloc::AllocError;
 use std::fmt::{self, Debug, Formatter, Write};
 use std::marker::Model;
-use std::ops::{Index, IndexMut};
+use std::ops::{Index, IndexMut, RangeBounds};
 
 /// A ring of at most `CAP` items, which lie in the value itself. It takes no memory of its own.
 ///
@@ -193,6 +195,18 @@ impl<T: Drop, const CAP: usize> ConstGenericRingBuffer<T, CAP> {
         self.ring.at_mut(index)
     }
 
+    /// Pushes the items of a source that ends, in order, as the trait's `extend` does. It stands here too, since each
+    /// ring is std's `Extend` as well, and a call by a dot would find both.
+    pub fn extend<I: IntoIterator<Item = T>>(&mut self, items: I) -> Result<(), AllocError>
+        requires { IsFiniteIterable I.into_iter_gives I.IntoIter.can_next I.IntoIter.remaining
+            items }
+        ensures extends { Extends I.into_iter_gives I.IntoIter.next_gives items (Some CAP)
+            self.old.items self.new.items self.old.changes self.new.changes result }
+        ensures succeeds { IsOk result }
+    {
+        RingBuffer::extend(self, items)
+    }
+
     /// Puts the item last if there is room for it, and overwrites nothing.
     ///
     /// ```rust
@@ -361,6 +375,19 @@ impl<T: Drop, const CAP: usize> ConstGenericRingBuffer<T, CAP> {
         ensures runs_back { ReadsInReverse ⟦<ConstGenericRingBuffer<T, CAP> as RingBuffer<T>>⟧.contents }
     {
         RingBufferIterator::new(self)
+    }
+
+    /// Returns a walk over the items at the indexes in a range, as `2..5` or `3..`, without walking over those before it.
+    /// A bound past the length is cut to it, and a range that ends before it starts has no items.
+    #[inline]
+    pub fn range<X: RangeBounds<usize>>(&self, range: X) -> RingBufferIterator<'_, T, Self>
+        requires { X.has_bounds range }
+        ensures left { iterator_to_come ⟦<ConstGenericRingBuffer<T, CAP> as RingBuffer<T>>⟧.contents result
+            ≡ items_between (X.start_bound range) (X.end_bound range) self.now.items }
+        ensures runs { ReadsInOrder ⟦<ConstGenericRingBuffer<T, CAP> as RingBuffer<T>>⟧.contents }
+        ensures runs_back { ReadsInReverse ⟦<ConstGenericRingBuffer<T, CAP> as RingBuffer<T>>⟧.contents }
+    {
+        RingBufferIterator::range(self, range)
     }
 
     /// Returns a cursor that lends the items for writing, one at a time, from either end.

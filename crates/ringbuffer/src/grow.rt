@@ -3,11 +3,12 @@
 ghost use Rattle.std.specs.Prelude.{◌≡◌, ◌↔◌, ◌-◌, ◌%◌, ◌<◌, [], ◌∷◌, ◌++◌, All, IfOk, IsOk, IsSome, List, MatchResult, None, OnErr, OnOk, Some, drop, length, min, option_to_list, refl, slice_get, slice_set, take};
 ghost use Rattle.std.specs.Borrow.{sem};
 ghost use Rattle.std.specs.Cmp.Lexicographic.{lists_per, pointwise};
-ghost use Rattle.std.specs.Iterator.{Drains, IsFinite, YieldsThen};
+ghost use Rattle.std.specs.Iterator.{Drains, IsFinite, IsFiniteIterable, YieldsThen};
 ghost use Rattle.std.specs.List.{AllZip};
 ghost use Rattle.std.proofs.lemmas.Cmp.{lists_equiv};
 ghost use Rattle.ring_core.specs.Contents.{keep_last};
-ghost use Rattle.ring_core.specs.Walk.{DrainsInOrder, DrainsInReverse, ReadsInOrder, ReadsInReverse, StartsOver, UnpacksInOrder, UnpacksInReverse, into_iter_to_come, iterator_to_come};
+ghost use Rattle.ring_core.specs.Extension.{Extends};
+ghost use Rattle.ring_core.specs.Walk.{DrainsInOrder, DrainsInReverse, ReadsInOrder, ReadsInReverse, StartsOver, UnpacksInOrder, UnpacksInReverse, into_iter_to_come, items_between, iterator_to_come};
 
 mod convert;
 mod order;
@@ -24,7 +25,7 @@ use std::collections::VecDeque;
 use std::fmt::{self, Debug, Formatter, Write};
 use std::marker::Model;
 use std::mem;
-use std::ops::{Index, IndexMut};
+use std::ops::{Index, IndexMut, RangeBounds};
 
 /// A ring buffer without a limit: it keeps every item, and grows as a `VecDeque` does.
 ///
@@ -286,6 +287,21 @@ impl<T: Drop> RingBuffer<T> for GrowableAllocRingBuffer<T> {
 }
 
 impl<T: Drop> GrowableAllocRingBuffer<T> {
+    /// Pushes the items of a source that ends, in order, as the trait's `extend` does. It stands here too, since each
+    /// ring is std's `Extend` as well, and a call by a dot would find both.
+    ///
+    /// # Errors
+    ///
+    /// Where memory was refused. The items pushed until then stay.
+    pub fn extend<I: IntoIterator<Item = T>>(&mut self, items: I) -> Result<(), AllocError>
+        requires { IsFiniteIterable I.into_iter_gives I.IntoIter.can_next I.IntoIter.remaining
+            items }
+        ensures extends { Extends I.into_iter_gives I.IntoIter.next_gives items None self.old
+            self.new 0 0 result }
+    {
+        RingBuffer::extend(self, items)
+    }
+
     /// Takes out the newest item, if there is one.
     pub fn pop_back(&mut self) -> Option<T>
         ensures items { self.old ≡ self.new ++ option_to_list result }
@@ -434,6 +450,19 @@ impl<T: Drop> GrowableAllocRingBuffer<T> {
         ensures runs_back { ReadsInReverse ⟦<GrowableAllocRingBuffer<T> as RingBuffer<T>>⟧.contents }
     {
         RingBufferIterator::new(self)
+    }
+
+    /// Returns a walk over the items at the indexes in a range, as `2..5` or `3..`, without walking over those before it.
+    /// A bound past the length is cut to it, and a range that ends before it starts has no items.
+    #[inline]
+    pub fn range<X: RangeBounds<usize>>(&self, range: X) -> RingBufferIterator<'_, T, Self>
+        requires { X.has_bounds range }
+        ensures left { iterator_to_come ⟦<GrowableAllocRingBuffer<T> as RingBuffer<T>>⟧.contents result
+            ≡ items_between (X.start_bound range) (X.end_bound range) self.now }
+        ensures runs { ReadsInOrder ⟦<GrowableAllocRingBuffer<T> as RingBuffer<T>>⟧.contents }
+        ensures runs_back { ReadsInReverse ⟦<GrowableAllocRingBuffer<T> as RingBuffer<T>>⟧.contents }
+    {
+        RingBufferIterator::range(self, range)
     }
 
     /// Returns a cursor that lends the items for writing, one at a time, from either end.

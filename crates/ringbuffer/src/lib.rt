@@ -4,6 +4,7 @@
 
 mod array;
 mod bytes;
+mod extend;
 mod grow;
 mod heap;
 
@@ -11,7 +12,7 @@ pub use array::ConstGenericRingBuffer;
 pub use grow::GrowableAllocRingBuffer;
 pub use heap::AllocRingBuffer;
 pub use ring_core::{
-    Command, DoubleEndedRing, Refused, Reply, RingBuffer, RingBufferDrainingIterator,
+    Command, DoubleEndedRing, LastBytes, Refused, Reply, RingBuffer, RingBufferDrainingIterator,
     RingBufferIntoIterator, RingBufferIterator, RingBufferMutIterator, RunFault, Stopped, apply,
     binary_search, move_all, partition_point, retain, run, run_into, runs_join,
 };

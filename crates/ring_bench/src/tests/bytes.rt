@@ -1,8 +1,10 @@
 //! Rings of bytes as readers and writers.
 
+ghost use Rattle.std.specs.Prelude.{IsSome};
+
 use super::assert_equal;
 use ring_test_support::{on_each, on_fixed};
-use ringbuffer::{GrowableAllocRingBuffer, RingBuffer};
+use ringbuffer::{GrowableAllocRingBuffer, LastBytes, RingBuffer};
 use std::io::{self, BufRead, Read, Write};
 use std::process::Abort;
 
@@ -86,4 +88,41 @@ fn bytes_are_copied_from_ring_to_ring(rt: HostRuntime) {
         assert_copies,
         GrowableAllocRingBuffer::new(rt.alloc())
     );
+}
+
+/// Asserts that a writer has kept these bytes.
+fn assert_keeps<R: RingBuffer<u8>>(rt: &impl Abort, log: &LastBytes<R>, bytes: &[u8]) {
+    let ring = log.ring();
+    assert_equal(rt, ring.len(), bytes.len());
+    for (i, byte) in bytes.iter().enumerate() {
+        assert_equal(rt, ring.get(i).copied(), Some(*byte));
+    }
+}
+
+/// Writes to a log of five bytes in pieces, of which one is longer than the log.
+fn assert_keeps_the_last<R: RingBuffer<u8> + Drop>(rt: &impl Abort, mut ring: R)
+    requires { IsSome (R.limit ring) }
+{
+    let _ = ring.push(b'-');
+    let mut log = LastBytes::new(ring);
+    assert_keeps(rt, &log, b"-");
+    assert_writes(rt, &mut log, b"abc", 3);
+    assert_keeps(rt, &log, b"-abc");
+    assert_writes(rt, &mut log, b"", 0);
+    assert_writes(rt, &mut log, b"de", 2);
+    assert_keeps(rt, &log, b"abcde");
+    assert_writes(rt, &mut log, b"fghijklm", 8);
+    assert_keeps(rt, &log, b"ijklm");
+    for number in 0..4u8 {
+        assert_equal(rt, write!(log, "<{number}>").is_ok(), true);
+    }
+    assert_equal(rt, log.flush().is_ok(), true);
+    assert_keeps(rt, &log, b"2><3>");
+    let mut kept = log.into_ring();
+    assert_equal(rt, kept.dequeue(), Some(b'2'));
+}
+
+#[test]
+fn the_last_bytes_are_kept(rt: HostRuntime) {
+    on_fixed!(&rt, 5, assert_keeps_the_last);
 }

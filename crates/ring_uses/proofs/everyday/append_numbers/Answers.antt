@@ -11,4 +11,4 @@ returns-clause-all c =
 pub returns-clause-part : goal.returns-clause-part
 returns-clause-part c =
     let (it, xs, source, kept, _, took) = c.extend.ensures.extends in
-    cut_extended xs None _ _ c.extend.result kept took c.extend.ensures.succeeds (YieldsList-of_vec c.args.numbers it source.0 source.1)
+    cut_extended xs None _ _ c.extend.result kept took (λ some. cc) (YieldsList-of_vec c.args.numbers it source.0 source.1)

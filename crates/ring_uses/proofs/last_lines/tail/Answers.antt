@@ -10,6 +10,6 @@ use Rattle.ring_uses.proofs.last_lines.tail.Goals as goal
 pub returns : goal.returns
 returns c =
     let (it, xs, from, kept, changes, ran) = c.extend.ensures.extends in
-    let given = shown_extended xs c.extend.result ran (c.extend.ensures.succeeds (search rules)) (YieldsList-from_lines c.args.text.now (search rules)) in
+    let given = shown_extended xs c.extend.result ran c.extend.ensures.succeeds (YieldsList-from_lines c.args.text.now (search rules)) in
     let moved = items_from_collect c.collect.result c.collect.ensures.ran (YieldsList-unpacked (λ r. r.items) (λ r. Some r.capacity) (λ r. r.changes) c.into_iter.result (keep_last (Some c.args.n) xs) (c.into_iter.ensures.left ∙ rw c.in_ok-last.ensures.made at kept)) in
     IfOk-weaker c.collect.result _ _ (λ last is. ap (λ l. map (λ line. line.now) l) is ∙ map-keep_last (λ line. line.now) c.args.n xs ∙ ap (λ l. keep_last (Some c.args.n) l) given) moved

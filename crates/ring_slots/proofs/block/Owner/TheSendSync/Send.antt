@@ -1,0 +1,7 @@
+use denote.RattleType.{RattleType}
+use denote.Param.Send.{IsSend}
+use Rattle.ring_slots.proofs.Crossing.{Owner-send}
+use Rattle.ring_slots.specs.contracts.block.Owner.{the_row}
+
+pub send : (R : RattleType) → IsSend R → IsSend (the_row R)
+send = Owner-send

@@ -1,0 +1,6 @@
+use denote.Param.Send.{IsSend}
+use Rattle.ring_slots.proofs.Crossing.{ChangeCount-send}
+use Rattle.ring_slots.specs.contracts.change_count.ChangeCount.{the_row}
+
+pub send : IsSend the_row
+send = ChangeCount-send

@@ -1,0 +1,108 @@
+//! Reading walks over a range of indexes.
+
+use super::{assert_equal, assert_steps, push_all};
+use ring_test_support::on_each;
+use ring_test_support::steps::Step;
+use ringbuffer::{
+    AllocRingBuffer, ConstGenericRingBuffer, GrowableAllocRingBuffer, RingBuffer,
+    RingBufferIterator,
+};
+use std::alloc::AllocError;
+use std::ops::{Bound, RangeBounds};
+use std::process::Abort;
+
+/// Asserts that a walk has these items to come, and gives them from the front.
+fn assert_gives<R: RingBuffer<i64>>(
+    rt: &impl Abort,
+    mut walk: RingBufferIterator<'_, i64, R>,
+    items: &[i64],
+) {
+    assert_equal(rt, walk.len(), items.len());
+    for item in items {
+        assert_equal(rt, walk.next().copied(), Some(*item));
+    }
+    assert_equal(rt, walk.next(), None);
+    assert_equal(rt, walk.next_back(), None);
+}
+
+/// Asserts that a range of a ring has these items.
+fn assert_range<R: RingBuffer<i64>, X: RangeBounds<usize>>(
+    rt: &impl Abort,
+    ring: &R,
+    range: X,
+    items: &[i64],
+)
+    requires { X.has_bounds range }
+{
+    assert_gives(rt, RingBufferIterator::range(ring, range), items);
+}
+
+/// Leaves the items from 1 to 7. On a ring of eight slots the last of them lie at the first slots.
+const FROM_ONE_TO_SEVEN: &[Step] = &[
+    Step::PushAll(&[0, 0, 0, 0, 0]),
+    Step::Clear,
+    Step::PushAll(&[1, 2, 3, 4, 5, 6, 7]),
+];
+
+/// Indexes from one up to another, and the items there.
+const RANGES: &[(usize, usize, &[i64])] = &[
+    (0, 7, &[1, 2, 3, 4, 5, 6, 7]),
+    (2, 5, &[3, 4, 5]),
+    (6, 7, &[7]),
+    (5, 100, &[6, 7]),
+    (0, 0, &[]),
+    (3, 3, &[]),
+    (5, 2, &[]),
+    (7, 9, &[]),
+    (usize::MAX, usize::MAX, &[]),
+];
+
+fn assert_ranges<R: RingBuffer<i64> + Drop>(rt: &impl Abort, mut ring: R) {
+    assert_range(rt, &ring, .., &[]);
+    assert_range(rt, &ring, 0..3, &[]);
+    assert_steps(rt, &mut ring, FROM_ONE_TO_SEVEN);
+    for (from, to, items) in RANGES {
+        assert_range(rt, &ring, *from..*to, items);
+    }
+    assert_range(rt, &ring, .., &[1, 2, 3, 4, 5, 6, 7]);
+    assert_range(rt, &ring, 5.., &[6, 7]);
+    assert_range(rt, &ring, ..2, &[1, 2]);
+    assert_range(rt, &ring, 1..=2, &[2, 3]);
+    assert_range(rt, &ring, ..=usize::MAX, &[1, 2, 3, 4, 5, 6, 7]);
+    let after_the_fifth = (Bound::Excluded(4), Bound::Unbounded);
+    assert_range(rt, &ring, after_the_fifth, &[6, 7]);
+    let after_all = (Bound::Excluded(usize::MAX), Bound::Unbounded);
+    assert_range(rt, &ring, after_all, &[]);
+}
+
+/// Reads a range from both ends.
+fn assert_both_ends<R: RingBuffer<i64> + Drop>(rt: &impl Abort, mut ring: R) {
+    assert_steps(rt, &mut ring, FROM_ONE_TO_SEVEN);
+    let mut walk = RingBufferIterator::range(&ring, 1..6);
+    assert_equal(rt, walk.next_back().copied(), Some(6));
+    assert_equal(rt, walk.nth(1).copied(), Some(3));
+    assert_gives(rt, walk, &[4, 5]);
+    let walk = RingBufferIterator::range(&ring, 1..3);
+    assert_equal(rt, walk.last().copied(), Some(3));
+}
+
+#[test]
+fn a_range_is_read(rt: HostRuntime) {
+    on_each!(&rt, 8, assert_ranges);
+    on_each!(&rt, 7, assert_ranges);
+    on_each!(&rt, 8, assert_both_ends);
+}
+
+#[test]
+fn each_ring_reads_a_range_of_its_own(rt: HostRuntime) -> Result<(), AllocError> {
+    let mut array = ConstGenericRingBuffer::<i64, 3>::new();
+    let mut heap = AllocRingBuffer::new(rt.alloc(), 3)?;
+    let mut growable = GrowableAllocRingBuffer::new(rt.alloc());
+    push_all(&rt, &mut array, &[1, 2, 3, 4]);
+    push_all(&rt, &mut heap, &[1, 2, 3, 4]);
+    push_all(&rt, &mut growable, &[1, 2, 3, 4]);
+    assert_gives(&rt, array.range(1..), &[3, 4]);
+    assert_gives(&rt, heap.range(..2), &[2, 3]);
+    assert_gives(&rt, growable.range(1..=2), &[2, 3]);
+    Ok(())
+}
