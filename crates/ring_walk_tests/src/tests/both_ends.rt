@@ -7,10 +7,22 @@ use ring_test_support::on_each;
 use ringbuffer::{DoubleEndedRing, RingBufferDrainingIterator, RingBufferIntoIterator};
 use std::process::Abort;
 
-/// Takes a step of a walk.
-fn step<W: DoubleEndedIterator<Item = i64>>(walk: &mut W, end: End) -> Option<i64>
-    requires { W.can_next walk.old }
-{
+/// Takes a step of a drain.
+fn take<R: DoubleEndedRing<i64>>(
+    walk: &mut RingBufferDrainingIterator<'_, i64, R>,
+    end: End,
+) -> Option<i64> {
+    match end {
+        Front => walk.next(),
+        Back => walk.next_back(),
+    }
+}
+
+/// Takes a step of an owning walk.
+fn unpack<R: DoubleEndedRing<i64> + Drop>(
+    walk: &mut RingBufferIntoIterator<i64, R>,
+    end: End,
+) -> Option<i64> {
     match end {
         Front => walk.next(),
         Back => walk.next_back(),
@@ -31,7 +43,7 @@ fn assert_drains<R: DoubleEndedRing<i64>>(
         let item = found.get(i).copied();
         assert_to_come(rt, walk.size_hint(), left, item);
         assert_equal(rt, walk.len(), left);
-        assert_equal(rt, step(&mut walk, *end), item);
+        assert_equal(rt, take(&mut walk, *end), item);
         left = left.saturating_sub(1);
     }
 }
@@ -49,7 +61,7 @@ fn assert_unpacks<R: DoubleEndedRing<i64> + Drop>(
         let item = found.get(i).copied();
         assert_to_come(rt, walk.size_hint(), left, item);
         assert_equal(rt, walk.len(), left);
-        assert_equal(rt, step(&mut walk, *end), item);
+        assert_equal(rt, unpack(&mut walk, *end), item);
         left = left.saturating_sub(1);
     }
 }
