@@ -37,7 +37,7 @@ impl<const CAP: usize> ArrayPipe<CAP> {
         ensures within { length self.new ≤ CAP }
     {
         let count = input.len().min(CAP - self.bytes.len());
-        let _ = self.bytes.extend(input[..count].iter().copied());
+        self.bytes.extend_from_slice(&input[..count]);
         count
     }
 
@@ -47,14 +47,6 @@ impl<const CAP: usize> ArrayPipe<CAP> {
         ensures sent { output.new ≡ take result self.old ++ drop result output.old }
         ensures rest { self.new ≡ drop result self.old }
     {
-        let mut count = 0;
-        for place in output.iter_mut() {
-            let Some(byte) = self.bytes.dequeue() else {
-                break;
-            };
-            *place = byte;
-            count += 1;
-        }
-        count
+        self.bytes.dequeue_into(output)
     }
 }
