@@ -15,7 +15,7 @@ const NAMED: [(f64, &str); 7] =
     [(1.0 / 32.0, "1/32"), (0.125, "1/8"), (0.5, "1/2"), (1.0, "1"), (2.0, "2"), (8.0, "8"), (32.0, "32")];
 
 const COLORS: [&str; 3] = ["#1f4e9c", "#a8441a", "#1d7a3e"];
-const PANEL_WIDTH: f64 = 415.0;
+const PANEL_WIDTH: f64 = 470.0;
 const LABELS: f64 = 215.0;
 const TOP: f64 = 46.0;
 const ROW: f64 = 17.0;
@@ -37,7 +37,8 @@ fn line(svg: &mut String, x: f64, top: f64, bottom: f64, color: &str) {
 fn draw(svg: &mut String, panel: &Panel, left: f64, color: &str) {
     let start = left + LABELS;
     let bottom = TOP + ROW * panel.ratios.len() as f64 + 4.0;
-    text(svg, start + across(1.0), 16.0, "middle", panel.ring);
+    let title = format!("{}: instructions, in those of the best rival", panel.ring);
+    text(svg, start + across(1.0), 16.0, "middle", &title);
     for (ratio, name) in NAMED {
         let x = start + across(ratio);
         line(svg, x, TOP - 8.0, bottom, if ratio == 1.0 { "#333333" } else { "#dddddd" });
