@@ -18,7 +18,7 @@ fn bytes(count: usize) -> Vec<u8> {
     (0..count).map(|number| (number % 251) as u8).collect()
 }
 
-/// Relays blocks of so many bytes together. Returns the sum of the last byte of each block that came out.
+/// Relays blocks, as many bytes together as `items` says. Returns the sum of the last byte of each block that came out.
 pub fn relay_blocks<P>(pipe: &mut P, items: usize, relay: fn(&mut P, &[u8], &mut [u8])) -> u64 {
     let block = bytes(BLOCK);
     let mut output = vec![0; BLOCK];

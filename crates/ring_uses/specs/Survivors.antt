@@ -14,7 +14,7 @@ module _ {T : Type 0} (limit : Option ℕ) (start : List T) (cs : List (Command 
   abbrev pub all_numbers : List ℕ
   all_numbers = range_with_len 0 (number start (steps cs) (length (steps cs)))
 
-  -- the ring holds exactly the survivors in the order of their pushes, at most so many, and none between two survivors is missing
+  -- the ring holds exactly the survivors in the order of their pushes, at most as many as its limit, and none between two survivors is missing
   pub record HoldsSurvivors (now : List T) : Type 0 where
     pub in_order : now ≡ filter_map (slice_get (all_items start (steps cs))) (filter survives all_numbers)
     pub few : IfSome limit (λ n. length (filter survives all_numbers) ≤ n)

@@ -12,7 +12,7 @@ const BLOCK: usize = 4096;
 // then, on their way in and on their way out.
 const START: usize = 1000;
 
-/// Relays blocks of so many bytes together through a pipe on the heap, by the ring's calls or by those of `std::io`.
+/// Relays blocks, as many bytes together as `items` says, through a pipe on the heap, by the ring's calls or by those of `std::io`.
 /// Returns the sum of the last byte of each block that came out.
 pub fn on_heap_pipe(
     alloc: Global,

@@ -327,7 +327,7 @@ impl Series {
     }
 }
 
-/// Pushes so many numbers of a series onto a window, and adds up the least ones that it has after each.
+/// Pushes the first `items` numbers of a series onto a window, and adds up the least ones that it has after each.
 #[inline(never)]
 pub fn slide_least<R: RingBuffer<Rung<i64>> + Drop>(
     window: &mut WindowMin<i64, R>,
@@ -346,7 +346,7 @@ pub fn slide_least<R: RingBuffer<Rung<i64>> + Drop>(
     sum
 }
 
-/// Pushes so many matrices onto a window, and adds up an entry of the products that it has after each.
+/// Pushes as many matrices as `items` says onto a window, and adds up an entry of the products that it has after each.
 #[inline(never)]
 pub fn slide_product<R: RingBuffer<Kept<Matrix>> + Drop>(
     window: &mut WindowFold<Matrix, R>,

@@ -69,7 +69,7 @@ impl<T: Drop> GrowableAllocRingBuffer<T> {
     ///
     /// # Errors
     ///
-    /// Where memory was refused, also where so many items can't be asked for at all.
+    /// Where memory was refused, also where the bytes for `capacity` items can't be asked for at all.
     pub fn with_capacity(alloc: Global, capacity: usize) -> Result<Self, AllocError>
         ensures { IfOk result (λ ring. ring ≡ []) }
     {

@@ -17,7 +17,7 @@ use std::alloc::{AllocError, Global};
 // How many commands are made at a time.
 const BATCH: usize = 1024;
 
-// Any number of so many digits is below 2^64.
+// A number of at most 19 digits is below 2^64.
 const SAFE_DIGITS: usize = 19;
 
 /// A script that is read from its front, line by line.

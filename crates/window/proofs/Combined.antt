@@ -97,12 +97,12 @@ drop_written [] i k v at = absurd (let none : None ≡ Some k = at in cc)
 drop_written (j ∷ ks) zero k v at = refl
 drop_written (j ∷ ks) (suc i) k v at = drop_written ks i k v at
 
--- A limit leaves the same of the items.
+-- What a limit leaves holds the items that it leaves.
 pub items-keep_last : {M : Type 0} (limit : Option ℕ) (ks : List (Kept M)) (k : Kept M) → items (keep_last limit (ks ++ k ∷ [])) ≡ keep_last limit (items ks ++ k.item ∷ [])
 items-keep_last None ks k = map-append item_of ks (k ∷ [])
 items-keep_last (Some n) ks k = map-keep_last item_of n (ks ++ k ∷ []) ∙ ap (keep_last (Some n)) (map-append item_of ks (k ∷ []))
 
--- A push overwrites the same of the items.
+-- What a push overwrites holds the item that it overwrites.
 pub items-overwritten : {M : Type 0} (limit : Option ℕ) (ks : List (Kept M)) → option_map item_of (overwritten limit ks) ≡ overwritten limit (items ks)
 items-overwritten None ks = refl
 items-overwritten (Some n) ks = rw length-map (first (length ks + 1 - n) ks) where

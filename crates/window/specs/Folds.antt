@@ -15,7 +15,7 @@ abbrev pub AreFolded : {M : Type 0} → M → (M → M → M) → List (Kept M) 
 AreFolded neutral op [] = Unit {0}
 AreFolded neutral op (k ∷ ks) = (k.after ≡ combined neutral op (items ks)) × AreFolded neutral op ks
 
--- the items are valid, and the oldest, so many, are folded among themselves; both folds are kept
+-- the items are valid, and the `folded` oldest are folded among themselves; both folds are kept
 pub record HoldsFolds {M : Type 0} (valid : M → Type 0) (neutral : M) (op : M → M → M) (ks : List (Kept M)) (folded : ℕ) (older newer : M) : Type 0 where
   pub within : folded ≤ length ks
   pub are_valid : All valid (items ks)

@@ -16,7 +16,7 @@ abbrev pub next : List ℕ → ℕ
 next [] = 0
 next (d ∷ ds) = suc d
 
--- The first item named is the least of all, and stands behind so many others; the second is the least of those after it,
+-- The first item named is the least of all, and stands behind d others; the second is the least of those after it,
 -- and so on, and the last one named is the newest. Each but the first says how far it stands behind the one before it; the
 -- first may say more by a number, as many items as have left since. Each says how far ahead the next one is, and the last 0.
 abbrev pub IsLadder : {T : Type 0} → (T → T → Ordering) → ℕ → List ℕ → List (Rung T) → Type 0
@@ -33,7 +33,7 @@ pub record HoldsLadder {T : Type 0} (cmp : T → T → Ordering) (rs : List (Run
   pub first_is : first ≡ next places
   pub counted : compared + length places ≤ most
 
--- the same of a ladder whose first item says how many stand before it, and no more
+-- a ladder whose first item says how many stand before it, and no more
 pub record IsRanked {T : Type 0} (cmp : T → T → Ordering) (rs : List (Rung T)) (first compared most : ℕ) : Type 0 where
   pub places : List ℕ
   pub is_ladder : IsLadder cmp 0 places rs
@@ -49,13 +49,13 @@ abbrev pub LeadsTo : {T : Type 0} → Rung T → List ℕ → Type 0
 LeadsTo r [] = Unit {0}
 LeadsTo r (d ∷ ds) = r.ahead ≡ suc d
 
--- a ladder whose last items, so many, are above x: of these none is named any more
+-- a ladder whose last k items are above x: of these none is named any more
 abbrev pub Climbs : {T : Type 0} → (T → T → Ordering) → T → ℕ → ℕ → List ℕ → List (Rung T) → Type 0
 Climbs cmp x k more [] rs = (length rs ≡ k) × All (IsBelow cmp x) (items_on rs)
 Climbs {T} cmp x k more (d ∷ ds) rs =
     (r : Rung T) × (slice_get rs d ≡ Some r) × (r.behind ≡ suc d + more) × LeadsTo r ds × IsLeastFrom cmp r.item d (items_on rs) × Climbs cmp x k 0 ds (drop (suc d) rs)
 
--- the newest is below the last items before it, all but so many as are left, and of these none is named any more
+-- the newest is below the last items before it, all but the `left` first ones, and of these none is named any more
 pub record Reaches {T : Type 0} (cmp : T → T → Ordering) (all : List (Rung T)) (first left compared most : ℕ) : Type 0 where
   pub rs : List (Rung T)
   pub r : Rung T

@@ -11,7 +11,7 @@ AtMost cmp x y = is_gt (cmp x y) ≡ false
 abbrev pub IsBelow : {T : Type 0} → (T → T → Ordering) → T → T → Type 0
 IsBelow cmp x y = is_gt (cmp y x) ≡ true
 
--- x is below the first items, so many, and above none of all
+-- x is below the first n items, and above none of all
 pub record IsLeastFrom {T : Type 0} (cmp : T → T → Ordering) (x : T) (n : ℕ) (xs : List T) : Type 0 where
   pub below : All (IsBelow cmp x) (take n xs)
   pub at_most : All (AtMost cmp x) xs

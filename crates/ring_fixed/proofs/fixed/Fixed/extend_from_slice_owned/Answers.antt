@@ -37,7 +37,7 @@ put_copies-requires-2-clause-len g c =
     let kept = c.keep_newest.ensures in let now : items_from (g.S.RingSlots.seen c.put_copies.new.slots).slots c.keep_newest.new.self.start ≡ items ++ c.split_at-2.result.0.now = ap (λ (w : View _). w.items) c.put_copies.ensures.shows in
     rw now (omega (arith, kept.1 ∙ ap (λ (w : View _). length w.items) (sym kept.0.shows), length-append items c.split_at-2.result.0.now))
 
--- So many are kept that the newest fit, which are put in two stretches.
+-- As many items are kept as leave room for the new ones, which are put in two stretches.
 pub returns : goal.returns
 returns g c =
     let v = view_from (g.S.RingSlots.seen c.args.self.slots) c.args.self.start in let newest = c.split_at.result.1.now in
