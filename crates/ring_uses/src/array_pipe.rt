@@ -3,6 +3,7 @@
 ghost use Rattle.std.specs.Prelude.{◌≡◌, ◌-◌, ◌<◌, ◌≤◌, [], ◌++◌, drop, length, min, take};
 
 use ringbuffer::{ConstGenericRingBuffer, RingBuffer};
+use std::io::{Read, Write};
 use std::marker::Model;
 
 /// Bytes on their way, at most `CAP`, oldest first. What has come in goes out, in order and once.
@@ -36,9 +37,7 @@ impl<const CAP: usize> ArrayPipe<CAP> {
         ensures bytes { self.new ≡ self.old ++ take result input.now }
         ensures within { length self.new ≤ CAP }
     {
-        let count = input.len().min(CAP - self.bytes.len());
-        self.bytes.extend_from_slice(&input[..count]);
-        count
+        self.bytes.write(input).unwrap_or(0)
     }
 
     /// Hands out the oldest bytes, as many as there are places for, and returns how many. The other places stay.
@@ -47,6 +46,6 @@ impl<const CAP: usize> ArrayPipe<CAP> {
         ensures sent { output.new ≡ take result self.old ++ drop result output.old }
         ensures rest { self.new ≡ drop result self.old }
     {
-        self.bytes.dequeue_into(output)
+        self.bytes.read(output).unwrap_or(0)
     }
 }

@@ -4,6 +4,7 @@ ghost use Rattle.std.specs.Prelude.{◌≡◌, ◌-◌, ◌<◌, ◌≤◌, [], 
 
 use ringbuffer::{AllocRingBuffer, RingBuffer};
 use std::alloc::{AllocError, Global};
+use std::io::{Read, Write};
 use std::marker::Model;
 
 /// Bytes on their way, oldest first. What has come in goes out, in order and once.
@@ -43,10 +44,7 @@ impl Pipe {
             ≡ record self.old { bytes = self.old.bytes ++ take result input.now } }
         ensures within { length self.new.bytes ≤ self.new.capacity }
     {
-        let room = self.bytes.capacity() - self.bytes.len();
-        let count = input.len().min(room);
-        self.bytes.extend_from_slice(&input[..count]);
-        count
+        self.bytes.write(input).unwrap_or(0)
     }
 
     /// Copies the oldest bytes, as many as there are places for, and returns how many. They stay on their way.
@@ -63,6 +61,6 @@ impl Pipe {
         ensures sent { output.new ≡ take result self.old.bytes ++ drop result output.old }
         ensures rest { self.new ≡ record self.old { bytes = drop result self.old.bytes } }
     {
-        self.bytes.dequeue_into(output)
+        self.bytes.read(output).unwrap_or(0)
     }
 }
