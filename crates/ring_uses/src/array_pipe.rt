@@ -2,7 +2,7 @@
 
 ghost use Rattle.std.specs.Prelude.{◌≡◌, ◌-◌, ◌<◌, ◌≤◌, [], ◌++◌, drop, length, min, take};
 
-use ringbuffer::{ConstGenericRingBuffer, RingBuffer};
+use ringbuffer::ConstGenericRingBuffer;
 use std::io::{Read, Write};
 use std::marker::Model;
 

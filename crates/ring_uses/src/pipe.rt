@@ -2,7 +2,7 @@
 
 ghost use Rattle.std.specs.Prelude.{◌≡◌, ◌-◌, ◌<◌, ◌≤◌, [], ◌++◌, IfOk, drop, length, min, take};
 
-use ringbuffer::{AllocRingBuffer, RingBuffer};
+use ringbuffer::AllocRingBuffer;
 use std::alloc::{AllocError, Global};
 use std::io::{Read, Write};
 use std::marker::Model;
