@@ -1,9 +1,10 @@
 //! Times the rings of this repository beside others, all in one process.
 //!
-//! `time` prints a line `work;capacity;contender;nanoseconds` for each, `time WORK` those of one kind of work. `list`
-//! prints the same names, each with how many items to count instructions for, and `once CONTENDER WORK CAPACITY ITEMS`
-//! does one piece of work, for a program that counts them. `table TIMES COUNTS` prints both as tables of Markdown, and
-//! `chart COUNTS` a picture of ratios to the best rival.
+//! `time` prints a line `work;capacity;contender;nanoseconds` for each, `time WORK` those of one kind of work, `time-own`
+//! those of this repository's rings. `list` prints the same names, each with how many items to count instructions for,
+//! and `once CONTENDER WORK CAPACITY ITEMS` does one piece of work, for a program that counts them. `table TIMES COUNTS`
+//! prints both as tables of Markdown, where a time that is given twice is the lesser, and `chart COUNTS` a picture of
+//! ratios to the best rival.
 
 mod bounded;
 mod chart;
@@ -37,6 +38,13 @@ pub struct Contender {
 /// since an item takes it as many steps as the ring holds.
 const ANEW: &str = "summed anew";
 
+/// The Rust crate's heap ring once more, in a program that is built without the promise that a `&mut` is alone, which
+/// Rattle's compiler lacks too. Its instructions are counted, and nothing is timed.
+const MAY_ALIAS: &str = "Rust heap without noalias";
+
+/// The rings of this repository.
+const OWN: [&str; 3] = ["array", "heap", "growable"];
+
 /// The contenders that hold bytes too, and move them by the block.
 const PIPES: [&str; 5] = ["heap", "Rust heap", "VecDeque", "Boost", "limit"];
 
@@ -60,23 +68,24 @@ const WINDOWS: [&str; 2] = ["heap", "VecDeque"];
 impl Contender {
     /// Whether it is timed at this work with this capacity.
     fn does(&self, work: Work, capacity: usize) -> bool {
+        let name = if self.name == MAY_ALIAS { "Rust heap" } else { self.name };
         match work {
-            Work::Slide => !RIVALS.contains(&self.name) && (self.name != ANEW || capacity <= 1000),
-            Work::Pipe => capacity == pipe::CAPACITY && PIPES.contains(&self.name),
-            Work::Undo => HISTORIES.contains(&self.name) || RIVALS.contains(&self.name),
+            Work::Slide => !RIVALS.contains(&name) && (name != ANEW || capacity <= 1000),
+            Work::Pipe => capacity == pipe::CAPACITY && PIPES.contains(&name),
+            Work::Undo => HISTORIES.contains(&name) || RIVALS.contains(&name),
             Work::Least | Work::LeastRising | Work::LeastFalling | Work::Product => {
-                WINDOWS.contains(&self.name) || self.name == ANEW && capacity <= 1000
+                WINDOWS.contains(&name) || name == ANEW && capacity <= 1000
             }
-            Work::PushOwned | Work::PushDequeueOwned | Work::RefillOwned => OWNED.contains(&self.name),
-            Work::PushFront | Work::Exchange => FRONTS.contains(&self.name),
-            Work::TryRefill => TRIES.contains(&self.name),
-            Work::CopyIn => COPIES.contains(&self.name),
-            Work::Straighten => SLICES.contains(&self.name),
-            Work::ToVecCopied => SLICES.contains(&self.name) || RIVALS.contains(&self.name),
-            Work::Stream => capacity == pipe::CAPACITY && STREAMS.contains(&self.name),
+            Work::PushOwned | Work::PushDequeueOwned | Work::RefillOwned => OWNED.contains(&name),
+            Work::PushFront | Work::Exchange => FRONTS.contains(&name),
+            Work::TryRefill => TRIES.contains(&name),
+            Work::CopyIn => COPIES.contains(&name),
+            Work::Straighten => SLICES.contains(&name),
+            Work::ToVecCopied => SLICES.contains(&name) || RIVALS.contains(&name),
+            Work::Stream => capacity == pipe::CAPACITY && STREAMS.contains(&name),
             // An extension from a source: `circular_buffer` has none, and a deque would outgrow its capacity.
-            Work::Reextend => self.name != ANEW && !RIVALS.contains(&self.name),
-            _ => self.name != ANEW,
+            Work::Reextend => name != ANEW && !RIVALS.contains(&name),
+            _ => name != ANEW,
         }
     }
 }
@@ -87,6 +96,7 @@ pub const CONTENDERS: &[Contender] = &[
     Contender { name: "Rust array", run: rust_side::array },
     Contender { name: "heap", run: |work, capacity, items| unsafe { ring_workloads_heap(work as u32, capacity, items) } },
     Contender { name: "Rust heap", run: rust_side::heap },
+    Contender { name: MAY_ALIAS, run: rust_side::heap },
     Contender { name: "growable", run: |work, capacity, items| unsafe { ring_workloads_growable(work as u32, capacity, items) } },
     Contender { name: "Rust growable", run: rust_side::growable },
     Contender { name: "VecDeque", run: bounded::deque },
@@ -130,12 +140,12 @@ fn seconds(contender: &Contender, work: Work, capacity: usize, items: usize) -> 
     start.elapsed().as_secs_f64()
 }
 
-/// The least time of many rounds in which all contenders take turns, less the least time of making and filling the ring.
-fn time(works: &[Work]) {
+/// The least time of many rounds in which the contenders take turns, less the least time of making and filling the ring.
+fn time(works: &[Work], takes_part: fn(&Contender) -> bool) {
     for &work in works {
         for &capacity in work.capacities() {
             let items = items(work, capacity);
-            let contenders: Vec<_> = CONTENDERS.iter().filter(|it| it.does(work, capacity)).collect();
+            let contenders: Vec<_> = CONTENDERS.iter().filter(|it| takes_part(it) && it.does(work, capacity)).collect();
             let mut least = vec![(f64::MAX, f64::MAX); contenders.len()];
             for _ in 0..ROUNDS {
                 for (contender, (made, done)) in contenders.iter().zip(&mut least) {
@@ -175,8 +185,9 @@ fn once(contender: &str, work: &str, capacity: &str, items: &str) {
 fn main() {
     let words: Vec<String> = env::args().skip(1).collect();
     match words.iter().map(String::as_str).collect::<Vec<_>>()[..] {
-        ["time"] => time(&Work::ALL),
-        ["time", work] => time(&[named(work)]),
+        ["time"] => time(&Work::ALL, |it| it.name != MAY_ALIAS),
+        ["time", work] => time(&[named(work)], |it| it.name != MAY_ALIAS),
+        ["time-own"] => time(&Work::ALL, |it| OWN.contains(&it.name)),
         ["list"] => list(),
         ["once", contender, work, capacity, items] => once(contender, work, capacity, items),
         ["table", times, counts] => {
@@ -184,6 +195,6 @@ fn main() {
             print!("{}", table::tables(&read(times), &read(counts)));
         }
         ["chart", counts] => print!("{}", chart::svg(&table::ratios_to_best(&fs::read_to_string(counts).expect("a file of measurements")))),
-        _ => panic!("time [WORK] | list | once CONTENDER WORK CAPACITY ITEMS | table TIMES COUNTS | chart COUNTS"),
+        _ => panic!("time [WORK] | time-own | list | once CONTENDER WORK CAPACITY ITEMS | table TIMES COUNTS | chart COUNTS"),
     }
 }

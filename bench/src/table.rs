@@ -8,17 +8,19 @@ use std::fmt::Write;
 
 type Numbers<'a> = HashMap<(&'a str, usize, &'a str), f64>;
 
+/// The number of each line. Of two that say the same the lesser counts.
 fn numbers(lines: &str) -> Numbers<'_> {
-    lines
-        .lines()
-        .map(|line| {
-            let mut fields = line.split(';');
-            let mut field = || fields.next().expect("four fields a line");
-            let (work, capacity, contender, number) = (field(), field(), field(), field());
-            let capacity = capacity.parse().expect("a capacity");
-            ((work, capacity, contender), number.parse().expect("a number"))
-        })
-        .collect()
+    let mut numbers = Numbers::new();
+    for line in lines.lines() {
+        let mut fields = line.split(';');
+        let mut field = || fields.next().expect("four fields a line");
+        let (work, capacity, contender, number) = (field(), field(), field(), field());
+        let capacity = capacity.parse().expect("a capacity");
+        let number = number.parse().expect("a number");
+        let least = numbers.entry((work, capacity, contender)).or_insert(number);
+        *least = least.min(number);
+    }
+    numbers
 }
 
 /// Each kind of work at each capacity that was measured.
@@ -37,17 +39,19 @@ fn cell(number: Option<f64>) -> String {
 }
 
 fn table(numbers: &Numbers) -> String {
+    let names = CONTENDERS.iter().map(|it| it.name);
+    let columns: Vec<_> = names.filter(|name| numbers.keys().any(|(_, _, contender)| contender == name)).collect();
     let mut text = String::from("| work | capacity |");
-    for contender in CONTENDERS {
-        write!(text, " {} |", contender.name).unwrap();
+    for name in &columns {
+        write!(text, " {name} |").unwrap();
     }
     text.push_str("\n|---|---|");
-    text.push_str(&"---|".repeat(CONTENDERS.len()));
+    text.push_str(&"---|".repeat(columns.len()));
     text.push('\n');
     for (work, capacity) in rows(numbers) {
         write!(text, "| {work} | {capacity} |").unwrap();
-        for contender in CONTENDERS {
-            text.push_str(&cell(numbers.get(&(work, capacity, contender.name)).copied()));
+        for name in &columns {
+            text.push_str(&cell(numbers.get(&(work, capacity, *name)).copied()));
         }
         text.push('\n');
     }
@@ -58,6 +62,7 @@ fn table(numbers: &Numbers) -> String {
 fn ratios(numbers: &Numbers) -> String {
     let pairs = [
         ("heap", "Rust heap"),
+        ("heap", "Rust heap without noalias"),
         ("growable", "Rust growable"),
         ("array", "Rust array"),
         ("heap", "circular_buffer"),
