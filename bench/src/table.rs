@@ -6,6 +6,9 @@ use crate::CONTENDERS;
 use std::collections::HashMap;
 use std::fmt::Write;
 
+/// A kind of work and a capacity.
+type Row = (&'static str, usize);
+
 type Numbers<'a> = HashMap<(&'a str, usize, &'a str), f64>;
 
 /// The number of each line. Of two that say the same the lesser counts.
@@ -24,7 +27,7 @@ fn numbers(lines: &str) -> Numbers<'_> {
 }
 
 /// Each kind of work at each capacity that was measured.
-fn rows<'a>(numbers: &'a Numbers) -> impl Iterator<Item = (&'static str, usize)> + 'a {
+fn rows<'a>(numbers: &'a Numbers) -> impl Iterator<Item = Row> + 'a {
     let all = Work::ALL.into_iter().flat_map(|work| work.capacities().iter().map(move |capacity| (work.name(), *capacity)));
     all.filter(|row| numbers.keys().any(|(work, capacity, _)| (*work, *capacity) == *row))
 }
@@ -38,24 +41,31 @@ fn cell(number: Option<f64>) -> String {
     }
 }
 
-fn table(numbers: &Numbers) -> String {
-    let names = CONTENDERS.iter().map(|it| it.name);
-    let columns: Vec<_> = names.filter(|name| numbers.keys().any(|(_, _, contender)| contender == name)).collect();
+/// A table of Markdown: in each row a cell of each column, of which it has the name and the number.
+fn table<C>(numbers: &Numbers, columns: &[C], name: impl Fn(&C) -> String, number: impl Fn(&C, Row) -> Option<f64>) -> String {
     let mut text = String::from("| work | capacity |");
-    for name in &columns {
-        write!(text, " {name} |").unwrap();
+    for column in columns {
+        write!(text, " {} |", name(column)).unwrap();
     }
     text.push_str("\n|---|---|");
     text.push_str(&"---|".repeat(columns.len()));
     text.push('\n');
-    for (work, capacity) in rows(numbers) {
-        write!(text, "| {work} | {capacity} |").unwrap();
-        for name in &columns {
-            text.push_str(&cell(numbers.get(&(work, capacity, *name)).copied()));
+    for row in rows(numbers) {
+        write!(text, "| {} | {} |", row.0, row.1).unwrap();
+        for column in columns {
+            text.push_str(&cell(number(column, row)));
         }
         text.push('\n');
     }
     text
+}
+
+/// A column for each contender that was measured.
+fn contenders(numbers: &Numbers) -> String {
+    let names = CONTENDERS.iter().map(|it| it.name);
+    let columns: Vec<_> = names.filter(|name| numbers.keys().any(|(_, _, contender)| contender == name)).collect();
+    let number = |name: &&'static str, (work, capacity): Row| numbers.get(&(work, capacity, *name)).copied();
+    table(numbers, &columns, |name| name.to_string(), number)
 }
 
 /// The ratios that there are targets for, where both were measured.
@@ -69,22 +79,11 @@ fn ratios(numbers: &Numbers) -> String {
         ("heap", "Rattle VecDeque"),
         ("heap", "limit"),
     ];
-    let mut text = String::from("| work | capacity |");
-    for (ours, theirs) in pairs {
-        write!(text, " {ours} / {theirs} |").unwrap();
-    }
-    text.push_str("\n|---|---|");
-    text.push_str(&"---|".repeat(pairs.len()));
-    text.push('\n');
-    for (work, capacity) in rows(numbers) {
-        write!(text, "| {work} | {capacity} |").unwrap();
-        for (ours, theirs) in pairs {
-            let of = |contender| numbers.get(&(work, capacity, contender));
-            text.push_str(&cell(of(ours).zip(of(theirs)).map(|(ours, theirs)| ours / theirs)));
-        }
-        text.push('\n');
-    }
-    text
+    let number = |(ours, theirs): &(&'static str, &'static str), (work, capacity): Row| {
+        let of = |contender| numbers.get(&(work, capacity, contender));
+        of(*ours).zip(of(*theirs)).map(|(ours, theirs)| ours / theirs)
+    };
+    table(numbers, &pairs, |(ours, theirs)| format!("{ours} / {theirs}"), number)
 }
 
 /// Rings of this repository, each with the others that a program could take in its place.
@@ -113,9 +112,9 @@ pub fn tables(times: &str, counts: &str) -> String {
     let (times, counts) = (numbers(times), numbers(counts));
     format!(
         "## Instructions per item\n\n{}\n## Ratios of these instructions\n\n{}\n## Nanoseconds per item\n\n{}\n## Ratios of these times\n\n{}",
-        table(&counts),
+        contenders(&counts),
         ratios(&counts),
-        table(&times),
+        contenders(&times),
         ratios(&times)
     )
 }
