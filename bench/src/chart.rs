@@ -37,7 +37,7 @@ fn line(svg: &mut String, x: f64, top: f64, bottom: f64, color: &str) {
 fn draw(svg: &mut String, panel: &Panel, left: f64, color: &str) {
     let start = left + LABELS;
     let bottom = TOP + ROW * panel.ratios.len() as f64 + 4.0;
-    let title = format!("{}: instructions, in those of the best rival", panel.ring);
+    let title = format!("{}: instructions / the best rival's (left is better)", panel.ring);
     text(svg, start + across(1.0), 16.0, "middle", &title);
     for (ratio, name) in NAMED {
         let x = start + across(ratio);
