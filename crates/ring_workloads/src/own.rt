@@ -1,23 +1,17 @@
-//! What the work asks of a ring besides the trait of rings.
+//! What the work asks of a ring besides the traits that all rings have.
 
-use ringbuffer::{AllocRingBuffer, ConstGenericRingBuffer, GrowableAllocRingBuffer, RingBuffer};
+use ringbuffer::{
+    AllocRingBuffer, ConstGenericRingBuffer, DoubleEndedRing, GrowableAllocRingBuffer, RingBuffer,
+};
 use std::alloc::{AllocError, Global};
 
-/// The calls that each type has of its own, which the trait of rings lacks.
-pub trait Own: RingBuffer<u64> {
-    fn cloned(&self) -> Result<Self, AllocError>;
-
-    // Whether both hold equal items.
-    fn equals(&self, other: &Self) -> bool;
-
+/// The calls that each type has of its own.
+pub trait Own: DoubleEndedRing<u64> + Clone + PartialEq {
     // The sum of the items, added to `sum`.
     fn sum(&self, sum: u64) -> u64;
 
     // Another ring, of the items of a slice.
     fn of_slice(&self, alloc: Global, items: &[u64]) -> Result<Self, AllocError>;
-
-    // Takes out the newest item.
-    fn take_newest(&mut self) -> Option<u64>;
 
     // Puts an item last where there is room.
     fn push_into_room(&mut self, item: u64);
@@ -40,16 +34,6 @@ pub trait Own: RingBuffer<u64> {
 
 impl<const CAP: usize> Own for ConstGenericRingBuffer<u64, CAP> {
     #[inline]
-    fn cloned(&self) -> Result<Self, AllocError> {
-        self.clone()
-    }
-
-    #[inline]
-    fn equals(&self, other: &Self) -> bool {
-        self == other
-    }
-
-    #[inline]
     fn sum(&self, sum: u64) -> u64 {
         let mut sum = sum;
         for item in self {
@@ -62,11 +46,6 @@ impl<const CAP: usize> Own for ConstGenericRingBuffer<u64, CAP> {
     fn of_slice(&self, _alloc: Global, items: &[u64]) -> Result<Self, AllocError> {
         let _held = self.len();
         ConstGenericRingBuffer::from_slice(items)
-    }
-
-    #[inline]
-    fn take_newest(&mut self) -> Option<u64> {
-        self.pop_back()
     }
 
     #[inline]
@@ -105,16 +84,6 @@ impl<const CAP: usize> Own for ConstGenericRingBuffer<u64, CAP> {
 
 impl Own for AllocRingBuffer<u64> {
     #[inline]
-    fn cloned(&self) -> Result<Self, AllocError> {
-        self.clone()
-    }
-
-    #[inline]
-    fn equals(&self, other: &Self) -> bool {
-        self == other
-    }
-
-    #[inline]
     fn sum(&self, sum: u64) -> u64 {
         let (first, second) = self.as_slices();
         add(second, add(first, sum))
@@ -126,11 +95,6 @@ impl Own for AllocRingBuffer<u64> {
             return Err(AllocError);
         }
         AllocRingBuffer::from_slice(alloc, items)
-    }
-
-    #[inline]
-    fn take_newest(&mut self) -> Option<u64> {
-        self.pop_back()
     }
 
     #[inline]
@@ -169,16 +133,6 @@ impl Own for AllocRingBuffer<u64> {
 
 impl Own for GrowableAllocRingBuffer<u64> {
     #[inline]
-    fn cloned(&self) -> Result<Self, AllocError> {
-        self.clone()
-    }
-
-    #[inline]
-    fn equals(&self, other: &Self) -> bool {
-        self == other
-    }
-
-    #[inline]
     fn sum(&self, sum: u64) -> u64 {
         let (first, second) = self.as_slices();
         add(second, add(first, sum))
@@ -187,11 +141,6 @@ impl Own for GrowableAllocRingBuffer<u64> {
     #[inline]
     fn of_slice(&self, alloc: Global, items: &[u64]) -> Result<Self, AllocError> {
         GrowableAllocRingBuffer::from_slice(alloc, items)
-    }
-
-    #[inline]
-    fn take_newest(&mut self) -> Option<u64> {
-        self.pop_back()
     }
 
     #[inline]

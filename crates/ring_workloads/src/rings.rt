@@ -13,7 +13,7 @@ use std::alloc::{AllocError, Global};
 // A clone, of which one item is read and added to `sum`.
 #[inline(never)]
 fn clone<R: Own + Drop>(ring: &R, sum: u64) -> u64 {
-    let Ok(copy) = ring.cloned() else {
+    let Ok(copy) = ring.clone() else {
         return 0;
     };
     copy.get(sum as usize)
@@ -29,7 +29,7 @@ fn sum_of<R: Own>(ring: &R, sum: u64) -> u64 {
 // Whether two rings hold equal items, as a number added to `sum`.
 #[inline(never)]
 fn equal<R: Own>(ring: &R, other: &R, sum: u64) -> u64 {
-    if ring.equals(other) {
+    if ring == other {
         sum.wrapping_add(1)
     } else {
         sum
@@ -52,7 +52,7 @@ fn of_slice<R: Own + Drop>(alloc: Global, ring: &R, items: &[u64], sum: u64) -> 
 fn undo<R: Own>(ring: &mut R, items: usize) -> u64 {
     let mut sum = 0u64;
     for number in 0..items {
-        if let Some(item) = ring.take_newest() {
+        if let Some(item) = ring.pop_back() {
             sum = sum.wrapping_add(item);
         }
         let _ = ring.push(number as u64);
@@ -268,7 +268,7 @@ fn on_full<R: Own + Drop>(
             }
         }
         Work::Equal => {
-            let Ok(other) = ring.cloned() else {
+            let Ok(other) = ring.clone() else {
                 return 0;
             };
             for _ in 0..rounds {
