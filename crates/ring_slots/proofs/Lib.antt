@@ -1,6 +1,7 @@
 mod BlockCalls
 mod Crossing
 mod Parts
+mod Rows
 mod SharedSlots
 mod SlotsInMemory
 mod Words

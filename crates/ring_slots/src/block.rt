@@ -1,7 +1,8 @@
 //! A block of memory that slots lie in.
-ghost use Rattle.std.specs.Prelude.{◌≡◌, ◌<◌, ℕ, List, Option, length, replicate, slice_index_or, None, Some, IsSome, IfOk};
+ghost use Rattle.std.specs.Prelude.{◌≡◌, ◌<◌, ℕ, [], List, Option, length, replicate, slice_index_or, None, Some, IsSome, IfOk};
 ghost use Rattle.std.specs.Borrow.{sem};
 ghost use Rattle.std.specs.Mem.{type_size};
+ghost use Rattle.std.specs.Mem.Slots.{slots_ptr};
 ghost use Rattle.std.specs.Vec.Ownership.{FitsInBlock};
 ghost use base.Fml.{ftrue};
 ghost use denote.RawPtr.{Ptr};
@@ -9,6 +10,7 @@ ghost use Rattle.std.specs.declared.alloc.Global as heap;
 ghost use Rattle.ring_slots.specs.Slots.{HoldsStretch, IsFullStretch};
 ghost use Rattle.ring_slots.specs.block.Memory.{owned, lent, right};
 
+use core::slots::Slots;
 use std::alloc::{AllocError, Allocator, Global};
 use std::marker::{Model, PhantomData, Send, Sync};
 use std::mem::{align_of, size_of};
@@ -55,6 +57,7 @@ unsafe impl<T> Sync for Deed<T> {}
 impl<T> Owner<T> {
     ghost use Rattle.ring_slots.specs.block.Block.{IsDeedOf, IsNewBlock};
     ghost use Rattle.ring_slots.specs.block.Lends.{owner_lends_stretch, owner_lends, owner_with};
+    ghost use Rattle.ring_slots.specs.block.Row.{HoldsRow};
 
     /// Allocates a block of `size` empty slots.
     pub(crate) fn allocate(
@@ -167,5 +170,26 @@ impl<T> Owner<T> {
         ensures value { slice_index_or self.old.slots place None ≡ Some result.now }
     {
         unsafe { &mut *ptr.add(place) }
+    }
+
+    // Takes the slots out as a row of core's, which `attach` puts back. An empty slot has a value in the logic, so `T`
+    // must have one.
+    fn detach(&mut self, ptr: *mut T, size: usize) -> Slots<T>
+        requires at { ptr ≡ self.old.at }
+        requires size { size ≡ length self.old.slots }
+        requires some { T }
+        ensures row { (slots_ptr result ≡ self.old.at) × HoldsRow self.old.slots result size }
+        ensures left { (self.new.at ≡ self.old.at) × (self.new.slots ≡ []) }
+    {
+        unsafe { Slots::from_raw_parts(ptr, size) }
+    }
+
+    // Puts the slots back, of which those from `len` on are empty then, whatever they held.
+    fn attach(&mut self, row: Slots<T>, len: usize)
+        requires at { slots_ptr row ≡ self.old.at }
+        requires out { self.old.slots ≡ [] }
+        ensures { (self.new.at ≡ self.old.at) × HoldsRow self.new.slots row len }
+    {
+        let _parts = unsafe { row.into_raw_parts() };
     }
 }
