@@ -1,6 +1,7 @@
 mod BlockCalls
 mod Crossing
 mod Parts
+pub mod Filled
 mod Rows
 mod SharedSlots
 mod SlotsInMemory

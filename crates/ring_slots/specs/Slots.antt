@@ -28,6 +28,14 @@ module _ {X : Type 0} where
   abbrev pub IsFullStretch : List (Option X) → ℕ → ℕ → Type 0
   IsFullStretch slots from len = (from + len ≤ length slots) × ((xs : List X) × HoldsStretch slots from len xs)
 
+  -- there are `len` slots from a place on, and each of them is empty
+  abbrev pub IsEmptyStretch : List (Option X) → ℕ → ℕ → Type 0
+  IsEmptyStretch slots from len = (from + len ≤ length slots) × ((k : ℕ) → k < len → slice_index_or slots (from + k) None ≡ None)
+
+  -- the slots, with these items in those from a place on
+  abbrev pub filled : List (Option X) → ℕ → List X → List (Option X)
+  filled slots from xs = take from slots ++ (map Some xs ++ drop (from + length xs) slots)
+
   -- the slots, with these items in the `len` of them from a place on
   abbrev pub refilled : List (Option X) → ℕ → ℕ → List X → List (Option X)
   refilled slots from len xs = take from slots ++ (refill len (take len (drop from slots)) (map Some xs) ++ drop (from + len) slots)
@@ -35,3 +43,7 @@ module _ {X : Type 0} where
   -- the slots after one change: the slot at the place holds this now, every other slot what it held
   abbrev pub changed : Slots X → ℕ → Option X → Slots X
   changed s place slot = record { slots = slice_set s.slots place slot; changes = s.changes + 1 }
+
+  -- the slots once these items are put into those from a place on, each by one change
+  abbrev pub with_items : Slots X → ℕ → List X → Slots X
+  with_items s place xs = record { slots = filled s.slots place xs; changes = s.changes + length xs }

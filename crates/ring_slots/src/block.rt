@@ -7,7 +7,7 @@ ghost use Rattle.std.specs.Vec.Ownership.{FitsInBlock};
 ghost use base.Fml.{ftrue};
 ghost use denote.RawPtr.{Ptr};
 ghost use Rattle.std.specs.declared.alloc.Global as heap;
-ghost use Rattle.ring_slots.specs.Slots.{HoldsStretch, IsFullStretch};
+ghost use Rattle.ring_slots.specs.Slots.{HoldsStretch, IsEmptyStretch, IsFullStretch};
 ghost use Rattle.ring_slots.specs.block.Memory.{owned, lent, right};
 
 use core::slots::Slots;
@@ -56,7 +56,7 @@ unsafe impl<T> Sync for Deed<T> {}
 
 impl<T> Owner<T> {
     ghost use Rattle.ring_slots.specs.block.Block.{IsDeedOf, IsNewBlock};
-    ghost use Rattle.ring_slots.specs.block.Lends.{owner_lends_stretch, owner_lends, owner_with};
+    ghost use Rattle.ring_slots.specs.block.Lends.{owner_lends_stretch, owner_lends, owner_with, owner_with_items};
     ghost use Rattle.ring_slots.specs.block.Row.{HoldsRow};
 
     /// Allocates a block of `size` empty slots.
@@ -170,6 +170,22 @@ impl<T> Owner<T> {
         ensures value { slice_index_or self.old.slots place None ≡ Some result.now }
     {
         unsafe { &mut *ptr.add(place) }
+    }
+
+    /// Puts copies of some items into empty slots that lie side by side from a place on. `size` is the number of slots.
+    #[inline]
+    pub(crate) fn copy_in(&mut self, ptr: *mut T, size: usize, place: usize, items: &[T])
+    where
+        T: Copy,
+        requires at { ptr ≡ self.old.at }
+        requires size { size ≡ length self.old.slots }
+        requires some { 0 < length items.now }
+        requires empty { IsEmptyStretch self.old.slots place (length items.now) }
+        ensures { self.new ≡ owner_with_items self.old place items.now }
+    {
+        let mut row = self.detach(ptr, size);
+        row.copy_in(place, items);
+        self.attach(row, size);
     }
 
     // Takes the slots out as a row of core's, which `attach` puts back. An empty slot has a value in the logic, so `T`

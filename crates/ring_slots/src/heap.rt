@@ -4,7 +4,7 @@ ghost use Rattle.std.specs.Borrow.{sem};
 ghost use Rattle.std.specs.Int.{IsPowerOfTwo};
 ghost use Rattle.std.specs.Mem.{type_size};
 ghost use Rattle.std.specs.Vec.Ownership.{FitsInBlock};
-ghost use Rattle.ring_slots.specs.Slots.{HoldsStretch, IsFullStretch, changed};
+ghost use Rattle.ring_slots.specs.Slots.{HoldsStretch, IsEmptyStretch, IsFullStretch, changed, with_items};
 
 use crate::block::{Deed, Owner};
 use crate::change_count::ChangeCount;
@@ -97,6 +97,23 @@ impl<T: Drop> HeapSlots<T> {
         self.changes = changes;
         let ptr = self.ptr;
         self.owner.slice_mut(ptr, from, len)
+    }
+
+    /// Puts copies of some items into empty slots that lie side by side from the place `from` on, each by one change.
+    /// Takes O(n) in these.
+    #[inline]
+    pub fn put_copies(&mut self, from: usize, items: &[T])
+    where
+        T: Copy,
+        requires { IsEmptyStretch self.old.slots from (length items.now) }
+        ensures { self.new ≡ with_items self.old from items.now }
+    {
+        if items.is_empty() {
+            return;
+        }
+        self.changes = self.changes.after(items.len());
+        let size = HeapSlots::size(self);
+        self.owner.copy_in(self.ptr, size, from, items);
     }
 
     /// Returns the count of changes of the slots.
