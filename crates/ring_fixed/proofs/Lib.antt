@@ -1,4 +1,5 @@
 pub mod Compared
+pub mod Copies
 pub mod EmptiedStretches
 pub mod LaysOut
 pub mod LentItem
