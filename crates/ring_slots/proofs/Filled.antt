@@ -11,11 +11,16 @@ use Rattle.core.specs.declared.slots.Slots.{Slots as Row}
 use Rattle.ring_slots.specs.Slots.{filled}
 use Rattle.ring_slots.specs.block.Row.{HoldsRow}
 
+-- the first item of some
+pub first_item : {X : Type 0} (xs : List X) → 0 < length xs → X
+first_item [] some = absurd (omega arith)
+first_item (x ∷ xs) some = x
+
 -- a slot of full ones holds the item of its place
-pub held : {X : Type 0} (xs : List X) (i : ℕ) → get_or (map Some xs) i None ≡ slice_get xs i
-held [] i = refl
-held (x ∷ xs) zero = refl
-held (x ∷ xs) (suc i) = held xs i
+pub get_or-map_some : {X : Type 0} (xs : List X) (i : ℕ) → get_or (map Some xs) i None ≡ slice_get xs i
+get_or-map_some [] i = refl
+get_or-map_some (x ∷ xs) zero = refl
+get_or-map_some (x ∷ xs) (suc i) = get_or-map_some xs i
 
 module _ {X : Type 0} (slots : List (Option X)) (from : ℕ) (xs : List X) (within : from + length xs ≤ length slots) where
   front : length (take from slots) ≡ from
@@ -31,7 +36,7 @@ module _ {X : Type 0} (slots : List (Option X)) (from : ℕ) (xs : List X) (with
   past i late = get_or-append_right (take from slots) _ from i None front late
 
   pub filled-in : (i : ℕ) → from ≤ i → i < from + length xs → get_or (filled slots from xs) i None ≡ slice_get xs (i - from)
-  filled-in i late low = past i late ∙ get_or_append_left (map Some xs) _ None (i - from) (omega (arith, length-map xs Some)) ∙ held xs (i - from)
+  filled-in i late low = past i late ∙ get_or_append_left (map Some xs) _ None (i - from) (omega (arith, length-map xs Some)) ∙ get_or-map_some xs (i - from)
 
   pub filled-behind : (i : ℕ) → from + length xs ≤ i → get_or (filled slots from xs) i None ≡ get_or slots i None
   filled-behind i late =
@@ -45,7 +50,7 @@ module _ {X : Type 0} (old new : List (Option X)) (before after : Row X) (size f
   same_length places = has.size ∙ places.count ∙ sym had.size
 
   as_held : (r : Row X) (slots : List (Option X)) → HoldsRow slots r size → (i : ℕ) → i < size → get_or slots i None ≡ (if get_or (slots_filled r) i false then get_or (map Some (slots_items r)) i None else None)
-  as_held r slots holds i low = holds.held i low ∙ ap (λ c. if get_or (slots_filled r) i false then c else None) (sym (held (slots_items r) i))
+  as_held r slots holds i low = holds.held i low ∙ ap (λ c. if get_or (slots_filled r) i false then c else None) (sym (get_or-map_some (slots_items r) i))
 
   pub copied : slots_items after ≡ take from (slots_items before) ++ xs ++ cut (from + length xs) (slots_items before) → Filled (slots_filled after) from (from + length xs)
       → SameOutside false (slots_filled before) (slots_filled after) from (from + length xs) → SamePlaces before after → slots_len before ≡ length (slots_items before) → new ≡ filled old from xs

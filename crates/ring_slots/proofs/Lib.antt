@@ -2,6 +2,7 @@ mod BlockCalls
 mod Crossing
 mod Parts
 pub mod Filled
+pub mod Lowered
 mod Rows
 mod SharedSlots
 mod SlotsInMemory

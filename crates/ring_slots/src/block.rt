@@ -1,5 +1,5 @@
 //! A block of memory that slots lie in.
-ghost use Rattle.std.specs.Prelude.{◌≡◌, ◌<◌, ℕ, [], List, Option, length, replicate, slice_index_or, None, Some, IsSome, IfOk};
+ghost use Rattle.std.specs.Prelude.{◌≡◌, ◌-◌, ◌<◌, ◌≤◌, ℕ, [], List, Option, length, replicate, slice_index_or, None, Some, IsSome, IfOk};
 ghost use Rattle.std.specs.Borrow.{sem};
 ghost use Rattle.std.specs.Mem.{type_size};
 ghost use Rattle.std.specs.Mem.Slots.{slots_ptr};
@@ -56,7 +56,7 @@ unsafe impl<T> Sync for Deed<T> {}
 
 impl<T> Owner<T> {
     ghost use Rattle.ring_slots.specs.block.Block.{IsDeedOf, IsNewBlock};
-    ghost use Rattle.ring_slots.specs.block.Lends.{owner_lends_stretch, owner_lends, owner_with, owner_with_items};
+    ghost use Rattle.ring_slots.specs.block.Lends.{owner_lends_stretch, owner_lends, owner_with, owner_with_items, owner_with_lowered};
     ghost use Rattle.ring_slots.specs.block.Row.{HoldsRow};
 
     /// Allocates a block of `size` empty slots.
@@ -186,6 +186,24 @@ impl<T> Owner<T> {
         let mut row = self.detach(ptr, size);
         row.copy_in(place, items);
         self.attach(row, size);
+    }
+
+    /// Moves the items of all slots from the place `from` on down to those from the place `to` on, of which those up to
+    /// `from` are empty. `size` is the number of slots.
+    #[inline]
+    pub(crate) fn move_down(&mut self, ptr: *mut T, size: usize, from: usize, to: usize)
+        requires at { ptr ≡ self.old.at }
+        requires size { size ≡ length self.old.slots }
+        requires some { from < size }
+        requires order { to ≤ from }
+        requires full { IsFullStretch self.old.slots from (size - from) }
+        requires empty { IsEmptyStretch self.old.slots to (from - to) }
+        ensures { self.new ≡ owner_with_lowered self.old from to }
+    {
+        let count = size - from;
+        let mut row = self.detach(ptr, size);
+        row.move_within(from, to, count);
+        self.attach(row, to + count);
     }
 
     // Takes the slots out as a row of core's, which `attach` puts back. An empty slot has a value in the logic, so `T`

@@ -1,13 +1,9 @@
-use Rattle.ring_slots.proofs.Words.{List, [], ◌∷◌, length, arith, ◌<◌, ◌∙◌}
-use Rattle.ring_slots.proofs.Filled.{copied}
+use Rattle.ring_slots.proofs.Words.{◌∙◌}
+use Rattle.ring_slots.proofs.Filled.{copied, first_item}
 use Rattle.ring_slots.proofs.block.Owner.copy_in.Goals as goal
 
-first : {X : Type 0} (xs : List X) → 0 < length xs → X
-first [] some = absurd (omega arith)
-first (x ∷ xs) some = x
-
 pub detach-row-requires-clause-some : goal.detach-row-requires-clause-some
-detach-row-requires-clause-some g c = first c.args.items.now c.requires.some
+detach-row-requires-clause-some g c = first_item c.args.items.now c.requires.some
 
 -- The row stands for the slots before and after the copy.
 pub returns : goal.returns
