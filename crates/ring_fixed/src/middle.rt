@@ -85,7 +85,7 @@ impl<T: Drop, S: RingSlots<T>> Fixed<T, S> {
     }
 
     // Moves the first items behind the others, one by one, as many as `count` says.
-    pub(crate) fn turn_left(&mut self, count: usize)
+    fn turn_left(&mut self, count: usize)
         requires sound { IsSound S.seen S.is_size self.old }
         requires some { count ≤ length (view_of S.seen self.old).items }
         ensures after { ChangesTo S.seen S.is_size self.old self.new

@@ -1,4 +1,4 @@
-//! The items of a ring over heap slots as slices.
+//! The items of a ring over heap slots as slices, and copies of a slice's items.
 ghost use Rattle.std.specs.Prelude.{◌≡◌, ◌↔◌, ◌+◌, ◌-◌, ◌*◌, ◌%◌, ◌++◌, ◌<◌, ◌≤◌, IfOk, IsTrue, None, drop, length, min, take};
 ghost use Rattle.std.specs.Borrow.{sem};
 ghost use Rattle.std.specs.Cmp.Lexicographic.{pointwise};
@@ -65,7 +65,8 @@ impl<T: Drop> Fixed<T, HeapSlots<T>> {
             .rotate_right(moved);
     }
 
-    // Moves items from the front behind the last until all lie side by side. Returns how many it moved.
+    // Moves the items from the front that lie in the last slots down behind the last item, so that all lie side by side.
+    // Returns how many it moved.
     fn gather(&mut self) -> usize
         requires { IsSound (λ s. s) IsPowerOfTwo self.old }
         ensures start { self.new.start ≡ straight_start self.old }
@@ -79,7 +80,8 @@ impl<T: Drop> Fixed<T, HeapSlots<T>> {
         if self.len <= first {
             return 0;
         }
-        self.turn_left(first);
+        self.slots.move_down(self.start, self.len - first);
+        self.start = 0;
         first
     }
 
