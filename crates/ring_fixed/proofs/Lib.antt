@@ -5,7 +5,6 @@ pub mod LaysOut
 pub mod LentItem
 pub mod PutFirst
 pub mod PutOver
-pub mod PutUnder
 pub mod RepeatedSteps
 pub mod Stretches
 pub mod SlotsHold
