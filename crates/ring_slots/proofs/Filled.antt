@@ -1,5 +1,5 @@
 -- What slots hold once items are put into a stretch of them.
-use Rattle.ring_slots.proofs.Words.{◌≡◌, refl, sym, ap, ◌∙◌, true, false, List, [], ◌∷◌, ◌++◌, ℕ, zero, suc, ◌+◌, ◌<◌, ◌≤◌, arith, length, get_or, take, cut, length-append, length-drop, length-take, length-map, map, Option, None, Some}
+use Rattle.ring_slots.proofs.Words.{◌≡◌, refl, sym, ap, ◌∙◌, false, List, [], ◌∷◌, ◌++◌, ℕ, zero, suc, ◌+◌, ◌<◌, ◌≤◌, arith, length, get_or, take, cut, length-append, length-drop, length-take, length-map, map, Option, None, Some}
 use mathlib.Core.Logic.{inl, inr}
 use Rattle.std.proofs.Common.{append_assoc, ext_get_or}
 use Rattle.std.proofs.Math.Decide.{dec_lt}
@@ -66,8 +66,8 @@ module _ {X : Type 0} (old new : List (Option X)) (before after : Row X) (size f
       is_now i low' ∙ elim (dec_lt i from) [
         | yes early ↦ (λ j. if outside i (inl early) j then filled-before whole from xs room i early j else None) ∙ sym (as_held before old had i low') ∙ sym (filled-before old from xs within i early)
         | no late ↦ let later : from ≤ i = omega arith in elim (dec_lt i end) [
-            | yes inside ↦ (λ j. if full i later inside j then filled-in whole from xs room i later inside j else None) ∙ sym (filled-in old from xs within i later inside)
-            | no behind ↦ let past_all : end ≤ i = omega arith in
-                (λ j. if outside i (inr past_all) j then filled-behind whole from xs room i past_all j else None) ∙ sym (as_held before old had i low') ∙ sym (filled-behind old from xs within i past_all)
-          ]
+          | yes inside ↦ (λ j. if full i later inside j then filled-in whole from xs room i later inside j else None) ∙ sym (filled-in old from xs within i later inside)
+          | no behind ↦ let past_all : end ≤ i = omega arith in
+              (λ j. if outside i (inr past_all) j then filled-behind whole from xs room i past_all j else None) ∙ sym (as_held before old had i low') ∙ sym (filled-behind old from xs within i past_all)
+        ]
       ])

@@ -1,5 +1,5 @@
 -- What slots hold once the items of the last of them have moved down.
-use Rattle.ring_slots.proofs.Words.{◌≡◌, refl, sym, ap, subst, ◌∙◌, Bool, true, false, List, [], ◌∷◌, ◌++◌, ℕ, ◌+◌, ◌<◌, ◌≤◌, arith, length, get_or, replicate, take, cut, length-append, length-drop, length-take, length-map, length-replicate, map, Option, None, Some, IsFullStretch, HoldsStretch}
+use Rattle.ring_slots.proofs.Words.{◌≡◌, refl, sym, ap, ◌∙◌, Bool, true, false, List, ◌++◌, ℕ, ◌+◌, ◌<◌, ◌≤◌, arith, length, get_or, replicate, take, cut, length-append, length-drop, length-take, length-replicate, Option, None, Some, HoldsStretch}
 use mathlib.Core.Logic.{inl, inr}
 use Rattle.std.proofs.Common.{ext_get_or}
 use Rattle.std.proofs.Math.Decide.{dec_lt}
@@ -68,10 +68,10 @@ module _ {X : Type 0} (old new : List (Option X)) (before after : Row X) (size f
           | yes early ↦ has.held i (omega arith) ∙ (λ j. if outside i (inl (omega arith)) j then same_items i i (omega arith) (omega arith) (items d i (inl early)) j else None)
               ∙ sym (had.held i (omega arith)) ∙ sym (get_or_append_left (take to old) _ None i (omega (arith, front)) ∙ get_or-take to old i None early)
           | no late ↦ elim (dec_lt i (to + count)) [
-              | yes inside ↦ let k : ℕ = i - to in let there : to + k ≡ i = omega arith in
-                  has.held i inside ∙ (λ j. if filled' i (omega arith) inside j then same_items i (from + k) (omega arith) (omega arith) (ap (λ n. get_or (slots_items after) n d) (sym there) ∙ moved k d (omega arith)) j else None)
-                  ∙ sym (had.held (from + k) (omega arith) ∙ (λ j. if full (from + k) (omega arith) (omega arith) j then slice_get (slots_items before) (from + k) else None))
-                  ∙ sym (past_front i (omega arith) ∙ get_or_append_left (cut from old) _ None k (omega (arith, length-drop from old)) ∙ get_or-drop from old k None)
-              | no behind ↦ has.behind i (omega arith) ∙ sym (past_front i (omega arith) ∙ get_or-append_right (cut from old) gap count (i - to) None (omega (arith, length-drop from old)) (omega arith) ∙ none_behind (i - to - count))
-            ]
+            | yes inside ↦ let k : ℕ = i - to in let there : to + k ≡ i = omega arith in
+                has.held i inside ∙ (λ j. if filled' i (omega arith) inside j then same_items i (from + k) (omega arith) (omega arith) (ap (λ n. get_or (slots_items after) n d) (sym there) ∙ moved k d (omega arith)) j else None)
+                ∙ sym (had.held (from + k) (omega arith) ∙ (λ j. if full (from + k) (omega arith) (omega arith) j then slice_get (slots_items before) (from + k) else None))
+                ∙ sym (past_front i (omega arith) ∙ get_or_append_left (cut from old) _ None k (omega (arith, length-drop from old)) ∙ get_or-drop from old k None)
+            | no behind ↦ has.behind i (omega arith) ∙ sym (past_front i (omega arith) ∙ get_or-append_right (cut from old) gap count (i - to) None (omega (arith, length-drop from old)) (omega arith) ∙ none_behind (i - to - count))
+          ]
         ])

@@ -1,7 +1,6 @@
 -- The slots of an owner become a row of core's, and a row becomes slots.
-use Rattle.ring_slots.proofs.Words.{◌≡◌, refl, ap, ◌∙◌, Bool, true, false, List, [], ◌∷◌, ℕ, zero, suc, ◌+◌, ◌*◌, ◌^◌, ◌<◌, ◌≤◌, arith, length, get_or, replicate, Ura, full_share, SProp, ent, emp, id⊢, Fml, ftrue, Logic, sem, ‵, ◌$◌, ◌∵◌, !, qed, move, use1, use2, frame, fsplit, fjoin, done, by, drop, part_at, layout, froom, map, RattleType, type_size, Option, Some, None, row, slot}
+use Rattle.ring_slots.proofs.Words.{◌≡◌, refl, ap, Bool, true, false, List, [], ◌∷◌, ℕ, zero, suc, ◌+◌, ◌<◌, ◌≤◌, arith, length, get_or, Ura, ent, emp, id⊢, Fml, Logic, sem, ‵, ◌$◌, ◌∵◌, !, qed, use1, frame, by, layout, froom, RattleType, Option, Some, None, row, slot}
 use base.Logic.{mono_r}
-use mir.Syntax.{given as no_dict}
 use denote.Param.Laws.{Laws}
 use denote.RawPtr.{block_ptr}
 use Rattle.std.specs.Prelude.{if◌then◌else◌, slice_get}

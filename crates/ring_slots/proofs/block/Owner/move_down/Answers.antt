@@ -1,4 +1,4 @@
-use Rattle.ring_slots.proofs.Words.{◌≡◌, ◌<◌, ℕ, ◌+◌, List, [], ◌∷◌, length, arith, ◌∙◌}
+use Rattle.ring_slots.proofs.Words.{arith, ◌∙◌}
 use Rattle.std.specs.Prelude.{◌-◌}
 use Rattle.ring_slots.proofs.Filled.{first_item}
 use Rattle.ring_slots.proofs.Lowered.{moved_down, stretch_filled}
