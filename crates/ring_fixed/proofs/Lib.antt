@@ -1,10 +1,10 @@
 pub mod Compared
+pub mod Copies
 pub mod EmptiedStretches
 pub mod LaysOut
 pub mod LentItem
 pub mod PutFirst
 pub mod PutOver
-pub mod PutUnder
 pub mod RepeatedSteps
 pub mod Stretches
 pub mod SlotsHold

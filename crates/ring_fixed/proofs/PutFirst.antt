@@ -1,5 +1,5 @@
 -- An item put before the first.
-use Rattle.ring_fixed.proofs.Words.{◌≡◌, ◌≢◌, ℕ, zero, suc, ◌+◌, ◌-◌, ◌%◌, ◌<◌, List, ◌∷◌, length, get_or, Option, None, Some, refl, ap, ◌∙◌, arith, length-set, get_or-set_same, get_or-set_other, set, add-mod_right, mod-eq_of_lt, mod-lt, slice_get, slice_get_past, Slots, IsEmptyAt, changed, View, after_pop, after_push_front, after_put_first, min, take_all, SlotsHold, items_from, view_from, IsLaidOut, LaysOut}
+use Rattle.ring_fixed.proofs.Words.{◌≡◌, ◌≢◌, ℕ, zero, suc, ◌+◌, ◌-◌, ◌%◌, ◌<◌, List, ◌∷◌, length, get_or, Option, None, Some, refl, ap, ◌∙◌, arith, length-set, length-take, get_or-set_same, get_or-set_other, set, add-mod_right, mod-eq_of_lt, mod-lt, slice_get, slice_get_past, Slots, IsEmptyAt, changed, View, after_pop, after_push_front, after_put_first, min, take_all, SlotsHold, items_from, view_from, IsLaidOut, LaysOut}
 use Rattle.ring_fixed.proofs.SlotsHold.{count_on, wrap}
 use Rattle.ring_fixed.proofs.LaysOut.{LaysOut-items}
 
@@ -51,6 +51,12 @@ module _ {X : Type 0} {P : ℕ → Type 0} (s : Slots X) (start : ℕ) (laid_out
       rw (is, found)
       (LaysOut-items s start laid_out (changed s (place_before start size within) (Some x)) (place_before start size within) (x ∷ items) (length-set s.slots _ (Some x)) (before_within start size within) (omega arith)
       (SlotsHold-put_first s.slots start within items x laid_out.layout))
+
+  -- there is room once the last item is taken
+  pub room_left : (new : Slots X) → LaysOut P s new start (after_pop (view_from s start)) → 0 < length (items_from s.slots start) → length (items_from new.slots start) < length new.slots
+  room_left new after some =
+      let items = items_from s.slots start in let same = after.same_size in let fit = laid_out.fit in
+      omega (arith, ap (λ (v : View X). length v.items) after.shows, length-take (length items - 1) items)
 
 module _ {X : Type 0} (capacity : ℕ) (v : View X) (x : X) where
   -- a push in front where there is no room

@@ -1,13 +1,9 @@
 -- The items of a ring are two stretches of full slots: those up to the last slot, and those that go on at the first.
 use Rattle.ring_fixed.proofs.Words.{◌≡◌, ℕ, zero, suc, ◌+◌, ◌-◌, ◌<◌, ◌≤◌, List, [], ◌∷◌, ◌++◌, length, map, take, drop, get_or, Option, None, Some, refl, sym, ap, ◌∙◌, arith, slice_get, min, mod-eq_of_lt, ext_get_or, get_or-take, get_or-drop, length-map, length-take, length-drop, take-append-drop, slice_get-drop, slice_get-take, Slots, HoldsStretch, IsFullStretch, items_from, IsLaidOut, somes}
+use Rattle.ring_slots.proofs.Filled.{get_or-map_some}
 use Rattle.ring_fixed.proofs.SlotsHold.{wrap}
 
 module _ {X : Type 0} where
-  pub get_or-map_some : (xs : List X) (k : ℕ) → get_or (map Some xs) k None ≡ slice_get xs k
-  get_or-map_some [] k = refl
-  get_or-map_some (x ∷ xs) zero = refl
-  get_or-map_some (x ∷ xs) (suc k) = get_or-map_some xs k
-
   -- items that are known one by one are a stretch
   stretch_of : (cs : List (Option X)) (from : ℕ) (xs : List X) → from + length xs ≤ length cs → ((k : ℕ) → k < length xs → get_or cs (from + k) None ≡ slice_get xs k)
       → take (length xs) (drop from cs) ≡ map Some xs
@@ -28,22 +24,29 @@ module _ {X : Type 0} {P : ℕ → Type 0} (s : Slots X) (start : ℕ) (laid_out
   abbrev items : List X
   items = items_from s.slots start
 
-  pub first_stretch : IsFullStretch s.slots start first
-  first_stretch =
+  -- those up to the last slot
+  pub first_held : HoldsStretch s.slots start first (take first items)
+  first_held =
       let within = laid_out.start_within in
       let xs = take first items in
       let long : length xs ≡ first = omega (arith, length-take first items) in
-      (omega arith, (xs, rw long at (stretch_of s.slots start xs (omega arith) (λ k low. grind (arith, laid_out.layout k, mod-eq_of_lt, slice_get-take)))))
+      rw long at (stretch_of s.slots start xs (omega arith) (λ k low. grind (arith, laid_out.layout k, mod-eq_of_lt, slice_get-take)))
 
-  pub second_stretch : IsFullStretch s.slots 0 (len - first)
-  second_stretch =
+  -- those that go on at the first
+  pub second_held : HoldsStretch s.slots 0 (len - first) (drop first items)
+  second_held =
       let within = laid_out.start_within in let fit = laid_out.fit in
       let xs = drop first items in
       let long : length xs ≡ len - first = omega (arith, length-drop first items) in
       let round = λ (k : ℕ). wrap start (first + k) (length s.slots) within in
-      (omega arith, (xs, rw long at (stretch_of s.slots 0 xs (omega arith) (λ k low. grind (arith, laid_out.layout (first + k), round k, slice_get-drop)))))
+      rw long at (stretch_of s.slots 0 xs (omega arith) (λ k low. grind (arith, laid_out.layout (first + k), round k, slice_get-drop)))
+
+  pub first_stretch : IsFullStretch s.slots start first
+  first_stretch = let within = laid_out.start_within in (omega arith, (take first items, first_held))
+
+  pub second_stretch : IsFullStretch s.slots 0 (len - first)
+  second_stretch = let fit = laid_out.fit in (omega arith, (drop first items, second_held))
 
   pub both_stretches : (xs ys : List X) → HoldsStretch s.slots start first xs → HoldsStretch s.slots 0 (len - first) ys → xs ++ ys ≡ items
-  unfolding first_stretch second_stretch
   both_stretches xs ys before after =
-      rw (stretch_is s.slots start first xs (take first items) before first_stretch.1.1, stretch_is s.slots 0 (len - first) ys (drop first items) after second_stretch.1.1) (take-append-drop first items)
+      rw (stretch_is s.slots start first xs (take first items) before first_held, stretch_is s.slots 0 (len - first) ys (drop first items) after second_held) (take-append-drop first items)

@@ -2,7 +2,7 @@
 ghost use Rattle.std.specs.Prelude.{◌≡◌, ◌+◌, ◌-◌, ◌%◌, ◌^◌, ◌<◌, ◌≤◌, if◌then◌else◌, false, [], ◌++◌, All, IsOk, List, MatchResult, length, take, true};
 ghost use Rattle.std.specs.Iterator.{Drains, IsFinite, IsFiniteIterable};
 ghost use Rattle.std.specs.List.{AllZip, FoldsTo};
-ghost use Rattle.ring_fixed.specs.View.{after_put, after_puts, after_take, after_takes, after_push, after_extend, after_extend_from_slice, after_truncate, after_keep_newest, after_clear, after_fill};
+ghost use Rattle.ring_fixed.specs.View.{after_put, after_puts, after_take, after_takes, after_push, after_extend, after_truncate, after_keep_newest, after_clear, after_fill};
 ghost use Rattle.ring_fixed.specs.Sources.{Gives};
 ghost use Rattle.ring_fixed.specs.Layout.{after_pushes, AreFull, CanPush, Empties, IsLaidOut, LaysOut, view_from};
 
@@ -147,29 +147,6 @@ impl<T: Drop, S: RingSlots<T>> Fixed<T, S> {
             Self::put_next(slots, len + i, item);
         }
         (len + items.len(), Ok(()))
-    }
-
-    // Puts copies of items behind the last, side by side from a place on.
-    #[inline]
-    fn put_copies(slots: &mut S, span: Span, place: usize, items: &[T])
-    where
-        T: Copy,
-        requires laid_out { IsLaidOut S.is_size (S.seen slots.old) span.start }
-        requires len { span.len ≡ length (view_from (S.seen slots.old) span.start).items }
-        requires room { span.len + length items.now ≤ length (S.seen slots.old).slots }
-        requires place { 0 < length items.now
-            → place ≡ (span.start + span.len) % length (S.seen slots.old).slots }
-        requires straight { place + length items.now ≤ length (S.seen slots.old).slots }
-        ensures { LaysOut S.is_size (S.seen slots.old) (S.seen slots.new) span.start
-            (after_puts items.now (view_from (S.seen slots.old) span.start)) }
-    {
-        // For the proof: the number of slots fits a word.
-        let _ = slots.size();
-        let Span { start, len } = span;
-        for i in 0..items.len() {
-            let len = len + i;
-            Self::put_at(slots, Span { start, len }, place + i, items[i]);
-        }
     }
 
     // Drops the items from an index up to another, in two stretches of slots: up to the last slot, and on from the first.
@@ -361,29 +338,6 @@ impl<T: Drop, S: RingSlots<T>> Fixed<T, S> {
         let span = Self::push_all(&mut self.slots, span, items.into_iter(), capacity);
         self.start = span.start;
         self.len = span.len;
-        (self, ())
-    }
-
-    /// Pushes copies of the items of a slice, in order. Those that later ones would overwrite are left out.
-    pub fn extend_from_slice_owned(mut self, given: (&[T], usize)) -> (Self, ())
-    where
-        T: Copy,
-        requires sound { IsSound S.seen S.is_size self }
-        requires within { length (view_of S.seen self).items ≤ given.1 }
-        requires room { given.1 ≤ room_of S.seen self }
-        ensures { ChangesTo S.seen S.is_size self result.0
-            (after_extend_from_slice given.entry.1 (view_of S.seen self) given.entry.0.now) }
-    {
-        let (items, capacity) = given;
-        let (_, newest) = items.split_at(items.len().saturating_sub(capacity));
-        self.keep_newest(capacity - newest.len());
-        let (start, len) = (self.start, self.len);
-        let end = self.slots.place_after(start, len);
-        let (first, second) = newest.split_at(newest.len().min(self.slots.size() - end));
-        Self::put_copies(&mut self.slots, Span { start, len }, end, first);
-        let held = len + first.len();
-        Self::put_copies(&mut self.slots, Span { start, len: held }, 0, second);
-        self.len = len + newest.len();
         (self, ())
     }
 

@@ -184,9 +184,9 @@ impl<T: Drop, S: RingSlots<T>> Fixed<T, S> {
         ensures { ChangesTo S.seen S.is_size self.old self.new
             (after_put_first (view_of S.seen self.old) item) }
     {
-        let place = self.slots.place(self.start, self.slots.size() - 1);
-        self.slots.put(place, item);
-        self.start = place;
+        // For the proof: the number of slots fits a word.
+        let _ = self.slots.size();
+        self.start = Self::put_before(&mut self.slots, self.start, item);
         self.len += 1;
     }
 
@@ -295,12 +295,37 @@ impl<T: Drop, S: RingSlots<T>> Fixed<T, S> {
         ensures after { LaysOut S.is_size (S.seen slots.old) (S.seen slots.new) result.0
             (after_put_first (after_pop (view_from (S.seen slots.old) span.start)) item) }
     {
-        let Span { start, len } = span;
-        let last = slots.place(start, len - 1);
-        let first = slots.place(start, slots.size() - 1);
-        let old = slots.take(last);
-        slots.put(first, item);
-        (first, old)
+        let old = Self::take_last(slots, span);
+        (Self::put_before(slots, span.start, item), old)
+    }
+
+    // Takes the last item.
+    #[inline]
+    pub(crate) fn take_last(slots: &mut S, span: Span) -> T
+        requires laid_out { IsLaidOut S.is_size (S.seen slots.old) span.start }
+        requires len { span.len ≡ length (view_from (S.seen slots.old) span.start).items }
+        requires some { 0 < span.len }
+        ensures value { slice_get (view_from (S.seen slots.old) span.start).items (span.len - 1)
+            ≡ Some result }
+        ensures after { LaysOut S.is_size (S.seen slots.old) (S.seen slots.new) span.start
+            (after_pop (view_from (S.seen slots.old) span.start)) }
+    {
+        let last = slots.place(span.start, span.len - 1);
+        slots.take(last)
+    }
+
+    // Puts an item before the first, where there is room for one. Returns its place, which is the next start.
+    #[inline]
+    pub(crate) fn put_before(slots: &mut S, start: usize, item: T) -> usize
+        requires laid_out { IsLaidOut S.is_size (S.seen slots.old) start }
+        requires room { length (view_from (S.seen slots.old) start).items
+            < length (S.seen slots.old).slots }
+        ensures { LaysOut S.is_size (S.seen slots.old) (S.seen slots.new) result
+            (after_put_first (view_from (S.seen slots.old) start) item) }
+    {
+        let place = slots.place(start, slots.size() - 1);
+        slots.put(place, item);
+        place
     }
 
     // Takes the first item, and returns the next start before it.

@@ -85,7 +85,7 @@ impl<T: Drop, S: RingSlots<T>> Fixed<T, S> {
     }
 
     // Moves the first items behind the others, one by one, as many as `count` says.
-    pub(crate) fn turn_left(&mut self, count: usize)
+    fn turn_left(&mut self, count: usize)
         requires sound { IsSound S.seen S.is_size self.old }
         requires some { count ≤ length (view_of S.seen self.old).items }
         ensures after { ChangesTo S.seen S.is_size self.old self.new
@@ -131,11 +131,7 @@ impl<T: Drop, S: RingSlots<T>> Fixed<T, S> {
             × LaysOut S.is_size (S.seen slots.old) (S.seen slots.new) result
             (after_put_first (after_pop (view_from (S.seen slots.old) span.start)) x) }
     {
-        let Span { start, len } = span;
-        let last = slots.place(start, len - 1);
-        let first = slots.place(start, slots.size() - 1);
-        let item = slots.take(last);
-        slots.put(first, item);
-        first
+        let item = Self::take_last(slots, span);
+        Self::put_before(slots, span.start, item)
     }
 }

@@ -1,17 +1,18 @@
-//! The items of a ring over heap slots as slices.
-ghost use Rattle.std.specs.Prelude.{◌≡◌, ◌↔◌, ◌+◌, ◌-◌, ◌*◌, ◌++◌, ◌<◌, ◌≤◌, IfOk, IsTrue, None, drop, length, min, take};
+//! The items of a ring over heap slots as slices, and copies of a slice's items.
+ghost use Rattle.std.specs.Prelude.{◌≡◌, ◌↔◌, ◌+◌, ◌-◌, ◌*◌, ◌%◌, ◌++◌, ◌<◌, ◌≤◌, IfOk, IsTrue, None, drop, length, min, take};
 ghost use Rattle.std.specs.Borrow.{sem};
 ghost use Rattle.std.specs.Cmp.Lexicographic.{pointwise};
 ghost use Rattle.std.specs.Int.{IsPowerOfTwo};
 ghost use Rattle.std.specs.List.{AllZip};
+ghost use Rattle.ring_fixed.specs.Layout.{IsLaidOut, LaysOut, view_from};
 
-use crate::fixed::Fixed;
+use crate::fixed::{Fixed, Span};
 use ring_slots::{HeapSlots, RingSlots};
 
 impl<T: Drop> Fixed<T, HeapSlots<T>> {
-    ghost use Rattle.ring_fixed.specs.fixed.Sound.{view_of, IsSound};
+    ghost use Rattle.ring_fixed.specs.fixed.Sound.{view_of, ChangesTo, IsSound};
     ghost use Rattle.ring_fixed.specs.slices.Straight.{beside, lends_straight, straight_start};
-    ghost use Rattle.ring_fixed.specs.View.{turned};
+    ghost use Rattle.ring_fixed.specs.View.{after_extend_from_slice, after_puts, turned};
 
     /// Returns the items in two slices: those up to the last slot, and those that go on at the first.
     #[inline]
@@ -64,7 +65,8 @@ impl<T: Drop> Fixed<T, HeapSlots<T>> {
             .rotate_right(moved);
     }
 
-    // Moves items from the front behind the last until all lie side by side. Returns how many it moved.
+    // Moves the items from the front that lie in the last slots down behind the last item, so that all lie side by side.
+    // Returns how many it moved.
     fn gather(&mut self) -> usize
         requires { IsSound (λ s. s) IsPowerOfTwo self.old }
         ensures start { self.new.start ≡ straight_start self.old }
@@ -78,7 +80,45 @@ impl<T: Drop> Fixed<T, HeapSlots<T>> {
         if self.len <= first {
             return 0;
         }
-        self.turn_left(first);
+        self.slots.move_down(self.start, self.len - first);
+        self.start = 0;
         first
+    }
+
+    /// Pushes copies of the items of a slice, in order. Those that later ones would overwrite are left out.
+    pub fn extend_from_slice(&mut self, items: &[T], capacity: usize)
+    where
+        T: Copy,
+        requires sound { IsSound (λ s. s) IsPowerOfTwo self.old }
+        requires within { length (view_of (λ s. s) self.old).items ≤ capacity }
+        requires room { capacity ≤ length self.old.slots.slots }
+        ensures { ChangesTo (λ s. s) IsPowerOfTwo self.old self.new
+            (after_extend_from_slice capacity (view_of (λ s. s) self.old) items.now) }
+    {
+        let (_, newest) = items.split_at(items.len().saturating_sub(capacity));
+        self.keep_newest(capacity - newest.len());
+        let (start, len) = (self.start, self.len);
+        let end = self.slots.place_after(start, len);
+        let (first, second) = newest.split_at(newest.len().min(self.slots.size() - end));
+        Self::put_copies(&mut self.slots, Span { start, len }, end, first);
+        let held = len + first.len();
+        Self::put_copies(&mut self.slots, Span { start, len: held }, 0, second);
+        self.len = len + newest.len();
+    }
+
+    // Puts copies of items behind the last, side by side from a place on.
+    fn put_copies(slots: &mut HeapSlots<T>, span: Span, place: usize, items: &[T])
+    where
+        T: Copy,
+        requires laid_out { IsLaidOut IsPowerOfTwo slots.old span.start }
+        requires len { span.len ≡ length (view_from slots.old span.start).items }
+        requires room { span.len + length items.now ≤ length slots.old.slots }
+        requires place { 0 < length items.now
+            → place ≡ (span.start + span.len) % length slots.old.slots }
+        requires straight { place + length items.now ≤ length slots.old.slots }
+        ensures { LaysOut IsPowerOfTwo slots.old slots.new span.start
+            (after_puts items.now (view_from slots.old span.start)) }
+    {
+        slots.put_copies(place, items);
     }
 }

@@ -1,6 +1,9 @@
 mod BlockCalls
 mod Crossing
 mod Parts
+pub mod Filled
+pub mod Lowered
+mod Rows
 mod SharedSlots
 mod SlotsInMemory
 mod Words

@@ -60,10 +60,10 @@ one_value τ (v ∷ []) typed = (v, (refl, typed.0))
 one_value τ (v ∷ w ∷ vs) typed = absurd typed.1
 
 module _ (X : RattleType) where
-  abbrev R : RattleType
+  abbrev pub R : RattleType
   R = param 0 X
 
-  abbrev bytes : ℕ
+  abbrev pub bytes : ℕ
   bytes = type_size R
 
   first_at : (o : ℕ) → o ≡ 0 * bytes + o
@@ -154,7 +154,7 @@ module _ (X : RattleType) where
           use1 𝓛 (‵ (slot R b o None)) (𝓛.laws.room-raw (layout X) b o) $ frame ! $ by ! (of_room n (o + bytes))
 
       -- a slot is room for an item, whatever it holds
-      room_of : (c : Option X.Denot) (o : ℕ) → ent 𝓤 (sem 𝓛 (slot R b o c)) (sem 𝓛 (froom (layout X) b o))
+      pub room_of : (c : Option X.Denot) (o : ℕ) → ent 𝓤 (sem 𝓛 (slot R b o c)) (sem 𝓛 (froom (layout X) b o))
       room_of None o = 𝓛.laws.raw-room (layout X) b o
       room_of (Some x) o = qed 𝓛 (‵ (part_at R full_share x b o) ∷ []) ∵
           use1 𝓛 (some (λ (v : Val). ‵ (fat full_share (layout X) b o v) ⊛ ‵ (X.own_val x (v ∷ [])))) (part_out 𝓛 R refl full_share x b o) $

@@ -1,6 +1,6 @@
 -- What a contract sees of the slots of a ring.
 use Rattle.std.specs.List.{refill}
-use Rattle.std.specs.Prelude.{◌≡◌, ℕ, ◌+◌, ◌<◌, ◌≤◌, List, ◌++◌, length, take, drop, map, slice_index_or, slice_set, Option, None, Some, IsSome}
+use Rattle.std.specs.Prelude.{◌≡◌, ℕ, ◌+◌, ◌-◌, ◌*◌, ◌<◌, ◌≤◌, List, ◌++◌, length, replicate, take, drop, map, slice_index_or, slice_set, Option, None, Some, IsSome}
 
 -- what each slot holds, an item or nothing, and how many changes the slots have had
 pub record Slots (X : Type 0) : Type 0 where
@@ -28,6 +28,18 @@ module _ {X : Type 0} where
   abbrev pub IsFullStretch : List (Option X) → ℕ → ℕ → Type 0
   IsFullStretch slots from len = (from + len ≤ length slots) × ((xs : List X) × HoldsStretch slots from len xs)
 
+  -- there are `len` slots from a place on, and each of them is empty
+  abbrev pub IsEmptyStretch : List (Option X) → ℕ → ℕ → Type 0
+  IsEmptyStretch slots from len = (from + len ≤ length slots) × ((k : ℕ) → k < len → slice_index_or slots (from + k) None ≡ None)
+
+  -- the slots, with these items in those from a place on
+  abbrev pub filled : List (Option X) → ℕ → List X → List (Option X)
+  filled slots from xs = take from slots ++ (map Some xs ++ drop (from + length xs) slots)
+
+  -- the slots, with those from a place on moved down to another, and empty ones behind them
+  abbrev pub lowered : List (Option X) → ℕ → ℕ → List (Option X)
+  lowered slots from to = take to slots ++ (drop from slots ++ replicate (from - to) None)
+
   -- the slots, with these items in the `len` of them from a place on
   abbrev pub refilled : List (Option X) → ℕ → ℕ → List X → List (Option X)
   refilled slots from len xs = take from slots ++ (refill len (take len (drop from slots)) (map Some xs) ++ drop (from + len) slots)
@@ -35,3 +47,11 @@ module _ {X : Type 0} where
   -- the slots after one change: the slot at the place holds this now, every other slot what it held
   abbrev pub changed : Slots X → ℕ → Option X → Slots X
   changed s place slot = record { slots = slice_set s.slots place slot; changes = s.changes + 1 }
+
+  -- the slots once these items are put into those from a place on, each by one change
+  abbrev pub with_items : Slots X → ℕ → List X → Slots X
+  with_items s place xs = record { slots = filled s.slots place xs; changes = s.changes + length xs }
+
+  -- the slots once the items from a place on have moved down to another, each by two changes
+  abbrev pub with_lowered : Slots X → ℕ → ℕ → Slots X
+  with_lowered s from to = record { slots = lowered s.slots from to; changes = s.changes + 2 * (length s.slots - from) }

@@ -1,3 +1,4 @@
 pub mod Block
 pub mod Lends
 pub mod Memory
+pub mod Row

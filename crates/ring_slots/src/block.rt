@@ -1,14 +1,16 @@
 //! A block of memory that slots lie in.
-ghost use Rattle.std.specs.Prelude.{◌≡◌, ◌<◌, ℕ, List, Option, length, replicate, slice_index_or, None, Some, IsSome, IfOk};
+ghost use Rattle.std.specs.Prelude.{◌≡◌, ◌-◌, ◌<◌, ◌≤◌, ℕ, [], List, Option, length, replicate, slice_index_or, None, Some, IsSome, IfOk};
 ghost use Rattle.std.specs.Borrow.{sem};
 ghost use Rattle.std.specs.Mem.{type_size};
+ghost use Rattle.std.specs.Mem.Slots.{slots_ptr};
 ghost use Rattle.std.specs.Vec.Ownership.{FitsInBlock};
 ghost use base.Fml.{ftrue};
 ghost use denote.RawPtr.{Ptr};
 ghost use Rattle.std.specs.declared.alloc.Global as heap;
-ghost use Rattle.ring_slots.specs.Slots.{HoldsStretch, IsFullStretch};
+ghost use Rattle.ring_slots.specs.Slots.{HoldsStretch, IsEmptyStretch, IsFullStretch};
 ghost use Rattle.ring_slots.specs.block.Memory.{owned, lent, right};
 
+use core::slots::Slots;
 use std::alloc::{AllocError, Allocator, Global};
 use std::marker::{Model, PhantomData, Send, Sync};
 use std::mem::{align_of, size_of};
@@ -54,7 +56,8 @@ unsafe impl<T> Sync for Deed<T> {}
 
 impl<T> Owner<T> {
     ghost use Rattle.ring_slots.specs.block.Block.{IsDeedOf, IsNewBlock};
-    ghost use Rattle.ring_slots.specs.block.Lends.{owner_lends_stretch, owner_lends, owner_with};
+    ghost use Rattle.ring_slots.specs.block.Lends.{owner_lends_stretch, owner_lends, owner_with, owner_with_items, owner_with_lowered};
+    ghost use Rattle.ring_slots.specs.block.Row.{HoldsRow};
 
     /// Allocates a block of `size` empty slots.
     pub(crate) fn allocate(
@@ -167,5 +170,60 @@ impl<T> Owner<T> {
         ensures value { slice_index_or self.old.slots place None ≡ Some result.now }
     {
         unsafe { &mut *ptr.add(place) }
+    }
+
+    /// Puts copies of some items into empty slots that lie side by side from a place on. `size` is the number of slots.
+    #[inline]
+    pub(crate) fn copy_in(&mut self, ptr: *mut T, size: usize, place: usize, items: &[T])
+    where
+        T: Copy,
+        requires at { ptr ≡ self.old.at }
+        requires size { size ≡ length self.old.slots }
+        requires some { 0 < length items.now }
+        requires empty { IsEmptyStretch self.old.slots place (length items.now) }
+        ensures { self.new ≡ owner_with_items self.old place items.now }
+    {
+        let mut row = self.detach(ptr, size);
+        row.copy_in(place, items);
+        self.attach(row, size);
+    }
+
+    /// Moves the items of all slots from the place `from` on down to those from the place `to` on, of which those up to
+    /// `from` are empty. `size` is the number of slots.
+    #[inline]
+    pub(crate) fn move_down(&mut self, ptr: *mut T, size: usize, from: usize, to: usize)
+        requires at { ptr ≡ self.old.at }
+        requires size { size ≡ length self.old.slots }
+        requires some { from < size }
+        requires order { to ≤ from }
+        requires full { IsFullStretch self.old.slots from (size - from) }
+        requires empty { IsEmptyStretch self.old.slots to (from - to) }
+        ensures { self.new ≡ owner_with_lowered self.old from to }
+    {
+        let count = size - from;
+        let mut row = self.detach(ptr, size);
+        row.move_within(from, to, count);
+        self.attach(row, to + count);
+    }
+
+    // Takes the slots out as a row of core's, which `attach` puts back. An empty slot has a value in the logic, so `T`
+    // must have one.
+    fn detach(&mut self, ptr: *mut T, size: usize) -> Slots<T>
+        requires at { ptr ≡ self.old.at }
+        requires size { size ≡ length self.old.slots }
+        requires some { T }
+        ensures row { (slots_ptr result ≡ self.old.at) × HoldsRow self.old.slots result size }
+        ensures left { (self.new.at ≡ self.old.at) × (self.new.slots ≡ []) }
+    {
+        unsafe { Slots::from_raw_parts(ptr, size) }
+    }
+
+    // Puts the slots back, of which those from `len` on are empty then, whatever they held.
+    fn attach(&mut self, row: Slots<T>, len: usize)
+        requires at { slots_ptr row ≡ self.old.at }
+        requires out { self.old.slots ≡ [] }
+        ensures { (self.new.at ≡ self.old.at) × HoldsRow self.new.slots row len }
+    {
+        let _parts = unsafe { row.into_raw_parts() };
     }
 }

@@ -1,10 +1,10 @@
 //! Slots on the heap.
-ghost use Rattle.std.specs.Prelude.{◌≡◌, ◌+◌, ◌-◌, ◌%◌, ◌^◌, ◌↔◌, ◌≤◌, ℕ, min, length, replicate, None, Some, refl, IfOk, IsTrue};
+ghost use Rattle.std.specs.Prelude.{◌≡◌, ◌+◌, ◌-◌, ◌%◌, ◌^◌, ◌↔◌, ◌<◌, ◌≤◌, ℕ, min, length, replicate, None, Some, refl, IfOk, IsTrue};
 ghost use Rattle.std.specs.Borrow.{sem};
 ghost use Rattle.std.specs.Int.{IsPowerOfTwo};
 ghost use Rattle.std.specs.Mem.{type_size};
 ghost use Rattle.std.specs.Vec.Ownership.{FitsInBlock};
-ghost use Rattle.ring_slots.specs.Slots.{HoldsStretch, IsFullStretch, changed};
+ghost use Rattle.ring_slots.specs.Slots.{HoldsStretch, IsEmptyStretch, IsFullStretch, changed, with_items, with_lowered};
 
 use crate::block::{Deed, Owner};
 use crate::change_count::ChangeCount;
@@ -97,6 +97,38 @@ impl<T: Drop> HeapSlots<T> {
         self.changes = changes;
         let ptr = self.ptr;
         self.owner.slice_mut(ptr, from, len)
+    }
+
+    /// Puts copies of some items into empty slots that lie side by side from the place `from` on, each by one change.
+    /// Takes O(n) in these.
+    #[inline]
+    pub fn put_copies(&mut self, from: usize, items: &[T])
+    where
+        T: Copy,
+        requires { IsEmptyStretch self.old.slots from (length items.now) }
+        ensures { self.new ≡ with_items self.old from items.now }
+    {
+        if items.is_empty() {
+            return;
+        }
+        self.changes = self.changes.after(items.len());
+        let size = HeapSlots::size(self);
+        self.owner.copy_in(self.ptr, size, from, items);
+    }
+
+    /// Moves the items of all slots from the place `from` on down to those from the place `to` on, each by two changes.
+    /// The slots between these places must be empty. Takes O(n) in the items.
+    #[inline]
+    pub fn move_down(&mut self, from: usize, to: usize)
+        requires some { from < length self.old.slots }
+        requires order { to ≤ from }
+        requires full { IsFullStretch self.old.slots from (length self.old.slots - from) }
+        requires empty { IsEmptyStretch self.old.slots to (from - to) }
+        ensures { self.new ≡ with_lowered self.old from to }
+    {
+        let size = HeapSlots::size(self);
+        self.changes = self.changes.after(size - from).after(size - from);
+        self.owner.move_down(self.ptr, size, from, to);
     }
 
     /// Returns the count of changes of the slots.

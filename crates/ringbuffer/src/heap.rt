@@ -389,11 +389,7 @@ impl<T: Copy + Drop> AllocRingBuffer<T> {
     pub fn extend_from_slice(&mut self, items: &[T])
         ensures { self.new ≡ after_extend_from_slice self.old.capacity self.old items.now }
     {
-        replace_with(
-            &mut self.ring,
-            (items, self.capacity),
-            Fixed::extend_from_slice_owned,
-        );
+        self.ring.extend_from_slice(items, self.capacity);
     }
 
     /// Returns copies of the items, oldest first, in new memory, as `to_vec` returns clones. Takes O(n).

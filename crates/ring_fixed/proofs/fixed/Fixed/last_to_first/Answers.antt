@@ -1,15 +1,11 @@
-use Rattle.ring_fixed.proofs.PutUnder.{last_is, under_empty, under_lays_out}
+use Rattle.ring_fixed.proofs.Words.{arith, after_put_first}
+use Rattle.ring_fixed.proofs.LaysOut.{LaysOut-then}
+use Rattle.ring_fixed.proofs.PutFirst.{room_left}
 use Rattle.ring_fixed.proofs.fixed.Fixed.last_to_first.Goals as goal
 
--- Once the last item is taken, the place before the first is empty.
-pub put-requires : goal.put-requires
-put-requires g c =
-    under_empty c.requires.laid_out c.requires.len c.requires.some c.place-last.ensures (rw c.size.ensures at c.place-first.ensures) c.take-item.ensures.after
+-- Once the last item is taken, there is room before the first.
+pub put_before-requires-clause-room : goal.put_before-requires-clause-room
+put_before-requires-clause-room g c = room_left _ _ c.requires.laid_out _ c.take_last-item.ensures.after (omega (arith, c.requires.len, c.requires.some))
 
 pub returns : goal.returns
-returns g c =
-    let before = rw c.size.ensures at c.place-first.ensures in let taken = c.take-item.ensures in (
-      c.take-item.result,
-      last_is c.requires.laid_out c.requires.len c.requires.some c.place-last.ensures before taken.after _ taken.value,
-      under_lays_out c.requires.laid_out c.requires.len c.requires.some c.place-last.ensures before taken.after _ _ c.put.ensures,
-    )
+returns g c = (c.take_last-item.result, c.take_last-item.ensures.value, LaysOut-then (λ v. after_put_first v c.take_last-item.result) c.take_last-item.ensures.after c.put_before.ensures)

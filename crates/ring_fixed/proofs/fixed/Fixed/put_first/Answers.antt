@@ -1,10 +1,5 @@
 use Rattle.ring_fixed.proofs.Words.{arith}
-use Rattle.ring_fixed.proofs.PutFirst.{LaysOut-put_first, before_empty}
 use Rattle.ring_fixed.proofs.fixed.Fixed.put_first.Goals as goal
 
--- The slot before the first is empty.
-pub put-requires : goal.put-requires
-put-requires g c = before_empty _ _ c.requires.sound.0 _ c.requires.room (rw c.size.ensures at c.place-place.ensures)
-
 pub returns : goal.returns
-returns g c = (LaysOut-put_first _ _ c.requires.sound.0 _ _ _ c.requires.room (rw c.size.ensures at c.place-place.ensures) c.put.ensures, omega (arith, c.requires.sound.1))
+returns g c = (c.put_before-self.ensures, omega (arith, c.requires.sound.1))

@@ -1,11 +1,11 @@
-use Rattle.ring_fixed.proofs.PutUnder.{under_empty, under_lays_out}
+use Rattle.ring_fixed.proofs.Words.{arith, after_put_first}
+use Rattle.ring_fixed.proofs.LaysOut.{LaysOut-then}
+use Rattle.ring_fixed.proofs.PutFirst.{room_left}
 use Rattle.ring_fixed.proofs.fixed.Fixed.put_under.Goals as goal
 
--- Once the last item is taken, the place before the first is empty.
-pub put-requires : goal.put-requires
-put-requires g c =
-    under_empty c.requires.laid_out c.requires.len c.requires.some c.place-last.ensures (rw c.size.ensures at c.place-first.ensures) c.take-old.ensures.after
+-- Once the last item is taken, there is room before the first.
+pub put_before-requires-clause-room : goal.put_before-requires-clause-room
+put_before-requires-clause-room g c = room_left _ _ c.requires.laid_out _ c.take_last-old.ensures.after (omega (arith, c.requires.len, c.requires.some))
 
 pub returns-clause-after : goal.returns-clause-after
-returns-clause-after g c =
-    under_lays_out c.requires.laid_out c.requires.len c.requires.some c.place-last.ensures (rw c.size.ensures at c.place-first.ensures) c.take-old.ensures.after _ _ c.put.ensures
+returns-clause-after g c = LaysOut-then (λ v. after_put_first v c.args.item) c.take_last-old.ensures.after c.put_before.ensures
