@@ -21,7 +21,7 @@ impl<T: Drop> AllocRingBuffer<T> {
         if self.is_full() {
             return Err(item);
         }
-        self.ring.insert(index, item);
+        self.ring.insert_by_slices(index, item);
         Ok(())
     }
 
@@ -35,7 +35,7 @@ impl<T: Drop> AllocRingBuffer<T> {
         if index >= self.len() {
             return None;
         }
-        self.ring.remove(index)
+        self.ring.remove_by_slices(index)
     }
 
     /// Exchanges the items at two indices below the length, by four slot changes, or none where the indices are equal.
