@@ -267,11 +267,6 @@ module _ {X : Type 0} (i : ℕ) (v : View X) where
       let xs = v.items in let (x, at, _) = cut i xs low in
       removed_first v (take i xs) (drop (i + 1) xs) x i (omega (arith, length-take i xs)) at few
 
-  pub first_was : i < length v.items → slice_get (after_turn_within 0 i i v).items 0 ≡ slice_get v.items i
-  first_was low =
-      let xs = v.items in let (x, at, held) = cut i xs low in
-      ap (λ l. slice_get l 0) (first-parts v (take i xs) (drop (i + 1) xs) x i (omega (arith, length-take i xs)) at) ∙ sym held
-
   -- an item put before the first, which then goes to its index
   pub after_insert-first : (x : X) → i ≤ length v.items - i → i ≤ length v.items → after_turn_within 0 i 1 (after_put_first v x) ≡ after_insert i x v
   after_insert-first x few low =
@@ -279,15 +274,4 @@ module _ {X : Type 0} (i : ℕ) (v : View X) where
       let items : turned_within 0 (i + 1) 1 (x ∷ xs) ≡ a ++ (x ∷ drop i xs) =
       ap (λ l. turned_within 0 (i + 1) 1 (x ∷ l)) (sym (take-append-drop i xs)) ∙ turned_within-parts [] (x ∷ a) (drop i xs) 0 (i + 1) 1 refl (omega (arith, length-take i xs)) ∙ (simp append_assoc) in
       let changes : v.changes + 1 + 4 * i ≡ v.changes + 4 * min i (length xs - i) + 1 = omega arith in
-      λ k. record { items = items k; changes = changes k; capacity = v.capacity }
-
-  -- and one put behind the last
-  pub after_insert-last : (x : X) → length v.items - i ≤ i → i ≤ length v.items → after_turn_within i (length v.items - i) (length v.items - i) (after_put v x) ≡ after_insert i x v
-  after_insert-last x few low =
-      let xs = v.items in let a = take i xs in let b = drop i xs in let n = length xs - i in
-      let parts : xs ++ x ∷ [] ≡ a ++ ((b ++ x ∷ []) ++ []) = ap (λ l. l ++ x ∷ []) (sym (take-append-drop i xs)) ∙ (simp (append_assoc, append-nil)) in
-      let items : turned_within i (n + 1) n (xs ++ x ∷ []) ≡ a ++ (x ∷ b) =
-      ap (turned_within i (n + 1) n) parts ∙ turned_within-parts a (b ++ x ∷ []) [] i (n + 1) n (omega (arith, length-take i xs)) (omega (arith, length-append b (x ∷ []), length-drop i xs))
-      ∙ ap (λ l. a ++ (l ++ [])) (turned-last n b x (omega (arith, length-drop i xs))) ∙ (simp append-nil) in
-      let changes : v.changes + 1 + 4 * n ≡ v.changes + 4 * min i n + 1 = omega arith in
       λ k. record { items = items k; changes = changes k; capacity = v.capacity }

@@ -47,8 +47,8 @@ impl<T: Drop> Fixed<T, HeapSlots<T>> {
         self.slots.slice_mut(start, len, changes)
     }
 
-    /// Takes out the item at an index below the length. It first goes behind the last, or before the first, where the
-    /// items between move one place over, all at once.
+    /// Takes out the item at an index below the length, as `remove` does, with one move of all the items between it and
+    /// the nearer end.
     pub fn remove_by_slices(&mut self, index: usize) -> Option<T>
         requires sound { IsSound (λ s. s) IsPowerOfTwo self.old }
         requires within { index < length (view_of (λ s. s) self.old).items }
@@ -65,8 +65,8 @@ impl<T: Drop> Fixed<T, HeapSlots<T>> {
         self.pop_back()
     }
 
-    /// Puts an item at an index up to the length, before the items from there on. There must be room for it. It comes
-    /// from behind the last, or from before the first, where the items between move one place over, all at once.
+    /// Puts an item at an index up to the length, before the items from there on, as `insert` does, with one move of all
+    /// the items between there and the nearer end. There must be room for it.
     pub fn insert_by_slices(&mut self, index: usize, item: T)
         requires sound { IsSound (λ s. s) IsPowerOfTwo self.old }
         requires within { index ≤ length (view_of (λ s. s) self.old).items }
@@ -85,8 +85,8 @@ impl<T: Drop> Fixed<T, HeapSlots<T>> {
         }
     }
 
-    // Moves the item at an index behind the next ones, as many as `others` says. Where they go on at the first slot, it
-    // goes to the last slot with those up to there, and from the first slot on with the rest.
+    // Moves the item at `index` behind the `others` that follow it. Where those go on at the first slot, it goes behind
+    // the ones up to the last slot, changes places with the one in the first, and goes behind the rest.
     fn send_back(&mut self, index: usize, others: usize)
         requires sound { IsSound (λ s. s) IsPowerOfTwo self.old }
         requires within { index + others < length (view_of (λ s. s) self.old).items }
@@ -103,8 +103,8 @@ impl<T: Drop> Fixed<T, HeapSlots<T>> {
         self.turn_within(index + first, others - first, 1);
     }
 
-    // Moves an item before the ones in front of it, as many as `others` says, the first of which is at the index. Where
-    // they go on at the first slot, it goes to the first slot, and to the last, and on.
+    // Moves the item that follows the `others` from `index` on before them. Where they go on at the first slot, it goes
+    // before the ones from there on, changes places with the one in the last slot, and goes before the rest.
     fn bring_forward(&mut self, index: usize, others: usize)
         requires sound { IsSound (λ s. s) IsPowerOfTwo self.old }
         requires within { index + others < length (view_of (λ s. s) self.old).items }
@@ -121,7 +121,7 @@ impl<T: Drop> Fixed<T, HeapSlots<T>> {
         self.turn_within(index, first - 1, first - 1);
     }
 
-    // Returns the number of slots from the one of the item at an index up to the last.
+    // Returns the number of slots from that of the item at `index` up to the last.
     #[inline]
     fn up_to_last_slot(&self, index: usize) -> usize
         requires sound { IsSound (λ s. s) IsPowerOfTwo self.now }
@@ -132,9 +132,8 @@ impl<T: Drop> Fixed<T, HeapSlots<T>> {
         self.slots.size() - self.slots.place(self.start, index)
     }
 
-    // Turns the item at an index and the `others` behind it by `count`, where their slots lie side by side. This counts
-    // as four changes of each of the others, of which at most two put an item in its place.
-    #[inline]
+    // Turns the item at `index` and the `others` behind it to the left by `count`, where their slots lie side by side.
+    // This counts as four changes for each of the others, which is no fewer than the stores: each item is put once.
     fn turn_within(&mut self, index: usize, others: usize, count: usize)
         requires sound { IsSound (λ s. s) IsPowerOfTwo self.old }
         requires within { index + others < length (view_of (λ s. s) self.old).items }

@@ -33,8 +33,7 @@ returns-clause-after g c =
     let lies = LaysOut-within f.slots f.start sound i len place low c.place-place.ensures fit ys long c.after-changes.result.count in
     let after = after_turn_within i c.args.others c.args.count (view_of (λ s. s) f) in
     let shows : (record { items = take i items ++ (ys ++ drop (i + len) items); changes = c.after-changes.result.count; capacity = length f.slots.slots }) ≡ after =
-    λ k. record { items = take i items ++ (is k ++ drop (i + len) items); changes = count k; capacity = length f.slots.slots } in
-    (
+    λ k. record { items = take i items ++ (is k ++ drop (i + len) items); changes = count k; capacity = length f.slots.slots } in (
       subst (LaysOut IsPowerOfTwo f.slots _ f.start) shows lies,
       c.requires.sound.1 ∙ sym (length-shown f.slots f.start sound i len place low c.place-place.ensures fit ys long) ∙ ap (λ (w : View _). length w.items) shows,
     )
