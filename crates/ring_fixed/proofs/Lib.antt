@@ -12,5 +12,6 @@ pub mod SomesTaken
 pub mod Sources
 pub mod Straight
 pub mod Swapped
+pub mod TurnedWithin
 pub mod Turns
 mod Words

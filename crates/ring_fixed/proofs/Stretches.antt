@@ -5,7 +5,7 @@ use Rattle.ring_fixed.proofs.SlotsHold.{wrap}
 
 module _ {X : Type 0} where
   -- items that are known one by one are a stretch
-  stretch_of : (cs : List (Option X)) (from : ℕ) (xs : List X) → from + length xs ≤ length cs → ((k : ℕ) → k < length xs → get_or cs (from + k) None ≡ slice_get xs k)
+  pub stretch_of : (cs : List (Option X)) (from : ℕ) (xs : List X) → from + length xs ≤ length cs → ((k : ℕ) → k < length xs → get_or cs (from + k) None ≡ slice_get xs k)
       → take (length xs) (drop from cs) ≡ map Some xs
   stretch_of cs from xs fit reads =
       let part = take (length xs) (drop from cs) in let long : length part ≡ length xs = omega (arith, length-take (length xs) (drop from cs), length-drop from cs) in

@@ -91,6 +91,14 @@ module _ {X : Type 0} where
   abbrev pub after_turn_right : ℕ → View X → View X
   after_turn_right n v = record v { items = turned (length v.items - n) v.items; changes = v.changes + 2 * n }
 
+  -- a list with the `len` of its items from an index on turned by n
+  abbrev pub turned_within : (i len n : ℕ) → List X → List X
+  turned_within i len n xs = take i xs ++ (turned n (take len (drop i xs)) ++ drop (i + len) xs)
+
+  -- the item at an index and the `others` behind it turned by n, which counts as four changes of each of the others
+  abbrev pub after_turn_within : (i others n : ℕ) → View X → View X
+  after_turn_within i others n v = record v { items = turned_within i (others + 1) n v.items; changes = v.changes + 4 * others }
+
   -- the items turned by moving the fewer of those before and those behind
   abbrev pub after_rotate : ℕ → View X → View X
   after_rotate n v = record v { items = turned n v.items; changes = v.changes + 2 * min n (length v.items - n) }

@@ -70,8 +70,9 @@ impl<T: Drop, S: RingSlots<T>> Fixed<T, S> {
         requires sound { IsSound S.seen S.is_size self.old }
         requires first { i < length (view_of S.seen self.old).items }
         requires second { j < length (view_of S.seen self.old).items }
-        ensures { ChangesTo S.seen S.is_size self.old self.new
+        ensures after { ChangesTo S.seen S.is_size self.old self.new
             (after_swap i j (view_of S.seen self.old)) }
+        ensures start { self.new.start ≡ self.old.start }
     {
         if i == j {
             return;

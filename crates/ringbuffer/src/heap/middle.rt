@@ -7,7 +7,7 @@ use ring_core::RingBuffer;
 
 impl<T: Drop> AllocRingBuffer<T> {
     /// Puts an item at an index, before the items from there on. At the length it is put last. Moves the fewer of the items
-    /// before and behind, one at a time: O(n).
+    /// before and behind by one place, all at once: O(n). This counts as four changes for each of them.
     ///
     /// # Errors
     ///
@@ -21,12 +21,12 @@ impl<T: Drop> AllocRingBuffer<T> {
         if self.is_full() {
             return Err(item);
         }
-        self.ring.insert(index, item);
+        self.ring.insert_by_slices(index, item);
         Ok(())
     }
 
-    /// Takes out the item at an index, or returns `None` from the length on. Moves the fewer of the items before and behind,
-    /// one at a time: O(n).
+    /// Takes out the item at an index, or returns `None` from the length on. Moves the fewer of the items before and behind
+    /// by one place, all at once: O(n). This counts as four changes for each of them.
     pub fn remove(&mut self, index: usize) -> Option<T>
         ensures value { result ≡ slice_get self.old.items index }
         ensures some { index < length self.old.items → self.new ≡ after_remove index self.old }
@@ -35,7 +35,7 @@ impl<T: Drop> AllocRingBuffer<T> {
         if index >= self.len() {
             return None;
         }
-        self.ring.remove(index)
+        self.ring.remove_by_slices(index)
     }
 
     /// Exchanges the items at two indices below the length, by four slot changes, or none where the indices are equal.
