@@ -2,6 +2,8 @@
 #![tactic(auto)]
 
 mod bulk;
+mod by_slices;
+mod copying;
 mod fixed;
 mod middle;
 mod parts;

@@ -1,6 +1,6 @@
 use Rattle.ring_fixed.proofs.Words.{length}
 use Rattle.ring_fixed.proofs.Copies.{LaysOut-puts, empty_behind}
-use Rattle.ring_fixed.proofs.slices.Fixed+T+HeapSlots+T.put_copies.Goals as goal
+use Rattle.ring_fixed.proofs.copying.Fixed+T+HeapSlots+T.put_copies.Goals as goal
 
 pub put_copies-requires : goal.put_copies-requires
 put_copies-requires g c =

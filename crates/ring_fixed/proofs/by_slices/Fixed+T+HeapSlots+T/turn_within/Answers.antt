@@ -1,10 +1,10 @@
-use Rattle.ring_fixed.proofs.Words.{LaysOut, ◌≡◌, ◌+◌, ◌*◌, ◌-◌, ◌≤◌, ◌++◌, ◌∙◌, View, IsPowerOfTwo, ap, arith, drop, items_from, length, length-drop, length-take, subst, sym, take, turned, view_of}
+use Rattle.ring_fixed.proofs.Words.{LaysOut, ◌≡◌, ◌+◌, ◌*◌, ◌≤◌, ◌++◌, ◌∙◌, View, IsPowerOfTwo, ap, arith, drop, items_from, length, length-drop, length-take, subst, sym, take, turned, view_of}
 use Rattle.ring_fixed.proofs.LaysOut.{LaysOut-none}
 use Rattle.ring_fixed.proofs.Stretches.{stretch_is}
 use Rattle.ring_fixed.proofs.TurnedWithin.{LaysOut-within, after_turn_within-none, length-shown, stretch_within}
 use Rattle.ring_fixed.specs.View.{after_turn_within}
 use Rattle.ring_fixed.specs.fixed.Sound.{ChangesTo}
-use Rattle.ring_fixed.proofs.slices.Fixed+T+HeapSlots+T.turn_within.Goals as goal
+use Rattle.ring_fixed.proofs.by_slices.Fixed+T+HeapSlots+T.turn_within.Goals as goal
 
 -- Nothing is behind the item.
 pub returns-then-others-eq0-clause-after : goal.returns-then-others-eq0-clause-after

@@ -2,7 +2,7 @@ use Rattle.ring_fixed.proofs.Words.{◌≡◌, ◌≤◌, ℕ, List, ◌+◌, �
 use Rattle.ring_fixed.proofs.SlotsHold.{count_on}
 use Rattle.ring_fixed.proofs.LaysOut.{LaysOut-then}
 use Rattle.ring_fixed.proofs.RepeatedSteps.{after_extend_from_slice-by, after_puts-then}
-use Rattle.ring_fixed.proofs.slices.Fixed+T+HeapSlots+T.extend_from_slice.Goals as goal
+use Rattle.ring_fixed.proofs.copying.Fixed+T+HeapSlots+T.extend_from_slice.Goals as goal
 
 -- behind the last slot the first one follows
 round : (start len end first size : ℕ) → end ≡ (start + len) % size → end + first ≡ size → 0 ≡ (start + (len + first)) % size
