@@ -1,5 +1,5 @@
 -- Items put at once behind the last, into slots side by side.
-use Rattle.ring_fixed.proofs.Words.{◌≡◌, ◌≢◌, ℕ, ◌+◌, ◌-◌, ◌%◌, ◌<◌, ◌≤◌, List, ◌++◌, length, get_or, Option, None, refl, sym, ap, ◌∙◌, arith, length-append, mod-lt, dec_lt, common_steps, slice_get, slice_get_cases, slice_get_past, Slots, View, after_puts, view_from, SlotsHold, items_from, IsLaidOut, LaysOut}
+use Rattle.ring_fixed.proofs.Words.{◌≡◌, ◌≢◌, ℕ, ◌+◌, ◌-◌, ◌%◌, ◌<◌, ◌≤◌, List, ◌++◌, length, get_or, None, sym, ap, ◌∙◌, arith, length-append, dec_lt, common_steps, slice_get_cases, slice_get_past, Slots, after_puts, view_from, SlotsHold, items_from, IsLaidOut, LaysOut}
 use Rattle.ring_slots.specs.Slots.{filled, with_items}
 use Rattle.ring_slots.proofs.Filled.{filled-before, filled-behind, filled-in, length-filled}
 use Rattle.ring_fixed.proofs.SlotsHold.{same_count, straight_on}
@@ -25,11 +25,11 @@ module _ {X : Type 0} {P : ℕ → Type 0} (s : Slots X) (start : ℕ) (laid_out
         elim (dec_lt p place) [
           | yes before ↦ filled-before s.slots place xs straight p before
           | no late ↦ elim (dec_lt p (place + length xs)) [
-              | no behind ↦ filled-behind s.slots place xs straight p (omega arith)
-              | yes inside ↦ let j : ℕ = p - place in let few : j < length xs = omega arith in
-                  let on = straight_on start len place (length s.slots) j (found (omega arith)) (omega arith) in let same : place + j ≡ p = omega arith in
-                  absurd (apart j few (same_count start k (len + j) (length s.slots) laid_out.start_within low (omega arith) (sym same ∙ on)))
-            ]
+            | no behind ↦ filled-behind s.slots place xs straight p (omega arith)
+            | yes inside ↦ let j : ℕ = p - place in let few : j < length xs = omega arith in
+                let on = straight_on start len place (length s.slots) j (found (omega arith)) (omega arith) in let same : place + j ≡ p = omega arith in
+                absurd (apart j few (same_count start k (len + j) (length s.slots) laid_out.start_within low (omega arith) (sym same ∙ on)))
+          ]
         ]
 
     lie : SlotsHold (filled s.slots place xs) start (items ++ xs)
@@ -39,12 +39,12 @@ module _ {X : Type 0} {P : ℕ → Type 0} (s : Slots X) (start : ℕ) (laid_out
         rw (length-filled s.slots place xs straight) (elim (dec_lt k len) [
           | yes early ↦ other k low' (λ j few same. omega arith) ∙ old ∙ grind (arith, common_steps, slice_get_cases)
           | no late ↦ elim (dec_lt k (len + length xs)) [
-              | no past ↦ other k low' (λ j few same. omega arith) ∙ old ∙ slice_get_past items k (omega arith) ∙ sym (slice_get_past (items ++ xs) k (omega (arith, length-append items xs)))
-              | yes new ↦ let j : ℕ = k - len in
-                  let on = straight_on start len place size j (found (omega arith)) (omega arith) in let is : len + j ≡ k = omega arith in
-                  ap (λ p. get_or (filled s.slots place xs) p None) (ap (λ n. (start + n) % size) (sym is) ∙ sym on)
-                  ∙ filled-in s.slots place xs straight (place + j) (omega arith) (omega arith) ∙ grind (arith, common_steps, slice_get_cases)
-            ]
+            | no past ↦ other k low' (λ j few same. omega arith) ∙ old ∙ slice_get_past items k (omega arith) ∙ sym (slice_get_past (items ++ xs) k (omega (arith, length-append items xs)))
+            | yes new ↦ let j : ℕ = k - len in
+                let on = straight_on start len place size j (found (omega arith)) (omega arith) in let is : len + j ≡ k = omega arith in
+                ap (λ p. get_or (filled s.slots place xs) p None) (ap (λ n. (start + n) % size) (sym is) ∙ sym on)
+                ∙ filled-in s.slots place xs straight (place + j) (omega arith) (omega arith) ∙ grind (arith, common_steps, slice_get_cases)
+          ]
         ])
 
     pub LaysOut-puts : (new : Slots X) → new ≡ with_items s place xs → LaysOut P s new start (after_puts xs (view_from s start))

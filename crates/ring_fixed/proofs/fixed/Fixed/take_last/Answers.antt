@@ -1,4 +1,4 @@
-use Rattle.ring_fixed.proofs.Words.{◌+◌, ◌-◌, ◌∙◌, arith, length, items_from, sym}
+use Rattle.ring_fixed.proofs.Words.{arith}
 use Rattle.ring_fixed.proofs.LaysOut.{LaysOut-pop}
 use Rattle.ring_fixed.proofs.fixed.Fixed.take_last.Goals as goal
 

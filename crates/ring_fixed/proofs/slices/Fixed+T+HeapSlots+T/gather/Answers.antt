@@ -1,4 +1,4 @@
-use Rattle.ring_fixed.proofs.Words.{◌+◌, ◌-◌, ◌∙◌, append-nil, ap, arith, length, Slots}
+use Rattle.ring_fixed.proofs.Words.{◌-◌, ◌∙◌, append-nil, ap, arith, Slots}
 use Rattle.ring_fixed.proofs.Straight.{between_empty, last_full, lowered_straight, straight_is}
 use Rattle.ring_fixed.proofs.slices.Fixed+T+HeapSlots+T.gather.Goals as goal
 
