@@ -1,5 +1,5 @@
 -- A stretch of the items of a ring that is turned in its place.
-use Rattle.ring_fixed.proofs.Words.{min, after_insert, after_pop, after_put, after_put_first, after_remove, after_take, if◌then◌else◌, set, after_swap, ◌≡◌, ◌≢◌, ℕ, zero, suc, ◌+◌, ◌-◌, ◌*◌, ◌%◌, ◌<◌, ◌≤◌, List, [], ◌∷◌, ◌++◌, Option, None, Some, add-one, append-nil, append_assoc, ap, arith, common_steps, dec_lt, drop, drop-append_seam, drop-cons, get_or, length, length-append, length-drop, length-take, map, refl, slice_get, slice_get-drop, slice_get-take, slice_get_cases, slice_get_past, sym, take, take-append-drop, take_all, take_at, turned, inl, inr, ◌∙◌, ◌⊎◌, Slots, HoldsStretch, refill, refilled, SlotsHold, items_from, view_from, IsLaidOut, LaysOut, View, length-map}
+use Rattle.ring_fixed.proofs.Words.{min, after_insert, after_pop, after_put_first, after_remove, after_take, if◌then◌else◌, set, after_swap, ◌≡◌, ◌≢◌, ℕ, zero, suc, ◌+◌, ◌-◌, ◌*◌, ◌%◌, ◌<◌, ◌≤◌, List, [], ◌∷◌, ◌++◌, Option, None, Some, add-one, append-nil, append_assoc, ap, arith, common_steps, dec_lt, drop, drop-append_seam, drop-cons, get_or, length, length-append, length-drop, length-take, map, refl, slice_get, slice_get-drop, slice_get-take, slice_get_cases, sym, take, take-append-drop, take_at, turned, inl, inr, ◌∙◌, ◌⊎◌, Slots, HoldsStretch, refilled, SlotsHold, items_from, IsLaidOut, LaysOut, View, length-map}
 use Rattle.std.proofs.Math.Seq.{drop-append-add, take-append_seam}
 use Rattle.std.proofs.lemmas.List.{get_or-append-add, set-append_right}
 use Rattle.std.proofs.lemmas.List.Edits.{swap_is}

@@ -1,4 +1,4 @@
-use Rattle.ring_fixed.proofs.Words.{◌≡◌, ◌-◌, View, IsPowerOfTwo, after_put, after_put_first, ap, arith, length, subst, view_of}
+use Rattle.ring_fixed.proofs.Words.{IsPowerOfTwo, arith, subst, view_of}
 use Rattle.ring_fixed.proofs.Turns.{ChangesTo-then}
 use Rattle.ring_fixed.proofs.TurnedWithin.{after_insert-first}
 use Rattle.ring_fixed.specs.View.{after_turn_within}

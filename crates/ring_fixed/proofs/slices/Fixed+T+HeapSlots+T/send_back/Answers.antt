@@ -1,4 +1,4 @@
-use Rattle.ring_fixed.proofs.Words.{◌≡◌, ◌+◌, ◌-◌, ◌<◌, View, IsPowerOfTwo, ap, arith, items_from, length, subst, view_of}
+use Rattle.ring_fixed.proofs.Words.{◌+◌, ◌-◌, View, IsPowerOfTwo, ap, arith, items_from, length, subst, view_of}
 use Rattle.std.proofs.lemmas.List.Edits.{length-swap}
 use Rattle.ring_fixed.proofs.Turns.{ChangesTo-then}
 use Rattle.ring_fixed.proofs.TurnedWithin.{after_turn_within-back, length-turned_within}

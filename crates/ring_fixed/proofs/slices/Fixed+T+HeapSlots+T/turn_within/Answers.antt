@@ -1,4 +1,4 @@
-use Rattle.ring_fixed.proofs.Words.{LaysOut, ◌≡◌, ◌+◌, ◌*◌, ◌-◌, ◌≤◌, ◌++◌, ◌∙◌, View, IsPowerOfTwo, ap, arith, drop, items_from, length, length-drop, length-take, subst, sym, take, turned, view_of}
+use Rattle.ring_fixed.proofs.Words.{LaysOut, ◌≡◌, ◌+◌, ◌*◌, ◌≤◌, ◌++◌, ◌∙◌, View, IsPowerOfTwo, ap, arith, drop, items_from, length, length-drop, length-take, subst, sym, take, turned, view_of}
 use Rattle.ring_fixed.proofs.LaysOut.{LaysOut-none}
 use Rattle.ring_fixed.proofs.Stretches.{stretch_is}
 use Rattle.ring_fixed.proofs.TurnedWithin.{LaysOut-within, after_turn_within-none, length-shown, stretch_within}
