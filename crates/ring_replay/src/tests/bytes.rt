@@ -97,10 +97,10 @@ fn text<M: Maker<char>>(player: &mut Player<M>) -> Result<String, AllocError> {
 impl<const CAP: usize> PlayedBytes for ConstGenericRingBuffer<u8, CAP> {
     fn play_bytes<M: Maker<u8> + Maker<char>>(&mut self, player: &mut Player<M>) -> Done {
         match player.up_to(11) {
-            0 => *self = keep_last(self.clone()?, player)?,
-            1 => {
+            1 => *self = keep_last(self.clone()?, player)?,
+            0 => {
                 let text = text(player)?;
-                if self.is_empty() {
+                if CAP == 0 || text.is_empty() {
                     return Ok(());
                 }
                 let made = if player.flip() {
@@ -119,8 +119,8 @@ impl<const CAP: usize> PlayedBytes for ConstGenericRingBuffer<u8, CAP> {
 impl PlayedBytes for AllocRingBuffer<u8> {
     fn play_bytes<M: Maker<u8> + Maker<char>>(&mut self, player: &mut Player<M>) -> Done {
         match player.up_to(11) {
-            0 => *self = keep_last(self.clone()?, player)?,
-            1 => {
+            1 => *self = keep_last(self.clone()?, player)?,
+            0 => {
                 let text = text(player)?;
                 if text.is_empty() {
                     return Ok(());
@@ -144,6 +144,9 @@ impl PlayedBytes for GrowableAllocRingBuffer<u8> {
             return play_stream(self, player);
         }
         let text = text(player)?;
+        if text.is_empty() {
+            return Ok(());
+        }
         let made = if player.flip() {
             GrowableAllocRingBuffer::from_text(player.alloc, &text)?
         } else {

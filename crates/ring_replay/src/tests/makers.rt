@@ -1,5 +1,7 @@
 //! Rings that are made of other collections, and of each other.
 
+ghost use Rattle.std.specs.Prelude.{All, IsSome};
+
 use super::items::Maker;
 use super::player::{Done, Player};
 use ringbuffer::{
@@ -36,6 +38,13 @@ fn list<T: Drop, M: Maker<T>>(player: &mut Player<M>) -> Result<LinkedList<T>, A
     Ok(items)
 }
 
+// Draws three items, as `from_array` takes them.
+fn some_three<T: Drop, M: Maker<T>>(player: &mut Player<M>) -> [Option<T>; 3]
+    ensures { All IsSome result }
+{
+    [Some(player.item()), Some(player.item()), Some(player.item())]
+}
+
 // Draws three items.
 fn three<T: Drop, M: Maker<T>>(player: &mut Player<M>) -> [T; 3] {
     [player.item(), player.item(), player.item()]
@@ -44,45 +53,45 @@ fn three<T: Drop, M: Maker<T>>(player: &mut Player<M>) -> [T; 3] {
 // Makers that heap rings and growable rings share, of three items.
 macro_rules! play_three {
     ($type:ident, $player:expr) => {{
-        let (alloc, mut items) = ($player.alloc, three($player));
-        match $player.up_to(4) {
-            0 => {
-                let [a, b, c] = items;
-                try_out($type::from_array(alloc, [Some(a), Some(b), Some(c)])?, $player)
-            }
-            1 => try_out($type::from_array_ref(alloc, &items)?, $player),
-            2 => try_out($type::from_mut_array(alloc, &mut items)?, $player),
-            3 => try_out($type::from_slice(alloc, &items)?, $player),
-            _ => try_out($type::from_mut_slice(alloc, &mut items)?, $player),
-        }
+        let alloc = $player.alloc;
+        let made = match $player.up_to(4) {
+            0 => $type::from_array(alloc, some_three($player))?,
+            1 => $type::from_array_ref(alloc, &three($player))?,
+            2 => $type::from_mut_array(alloc, &mut three($player))?,
+            3 => $type::from_slice(alloc, &three($player))?,
+            _ => $type::from_mut_slice(alloc, &mut three($player))?,
+        };
+        try_out(made, $player)
     }};
 }
 
-// Makers of array rings of three items.
-fn play_array_of_three<T: Clone + Drop, M: Maker<T>>(player: &mut Player<M>) -> Done {
-    let mut items = three(player);
-    let made: ConstGenericRingBuffer<T, 3> = match player.up_to(2) {
-        0 => {
-            let [a, b, c] = items;
-            ConstGenericRingBuffer::from_array([Some(a), Some(b), Some(c)])
-        }
-        1 => ConstGenericRingBuffer::from_array_ref(&items)?,
-        _ => ConstGenericRingBuffer::from_mut_array(&mut items)?,
-    };
-    try_out(made, player)
+// Makes an array ring of three items.
+fn array_of_three<T: Clone + Drop, M: Maker<T>>(
+    player: &mut Player<M>,
+) -> Result<ConstGenericRingBuffer<T, 3>, AllocError> {
+    match player.up_to(2) {
+        0 => Ok(ConstGenericRingBuffer::from_array(some_three(player))),
+        1 => ConstGenericRingBuffer::from_array_ref(&three(player)),
+        _ => ConstGenericRingBuffer::from_mut_array(&mut three(player)),
+    }
 }
 
 impl<T: Clone + Drop, const CAP: usize> Made<T> for ConstGenericRingBuffer<T, CAP> {
     fn play_makers<M: Maker<T>>(&mut self, player: &mut Player<M>) -> Done {
         let (alloc, call) = (player.alloc, player.up_to(9));
         if call == 9 {
-            return play_array_of_three(player);
+            return try_out(array_of_three(player)?, player);
         }
-        if self.is_empty() {
+        if CAP == 0 {
             return Ok(());
         }
         match call {
-            0 => return try_out(AllocRingBuffer::from_const(alloc, self.clone()?)?, player),
+            0 => {
+                if !self.is_empty() {
+                    let made = AllocRingBuffer::from_const(alloc, self.clone()?)?;
+                    return try_out(made, player);
+                }
+            }
             1 => {
                 let made = GrowableAllocRingBuffer::from_const(alloc, self.clone()?)?;
                 return try_out(made, player);
