@@ -276,7 +276,9 @@ pub fn deque(work: Work, capacity: usize, items: usize) -> u64 {
             let half: Vec<u64> = ring.iter().take(capacity / 2).copied().collect();
             (0..rounds).for_each(|_| sum = sum.wrapping_add(straighten(&mut ring, &half)));
         }
-        Work::PushOwned | Work::PushDequeueOwned | Work::RefillOwned | Work::TryRefill => unreachable!("not of a deque"),
+        Work::PushOwned | Work::PushDequeueOwned | Work::RefillOwned | Work::TryRefill | Work::Make => {
+            unreachable!("not of a deque")
+        }
         Work::Undo => sum = undo(&mut ring, capacity, items),
         Work::Least | Work::LeastRising | Work::LeastFalling | Work::Product => {
             return sliding::by_hand(work, capacity, items);

@@ -60,6 +60,7 @@ const FRONTS: [&str; 4] = ["array", "heap", "growable", "VecDeque"];
 const TRIES: [&str; 2] = ["array", "heap"];
 const COPIES: [&str; 5] = ["array", "heap", "growable", "VecDeque", "limit"];
 const SLICES: [&str; 4] = ["heap", "growable", "VecDeque", "limit"];
+const MADE: [&str; 6] = ["array", "Rust array", "heap", "Rust heap", "growable", "Rust growable"];
 const STREAMS: [&str; 3] = ["heap", "VecDeque", "limit"];
 
 /// The contenders at windows with their least sample or their product. `VecDeque` keeps pairs of them, or two stacks, by hand.
@@ -83,6 +84,8 @@ impl Contender {
             Work::Straighten => SLICES.contains(&name),
             Work::ToVecCopied => SLICES.contains(&name) || RIVALS.contains(&name),
             Work::Stream => capacity == pipe::CAPACITY && STREAMS.contains(&name),
+            // An array of many items doesn't fit the stack.
+            Work::Make => MADE.contains(&name) && (capacity <= 1024 || !name.ends_with("array")),
             // An extension from a source: `circular_buffer` has none, and a deque would outgrow its capacity.
             Work::Reextend => name != ANEW && !RIVALS.contains(&name),
             _ => name != ANEW,
@@ -118,10 +121,14 @@ const BYTES: usize = ITEMS << 5;
 /// An item takes as many steps here as the ring holds.
 const EXCHANGES: usize = 1 << 9;
 
+/// How many rings are made.
+const RINGS: usize = 1 << 10;
+
 fn items(work: Work, capacity: usize) -> usize {
     match work {
         Work::Pipe | Work::Stream => BYTES,
         Work::Exchange => EXCHANGES,
+        Work::Make => RINGS,
         _ => ITEMS.max(capacity),
     }
 }
@@ -130,6 +137,7 @@ fn items(work: Work, capacity: usize) -> usize {
 fn counted(work: Work, capacity: usize) -> usize {
     match work {
         Work::Exchange => EXCHANGES,
+        Work::Make => RINGS,
         _ => capacity.max(65536),
     }
 }

@@ -276,9 +276,37 @@ fn outcome<R: RingBuffer<u64>>(ring: &R) -> u64 {
     ring.back().map_or(0, |newest| *newest)
 }
 
+fn use_once<R: RingBuffer<u64>>(mut ring: R, item: u64) -> u64 {
+    push_one(&mut ring, item);
+    outcome(&ring)
+}
+
+#[inline(never)]
+fn make_array<const CAP: usize>(item: u64) -> u64 {
+    use_once(ConstGenericRingBuffer::<u64, CAP>::new::<CAP>(), item)
+}
+
+#[inline(never)]
+fn make_heap(capacity: usize, item: u64) -> u64 {
+    use_once(AllocRingBuffer::new(capacity), item)
+}
+
+#[inline(never)]
+fn make_growable(capacity: usize, item: u64) -> u64 {
+    use_once(GrowableAllocRingBuffer::with_capacity(capacity), item)
+}
+
+/// Makes rings in turn, each of which takes in an item and is dropped.
+fn make(rings: usize, one: impl Fn(u64) -> u64) -> u64 {
+    (0..rings).fold(0, |sum, number| sum.wrapping_add(one(number as u64)))
+}
+
 pub fn array(work: Work, capacity: usize, items: usize) -> u64 {
-    if let Work::Slide = work {
-        return slide_on_array(capacity, items);
+    match (work, capacity) {
+        (Work::Slide, _) => return slide_on_array(capacity, items),
+        (Work::Make, 8) => return make(items, make_array::<8>),
+        (Work::Make, 1024) => return make(items, make_array::<1024>),
+        _ => {}
     }
     match capacity {
         7 => on_fixed(ConstGenericRingBuffer::<u64, 7>::new(), work, 7, items),
@@ -293,13 +321,16 @@ pub fn heap(work: Work, capacity: usize, items: usize) -> u64 {
     match work {
         Work::Slide => slide(AllocRingBuffer::new(capacity), capacity, items),
         Work::Pipe => through_pipe(capacity, items),
+        Work::Make => make(items, |item| make_heap(capacity, item)),
         _ => on_fixed(AllocRingBuffer::new(capacity), work, capacity, items),
     }
 }
 
 pub fn growable(work: Work, capacity: usize, items: usize) -> u64 {
-    if let Work::Slide = work {
-        return slide(GrowableAllocRingBuffer::with_capacity(capacity), capacity, items);
+    match work {
+        Work::Slide => return slide(GrowableAllocRingBuffer::with_capacity(capacity), capacity, items),
+        Work::Make => return make(items, |item| make_growable(capacity, item)),
+        _ => {}
     }
     let mut ring = GrowableAllocRingBuffer::with_capacity(capacity);
     push(&mut ring, capacity);

@@ -8,6 +8,9 @@ const CAPACITIES: [usize; 4] = [7, 1000, 1024, 65536];
 /// The capacities at which items move to lie in one slice: powers of two up to far beyond the cache.
 const STRAIGHTENED: [usize; 4] = [1 << 10, 1 << 16, 1 << 20, 1 << 23];
 
+/// Those at which rings are made and dropped.
+const MADE: [usize; 3] = [8, 1024, 1 << 20];
+
 /// Those at which items leave and come at an index, which takes as many steps as the ring holds.
 const EXCHANGED: [usize; 2] = [1000, 65536];
 
@@ -46,10 +49,11 @@ pub enum Work {
     Straighten,
     Stream,
     ToVecCopied,
+    Make,
 }
 
 impl Work {
-    pub const ALL: [Work; 32] = [
+    pub const ALL: [Work; 33] = [
         Work::Push,
         Work::PushCall,
         Work::PushDequeue,
@@ -82,6 +86,7 @@ impl Work {
         Work::Straighten,
         Work::Stream,
         Work::ToVecCopied,
+        Work::Make,
     ];
 
     /// The capacities that it is measured at.
@@ -89,6 +94,7 @@ impl Work {
         match self {
             Work::Straighten => &STRAIGHTENED,
             Work::Exchange => &EXCHANGED,
+            Work::Make => &MADE,
             _ => &CAPACITIES,
         }
     }
@@ -127,6 +133,7 @@ impl Work {
             Work::Straighten => "extend by half and make contiguous",
             Work::Stream => "bytes read and written",
             Work::ToVecCopied => "to_vec_copied",
+            Work::Make => "make, push one and drop",
         }
     }
 }

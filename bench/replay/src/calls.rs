@@ -3,6 +3,7 @@
 use crate::items::Item;
 use crate::player::Player;
 use crate::rings::Played;
+use crate::{both_ends, commands, picking};
 use ringbuffer::RingBuffer;
 
 /// Pushes and takes, so that the items may begin at any slot.
@@ -15,30 +16,33 @@ pub fn rotate<'a, T: Item<'a>, R: RingBuffer<T>>(ring: &mut R, player: &mut Play
 
 /// Makes a call.
 pub fn play<'a, T: Item<'a>, R: Played<'a, T>>(ring: &mut R, player: &mut Player<'a>) {
-    match player.up_to(9) {
+    match player.up_to(13) {
         0..=3 => put(ring, player),
         4..=5 => take(ring, player),
         6 => read(ring, player),
         7 => write(ring, player),
+        8 => both_ends::play(ring, player),
+        9 => picking::play(ring, player),
+        10 => commands::play(ring, player),
+        11 => ring.play_makers(player),
         _ => ring.play_own(player),
     }
 }
 
 fn put<'a, T: Item<'a>, R: Played<'a, T>>(ring: &mut R, player: &mut Player<'a>) {
     let item = player.item();
-    let call = player.up_to(15);
-    if call == 0 {
+    if player.up_to(15) == 0 {
         ring.extend(player.items());
-        return;
+    } else {
+        push(ring, item, player);
     }
-    // The crate's pushes return nothing.
+}
+
+/// Pushes an item, and notes what gives way for it. The crate's pushes return nothing.
+pub fn push<'a, T: Item<'a>, R: Played<'a, T>>(ring: &mut R, item: T, player: &mut Player<'a>) {
     let gives_way = R::IS_FIXED && ring.is_full();
     player.note_item(if gives_way { ring.front() } else { None });
-    if call <= 3 {
-        ring.enqueue(item);
-    } else {
-        ring.push(item);
-    }
+    ring.enqueue(item);
 }
 
 fn take<'a, T: Item<'a>, R: RingBuffer<T>>(ring: &mut R, player: &mut Player<'a>) {
@@ -65,15 +69,19 @@ fn read<'a, T: Item<'a>, R: RingBuffer<T>>(ring: &R, player: &mut Player<'a>) {
         3 => player.note_item(ring.front()),
         4 => player.note_item(ring.back()),
         5 => player.note(ring.is_empty() as u64),
-        6 => walk(ring, player),
+        6 => walk(ring.iter(), ring.len(), player),
         7 => pass(ring, player),
         _ => player.note_each(&ring.to_vec()),
     }
 }
 
-// Takes steps from both ends. The crate's `len` is one too many after a step from the front.
-fn walk<'a, T: Item<'a>, R: RingBuffer<T>>(ring: &R, player: &mut Player<'a>) {
-    let (mut walk, mut left) = (ring.iter(), ring.len());
+/// Takes steps of a walk over this many items, from both ends. The `len` of the crate's walks is one too many after a step
+/// from the front.
+pub fn walk<'a, 'i, T: Item<'a> + 'i>(
+    mut walk: impl DoubleEndedIterator<Item = &'i T>,
+    mut left: usize,
+    player: &mut Player<'a>,
+) {
     for _ in 0..player.some() {
         player.note(left as u64);
         let is_next = player.flip();

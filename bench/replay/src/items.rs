@@ -1,5 +1,6 @@
 //! The kinds of items, each made of a number.
 
+use crate::bytes;
 use crate::calls::play;
 use crate::player::Player;
 use crate::rings::Played;
@@ -11,6 +12,11 @@ pub trait Item<'a>: Clone {
 
     /// Reads all of the item.
     fn read(&self) -> u64;
+
+    /// Returns what grows with the number, of numbers up to 250.
+    fn rank(&self) -> u64 {
+        self.read()
+    }
 
     /// Makes a call that copies or compares items, where they can be, and otherwise any.
     fn play_more<R: Played<'a, Self>>(ring: &mut R, player: &mut Player<'a>) {
@@ -44,8 +50,36 @@ impl<'a> Item<'a> for () {
     }
 }
 
+impl<'a> Item<'a> for u8 {
+    fn make(number: u64, _tally: &'a Tally) -> u8 {
+        (number % 256) as u8
+    }
+
+    fn read(&self) -> u64 {
+        u64::from(*self)
+    }
+
+    fn play_more<R: Played<'a, u8>>(ring: &mut R, player: &mut Player<'a>) {
+        if player.flip() {
+            ring.play_copies(player);
+        } else {
+            bytes::play(ring, player);
+        }
+    }
+}
+
+impl<'a> Item<'a> for char {
+    fn make(number: u64, _tally: &'a Tally) -> char {
+        char::from_u32((number % 1000) as u32 * 120).unwrap_or('?')
+    }
+
+    fn read(&self) -> u64 {
+        u64::from(*self)
+    }
+}
+
 /// An item of 320 bytes.
-#[derive(Clone, Copy, PartialEq, PartialOrd)]
+#[derive(Clone, Copy, Debug, PartialEq, Eq, PartialOrd, Ord, Hash)]
 pub struct Wide {
     words: [u64; 40],
 }
@@ -63,6 +97,10 @@ impl<'a> Item<'a> for Wide {
 
     fn read(&self) -> u64 {
         self.words.iter().fold(0, |read: u64, word| read.wrapping_mul(31).wrapping_add(*word))
+    }
+
+    fn rank(&self) -> u64 {
+        self.words[1]
     }
 
     fn play_more<R: Played<'a, Wide>>(ring: &mut R, player: &mut Player<'a>) {

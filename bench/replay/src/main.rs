@@ -1,8 +1,14 @@
 //! Plays the runs that `crates/ring_replay` plays, on the crate's rings, and prints its file of digests.
 
+mod both_ends;
+mod bytes;
 mod calls;
+mod commands;
+mod comparing;
 mod items;
+mod makers;
 mod model;
+mod picking;
 mod player;
 mod rings;
 
@@ -68,6 +74,7 @@ fn main() {
     replay_all::<()>(&mut digests, &Tally::default());
     replay_all::<Wide>(&mut digests, &Tally::default());
     replay_all::<Counted>(&mut digests, &Tally::default());
+    replay_all::<u8>(&mut digests, &Tally::default());
 
     println!("//! Written by `bench/replay/run`. Do not edit.\n");
     println!("/// Runs are numbered from one. The draws of each begin at this seed and its number.");

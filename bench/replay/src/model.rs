@@ -1,7 +1,7 @@
 //! A fixed ring over a `VecDeque`, for items of no size: the crate asks for a block of no bytes for them.
 
-use ringbuffer::{GrowableAllocRingBuffer, RingBuffer};
-use std::collections::{vec_deque, VecDeque};
+use ringbuffer::{ConstGenericRingBuffer, GrowableAllocRingBuffer, RingBuffer};
+use std::collections::{vec_deque, LinkedList, VecDeque};
 use std::ops::{Index, IndexMut};
 
 #[derive(Clone, PartialEq)]
@@ -16,11 +16,42 @@ impl<T> Model<T> {
     }
 }
 
-impl<T> From<GrowableAllocRingBuffer<T>> for Model<T> {
-    fn from(mut ring: GrowableAllocRingBuffer<T>) -> Model<T> {
-        let items: VecDeque<T> = ring.drain().collect();
+impl<T: Clone> Model<T> {
+    // Makes a model of a source's items, whose number is the capacity.
+    fn of(source: impl Iterator<Item = T>) -> Model<T> {
+        let items: VecDeque<T> = source.collect();
         let capacity = items.len();
         Model { items, capacity }
+    }
+}
+
+macro_rules! made_of {
+    ($($source:ty)*) => {$(
+        impl<T: Clone> From<$source> for Model<T> {
+            fn from(source: $source) -> Model<T> {
+                Model::of(source.into_iter().map(|item| item.clone()))
+            }
+        }
+    )*};
+}
+
+made_of!(Vec<T> VecDeque<T> LinkedList<T> GrowableAllocRingBuffer<T> &[T] &mut [T] [T; 3] &[T; 3] &mut [T; 3]);
+
+impl<T: Clone, const CAP: usize> From<ConstGenericRingBuffer<T, CAP>> for Model<T> {
+    fn from(ring: ConstGenericRingBuffer<T, CAP>) -> Model<T> {
+        Model::of(ring.into_iter())
+    }
+}
+
+impl<T, const CAP: usize> From<Model<T>> for ConstGenericRingBuffer<T, CAP> {
+    fn from(ring: Model<T>) -> ConstGenericRingBuffer<T, CAP> {
+        ring.items.into()
+    }
+}
+
+impl<T> From<Model<T>> for GrowableAllocRingBuffer<T> {
+    fn from(ring: Model<T>) -> GrowableAllocRingBuffer<T> {
+        ring.items.into()
     }
 }
 

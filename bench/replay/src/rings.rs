@@ -2,24 +2,39 @@
 //! wrongly.
 
 use crate::calls::fill;
+use crate::comparing;
 use crate::items::Item;
+use crate::makers;
 use crate::model::Model;
 use crate::player::Player;
 use ringbuffer::{AllocRingBuffer, ConstGenericRingBuffer, GrowableAllocRingBuffer, RingBuffer};
 use std::collections::VecDeque;
+use std::fmt::Debug;
+use std::hash::Hash;
 use std::mem::size_of;
+
+/// What items are that are copied, compared, hashed and printed too.
+pub trait Plain: Copy + Default + Ord + Hash + Debug {}
+
+impl<T: Copy + Default + Ord + Hash + Debug> Plain for T {}
 
 /// A ring of the crate, or one beside it.
 pub trait Played<'a, T: Item<'a>>: RingBuffer<T> + Clone {
     /// Whether the ring has a limit.
     const IS_FIXED: bool = true;
 
+    /// A ring of the same kind, for characters.
+    type Letters: Played<'a, char> + for<'s> From<&'s str> + From<String>;
+
     fn play_own(&mut self, player: &mut Player<'a>);
+
+    /// Makes a ring of a collection, or one of another type.
+    fn play_makers(&mut self, player: &mut Player<'a>);
 
     /// Makes a call that copies items, or compares them.
     fn play_copies(&mut self, player: &mut Player<'a>)
     where
-        T: Copy + Default + PartialOrd;
+        T: Plain;
 
     /// Does to the items what is done to a `VecDeque`.
     fn as_deque<A>(&mut self, change: impl FnOnce(&mut VecDeque<T>) -> A) -> A {
@@ -49,6 +64,12 @@ pub trait Played<'a, T: Item<'a>>: RingBuffer<T> + Clone {
 }
 
 impl<'a, T: Item<'a>, const CAP: usize> Played<'a, T> for ConstGenericRingBuffer<T, CAP> {
+    type Letters = ConstGenericRingBuffer<char, CAP>;
+
+    fn play_makers(&mut self, player: &mut Player<'a>) {
+        makers::play_array(self, player);
+    }
+
     fn play_own(&mut self, player: &mut Player<'a>) {
         match player.up_to(15) {
             0..=6 => play_ends(self, player),
@@ -63,15 +84,20 @@ impl<'a, T: Item<'a>, const CAP: usize> Played<'a, T> for ConstGenericRingBuffer
 
     fn play_copies(&mut self, player: &mut Player<'a>)
     where
-        T: Copy + Default + PartialOrd,
+        T: Plain,
     {
-        play_copies(self, player);
+        match player.up_to(2) {
+            0..=1 => play_copies(self, player),
+            _ => comparing::play(self, player),
+        }
     }
 }
 
 macro_rules! played_on_the_heap {
     ($type:ident) => {
         impl<'a, T: Item<'a>> Played<'a, T> for $type<T> {
+            type Letters = AllocRingBuffer<char>;
+
             fn play_own(&mut self, player: &mut Player<'a>) {
                 match player.up_to(15) {
                     0..=5 => play_ends(self, player),
@@ -92,11 +118,24 @@ macro_rules! played_on_the_heap {
                 }
             }
 
+            fn play_makers(&mut self, player: &mut Player<'a>) {
+                makers::play_heap(self, player);
+            }
+
             fn play_copies(&mut self, player: &mut Player<'a>)
             where
-                T: Copy + Default + PartialOrd,
+                T: Plain,
             {
-                play_copies(self, player);
+                match player.up_to(8) {
+                    0..=3 => play_copies(self, player),
+                    4..=6 => comparing::play(self, player),
+                    7 => player.note_each(&self.to_vec()),
+                    _ => {
+                        let mut twin = Self::new(player.up_to(299) + 1);
+                        twin.extend(self.to_vec());
+                        comparing::compare(&twin, self, player);
+                    }
+                }
             }
         }
     };
@@ -107,6 +146,12 @@ played_on_the_heap!(Model);
 
 impl<'a, T: Item<'a>> Played<'a, T> for GrowableAllocRingBuffer<T> {
     const IS_FIXED: bool = false;
+
+    type Letters = GrowableAllocRingBuffer<char>;
+
+    fn play_makers(&mut self, player: &mut Player<'a>) {
+        makers::play_growable(self, player);
+    }
 
     fn play_own(&mut self, player: &mut Player<'a>) {
         match player.up_to(7) {
@@ -129,9 +174,18 @@ impl<'a, T: Item<'a>> Played<'a, T> for GrowableAllocRingBuffer<T> {
 
     fn play_copies(&mut self, player: &mut Player<'a>)
     where
-        T: Copy + Default + PartialOrd,
+        T: Plain,
     {
-        play_copies(self, player);
+        match player.up_to(8) {
+            0..=3 => play_copies(self, player),
+            4..=6 => comparing::play(self, player),
+            7 => player.note_each(&self.to_vec()),
+            _ => {
+                player.note_item(VecDeque::back(self));
+                player.note_item(VecDeque::get(self, 1));
+                player.write(VecDeque::front_mut(self));
+            }
+        }
     }
 
     // The crate's writing positions don't wrap.
@@ -239,7 +293,7 @@ fn play_slices<'a, T: Item<'a>, R: Played<'a, T>>(ring: &mut R, player: &mut Pla
 
 fn play_copies<'a, T, R>(ring: &mut R, player: &mut Player<'a>)
 where
-    T: Item<'a> + Copy + Default + PartialOrd,
+    T: Item<'a> + Plain,
     R: Played<'a, T> + PartialEq,
 {
     let (mut items, item): (Vec<T>, T) = (player.items(), player.item());

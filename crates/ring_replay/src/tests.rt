@@ -2,12 +2,19 @@
 //! up in a digest after every 64 of them, and compared with that of the Rust crate's ring, or of a `VecDeque` where that
 //! crate is at fault or lacks the call (`bench/replay`).
 
+mod both_ends;
+mod bytes;
 mod calls;
+mod commands;
+mod comparing;
 mod digests;
 mod items;
+mod makers;
+mod picking;
 mod player;
 mod rings;
 
+use bytes::PlayedBytes;
 use digests::{BLOCKS, DIGESTS};
 use items::{Counted, Maker, Tally, Values, Wide};
 use player::Player;
@@ -85,7 +92,7 @@ fn assert_agrees<T: Clone + Drop, M: Maker<T>, R: Played<T>>(
 }
 
 /// Plays a run of a ring whose items can't be copied.
-fn replay<T: Clone + Drop, M: Maker<T> + Drop, R: Played<T> + Drop>(
+fn replay<T: Clone + Drop, M: Maker<T> + Drop, R: Played<T>>(
     rt: &(impl Abort + AllocGlobal),
     maker: M,
     mut ring: R,
@@ -100,8 +107,30 @@ fn replay<T: Clone + Drop, M: Maker<T> + Drop, R: Played<T> + Drop>(
     }
 }
 
+/// Plays a run of a ring of bytes. Every fourth call copies or compares some, or reads or writes a stream.
+fn replay_bytes<R: PlayedBytes>(
+    rt: &(impl Abort + AllocGlobal),
+    maker: Values,
+    mut ring: R,
+    run: Run,
+) {
+    let mut player = begin::<u8, Values, R>(&mut ring, run, maker, rt.alloc());
+    for block in 0..BLOCKS {
+        for call in 1..65u8 {
+            if call % 4 != 0 {
+                calls::play(&mut ring, &mut player).expect(rt, "memory");
+            } else if player.flip() {
+                ring.play_copies(&mut player).expect(rt, "memory");
+            } else {
+                ring.play_bytes(&mut player).expect(rt, "memory");
+            }
+        }
+        assert_agrees::<u8, Values, R>(rt, &ring, &mut player, run, block);
+    }
+}
+
 /// Plays a run of a ring whose items can. Every fourth call copies or compares some.
-fn replay_copies<T: Plain, M: Maker<T> + Drop, R: PlayedCopies<T> + Drop>(
+fn replay_copies<T: Plain, M: Maker<T> + Drop, R: PlayedCopies<T>>(
     rt: &(impl Abort + AllocGlobal),
     maker: M,
     mut ring: R,
@@ -136,7 +165,7 @@ macro_rules! on_arrays {
 
 /// Plays the runs of a kind of items.
 macro_rules! replay_all {
-    ($rt:expr, $items:literal, $first:literal, $replay:ident::<$type:ty>, $maker:expr) => {
+    ($rt:expr, $items:literal, $first:literal, $replay:ident, $type:ty, $maker:expr) => {
         let mut run = Run::before($first, $items);
         on_arrays!($rt, run, $replay, $type, $maker, 1 2 3 4 5 7 8 16 31 64 100 300);
         for capacity in CAPACITIES {
@@ -155,21 +184,26 @@ macro_rules! replay_all {
 
 #[test]
 fn rings_of_numbers(rt: HostRuntime) {
-    replay_all!(&rt, "u64", 0, replay_copies::<u64>, Values);
+    replay_all!(&rt, "u64", 0, replay_copies, u64, Values);
 }
 
 #[test]
 fn rings_of_nothings(rt: HostRuntime) {
-    replay_all!(&rt, "()", 80, replay_copies::<()>, Values);
+    replay_all!(&rt, "()", 80, replay_copies, (), Values);
 }
 
 #[test]
 fn rings_of_wide_items(rt: HostRuntime) {
-    replay_all!(&rt, "320 bytes", 160, replay_copies::<Wide>, Values);
+    replay_all!(&rt, "320 bytes", 160, replay_copies, Wide, Values);
 }
 
 #[test]
 fn rings_of_counted_items(rt: HostRuntime) {
     let tally = Tally::new();
-    replay_all!(&rt, "counted", 240, replay::<Counted<'_>>, &tally);
+    replay_all!(&rt, "counted", 240, replay, Counted<'_>, &tally);
+}
+
+#[test]
+fn rings_of_bytes(rt: HostRuntime) {
+    replay_all!(&rt, "u8", 320, replay_bytes, u8, Values);
 }

@@ -7,12 +7,14 @@
 //! their least sample or their product: the others return 0 for it.
 #![tactic(auto)]
 
+mod making;
 mod own;
 mod pipes;
 mod rings;
 mod windows;
 mod work;
 
+use making::{make_arrays, make_growables, make_heaps};
 use pipes::on_heap_pipe;
 use ringbuffer::ConstGenericRingBuffer;
 use rings::{on_fixed, on_growable, on_heap};
@@ -22,7 +24,7 @@ use windows::{
 };
 use work::{Series, Work};
 
-/// Work on an array ring. The capacity is 7, 1000, 1024 or 65536.
+/// Work on an array ring. The capacity is 7, 1000, 1024 or 65536, of rings that are made and dropped 8 or 1024.
 #[unsafe(no_mangle)]
 pub extern "C" fn ring_workloads_array(
     alloc: Global,
@@ -35,6 +37,7 @@ pub extern "C" fn ring_workloads_array(
     };
     match work {
         Work::Slide => return on_array_window(capacity, items),
+        Work::Make => return make_arrays(capacity, items),
         Work::Pipe
         | Work::Stream
         | Work::Least
@@ -89,6 +92,7 @@ pub extern "C" fn ring_workloads_heap(
 ) -> u64 {
     match Work::numbered(work) {
         Some(Work::Slide) if capacity > 0 => { on_heap_window(alloc, capacity, items).unwrap_or(0) }
+        Some(Work::Make) if capacity > 0 => make_heaps(alloc, capacity, items),
         Some(work @ (Work::Pipe | Work::Stream)) if capacity > 0 => {
             on_heap_pipe(alloc, work, capacity, items).unwrap_or(0)
         }
@@ -121,6 +125,7 @@ pub extern "C" fn ring_workloads_growable(
         Some(Work::Slide) if capacity > 0 => {
             on_growable_window(alloc, capacity, items).unwrap_or(0)
         }
+        Some(Work::Make) => make_growables(alloc, capacity, items),
         Some(
             Work::Pipe
             | Work::Stream

@@ -77,6 +77,8 @@ pub enum Work {
     Stream,
     /// Vectors made of a full ring, by copies.
     ToVecCopied,
+    /// Rings that are made, take in an item, and are dropped.
+    Make,
 }
 
 impl Work {
@@ -115,6 +117,7 @@ impl Work {
             29 => Some(Work::Straighten),
             30 => Some(Work::Stream),
             31 => Some(Work::ToVecCopied),
+            32 => Some(Work::Make),
             _ => None,
         }
     }

@@ -1,6 +1,9 @@
 //! The calls of the trait, and of the walks.
 
+use super::both_ends;
+use super::commands;
 use super::items::Maker;
+use super::picking;
 use super::player::{Done, Player};
 use super::rings::Played;
 use ringbuffer::{
@@ -24,11 +27,15 @@ pub fn play<T: Clone + Drop, M: Maker<T>, R: Played<T>>(
     ring: &mut R,
     player: &mut Player<M>,
 ) -> Done {
-    match player.up_to(9) {
+    match player.up_to(13) {
         0..=3 => put(ring, player)?,
         4..=5 => take(ring, player),
         6 => read(ring, player)?,
         7 => write(ring, player),
+        8 => both_ends::play(ring, player)?,
+        9 => picking::play(ring, player)?,
+        10 => commands::play(ring, player)?,
+        11 => ring.play_makers(player)?,
         _ => ring.play_own(player)?,
     }
     Ok(())
@@ -84,8 +91,8 @@ fn read<T: Clone + Drop, M: Maker<T>, R: RingBuffer<T>>(ring: &R, player: &mut P
     Ok(())
 }
 
-// Takes steps from both ends.
-fn walk<T: Clone + Drop, M: Maker<T>, R: RingBuffer<T>>(
+/// Takes steps of a walk from both ends.
+pub fn walk<T: Clone + Drop, M: Maker<T>, R: RingBuffer<T>>(
     walk: &mut RingBufferIterator<'_, T, R>,
     player: &mut Player<M>,
 ) {

@@ -10,6 +10,11 @@ pub trait Maker<T> {
     /// Reads all of an item.
     fn read(&self, item: &T) -> u64;
 
+    /// Returns what grows with the number, of numbers up to 250.
+    fn rank(&self, item: &T) -> u64 {
+        self.read(item)
+    }
+
     /// Returns how many items were made and not dropped, and the sum of their numbers, if it counts them.
     fn alive(&self) -> (u64, u64) {
         (0, 0)
@@ -38,8 +43,28 @@ impl Maker<()> for Values {
     }
 }
 
+impl Maker<u8> for Values {
+    fn make(&self, number: u64) -> u8 {
+        (number % 256) as u8
+    }
+
+    fn read(&self, item: &u8) -> u64 {
+        u64::from(*item)
+    }
+}
+
+impl Maker<char> for Values {
+    fn make(&self, number: u64) -> char {
+        char::from_u32((number % 1000) as u32 * 120).unwrap_or('?')
+    }
+
+    fn read(&self, item: &char) -> u64 {
+        u64::from(*item)
+    }
+}
+
 /// An item of 320 bytes.
-#[derive(Clone, Copy, PartialEq, PartialOrd, Drop)]
+#[derive(Clone, Copy, Debug, PartialEq, Eq, PartialOrd, Ord, Hash, Drop)]
 pub struct Wide {
     words: [u64; 40],
 }
@@ -65,6 +90,10 @@ impl Maker<Wide> for Values {
             read = read.wrapping_mul(31).wrapping_add(*word);
         }
         read
+    }
+
+    fn rank(&self, item: &Wide) -> u64 {
+        item.words[1]
     }
 }
 

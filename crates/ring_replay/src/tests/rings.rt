@@ -1,23 +1,30 @@
 //! The calls that each ring type has of its own.
 
 use super::calls::fill;
+use super::comparing;
 use super::items::{Maker, Wide};
+use super::makers::Made;
 use super::player::{Done, Player};
 use ringbuffer::{
-    AllocRingBuffer, ConstGenericRingBuffer, GrowableAllocRingBuffer, RingBuffer, move_all,
+    AllocRingBuffer, ConstGenericRingBuffer, DoubleEndedRing, GrowableAllocRingBuffer, RingBuffer,
+    move_all,
 };
 use std::alloc::AllocError;
 use std::collections::VecDeque;
+use std::fmt::Debug;
+use std::hash::Hash;
 
 /// A ring with calls of its own.
-pub trait Played<T: Clone + Drop>: RingBuffer<T> {
+pub trait Played<T: Clone + Drop>: DoubleEndedRing<T> + Extend<T> + Clone + Made<T> + Drop {
     fn play_own<M: Maker<T>>(&mut self, player: &mut Player<M>) -> Done;
 }
 
-/// What items are that are copied and compared too.
-pub trait Plain: Copy + Clone + Default + PartialOrd + Drop {}
+/// What items are that are copied, compared, hashed and printed too.
+pub trait Plain: Copy + Clone + Default + Ord + Hash + Debug + Drop {}
 
 impl Plain for u64 {}
+
+impl Plain for u8 {}
 
 impl Plain for () {}
 
@@ -157,7 +164,10 @@ impl<T: Clone + Drop, const CAP: usize> Played<T> for ConstGenericRingBuffer<T, 
 
 impl<T: Plain, const CAP: usize> PlayedCopies<T> for ConstGenericRingBuffer<T, CAP> {
     fn play_copies<M: Maker<T>>(&mut self, player: &mut Player<M>) -> Done {
-        play_copies!(self, player, items, self.extend_from_slice(&items))
+        match player.up_to(2) {
+            0..=1 => play_copies!(self, player, items, self.extend_from_slice(&items)),
+            _ => comparing::play(self, player),
+        }
     }
 }
 
@@ -182,7 +192,17 @@ impl<T: Clone + Drop> Played<T> for AllocRingBuffer<T> {
 
 impl<T: Plain> PlayedCopies<T> for AllocRingBuffer<T> {
     fn play_copies<M: Maker<T>>(&mut self, player: &mut Player<M>) -> Done {
-        play_copies!(self, player, items, self.extend_from_slice(&items))
+        match player.up_to(8) {
+            0..=3 => return play_copies!(self, player, items, self.extend_from_slice(&items)),
+            4..=6 => comparing::play(self, player)?,
+            7 => player.note_each(&self.to_vec_copied(player.alloc)?),
+            _ => {
+                let mut twin = self.clone()?;
+                twin.set_capacity(player.up_to(299) + 1)?;
+                comparing::compare(&twin, self, player);
+            }
+        }
+        Ok(())
     }
 }
 
@@ -204,6 +224,17 @@ impl<T: Clone + Drop> Played<T> for GrowableAllocRingBuffer<T> {
 
 impl<T: Plain> PlayedCopies<T> for GrowableAllocRingBuffer<T> {
     fn play_copies<M: Maker<T>>(&mut self, player: &mut Player<M>) -> Done {
-        play_copies!(self, player, items, self.extend_from_slice(&items)?)
+        match player.up_to(8) {
+            0..=3 => return play_copies!(self, player, items, self.extend_from_slice(&items)?),
+            4..=6 => comparing::play(self, player)?,
+            7 => player.note_each(&self.to_vec_copied(player.alloc)?),
+            _ => {
+                let deque = self.clone()?.into_deque();
+                player.note_item(deque.back());
+                player.note_item(self.as_ref().get(1));
+                player.write(self.as_mut().front_mut());
+            }
+        }
+        Ok(())
     }
 }

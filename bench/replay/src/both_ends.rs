@@ -1,0 +1,41 @@
+//! Calls by the port's traits of both ends. A `VecDeque` answers those at the newest end.
+
+use crate::items::Item;
+use crate::player::Player;
+use crate::rings::Played;
+use std::collections::VecDeque;
+
+/// Makes a call.
+pub fn play<'a, T: Item<'a>, R: Played<'a, T>>(ring: &mut R, player: &mut Player<'a>) {
+    match player.up_to(6) {
+        0 => {
+            let (is_full, item) = (R::IS_FIXED && ring.is_full(), player.item());
+            player.note_taken(ring.as_deque(|items| {
+                let old = if is_full { items.pop_back() } else { None };
+                items.push_front(item);
+                old
+            }));
+        }
+        1 => player.note_taken(ring.as_deque(|items| items.pop_back())),
+        2 => {
+            let kept = player.kept_of(ring.len());
+            ring.as_deque(|items| items.truncate(kept));
+        }
+        3 => {
+            let kept = player.kept_of(ring.len());
+            ring.as_deque(|items| drop(items.drain(..items.len() - kept)));
+        }
+        4 => ring.extend(player.items()),
+        5 => ring.as_deque(|items| take(items, player)),
+        _ => take(&mut ring.clone().into_iter().collect(), player),
+    }
+}
+
+// Takes items from both ends, as a walk hands them out.
+fn take<'a, T: Item<'a>>(items: &mut VecDeque<T>, player: &mut Player<'a>) {
+    for _ in 0..player.some() {
+        player.note(items.len() as u64);
+        let is_next = player.flip();
+        player.note_taken(if is_next { items.pop_front() } else { items.pop_back() });
+    }
+}

@@ -1,0 +1,53 @@
+//! Calls by the traits of rings that change at both ends, of collections that are extended, and of what is cloned.
+
+use super::items::Maker;
+use super::player::{Done, Player};
+use ringbuffer::{DoubleEndedRing, RingBufferDrainingIterator, RingBufferIntoIterator};
+use std::alloc::AllocError;
+
+/// Makes a call.
+pub fn play<
+    T: Clone + Drop,
+    M: Maker<T>,
+    R: DoubleEndedRing<T> + Extend<T> + Clone + Drop,
+>(
+    ring: &mut R,
+    player: &mut Player<M>,
+) -> Done {
+    match player.up_to(6) {
+        0 => return push_front(ring, player),
+        1 => player.note_taken(ring.pop_back()),
+        2 => ring.truncate(player.kept_of(ring.len())),
+        3 => ring.keep_newest(player.kept_of(ring.len())),
+        4 => return Extend::extend(ring, player.items()?),
+        5 => take(&mut RingBufferDrainingIterator::new(ring), player),
+        _ => take(&mut RingBufferIntoIterator::new(ring.clone()?), player),
+    }
+    Ok(())
+}
+
+fn push_front<T: Clone + Drop, M: Maker<T>, R: DoubleEndedRing<T>>(
+    ring: &mut R,
+    player: &mut Player<M>,
+) -> Done {
+    match ring.push_front(player.item()) {
+        Ok(old) => player.note_taken(old),
+        Err(_) => return Err(AllocError),
+    }
+    Ok(())
+}
+
+// Takes items from both ends of a walk that hands them out.
+fn take<T: Drop, M: Maker<T>, W: DoubleEndedIterator<Item = T>>(
+    walk: &mut W,
+    player: &mut Player<M>,
+) {
+    for _ in 0..player.some() {
+        player.note(walk.size_hint().0 as u64);
+        if player.flip() {
+            player.note_taken(walk.next());
+        } else {
+            player.note_taken(walk.next_back());
+        }
+    }
+}
