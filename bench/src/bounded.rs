@@ -2,7 +2,7 @@
 
 use crate::pipe;
 use crate::sliding;
-use crate::work::{Work, EXTENSION};
+use crate::work::{Wide, Work, EXTENSION};
 use std::collections::VecDeque;
 use std::hint::black_box;
 use std::io::{Read, Write};
@@ -155,9 +155,16 @@ fn exchange(ring: &mut VecDeque<u64>, capacity: usize, items: usize) -> u64 {
 }
 
 #[inline(never)]
-fn copy_in(ring: &mut VecDeque<u64>, items: &[u64]) {
+fn copy_in<T: Copy>(ring: &mut VecDeque<T>, items: &[T]) {
     ring.clear();
     ring.extend(items);
+}
+
+fn copy_in_wide(capacity: usize, items: usize) -> u64 {
+    let source: Vec<Wide> = (0..capacity).map(|number| [number as u64; 8]).collect();
+    let mut ring = VecDeque::with_capacity(capacity);
+    (0..items / capacity).for_each(|_| copy_in(black_box(&mut ring), &source));
+    ring.back().map_or(0, |newest| newest[0])
 }
 
 #[inline(never)]
@@ -268,6 +275,7 @@ pub fn deque(work: Work, capacity: usize, items: usize) -> u64 {
         Work::Pipe | Work::Stream => return through_pipe(work, capacity, items),
         Work::PushFront => push_front(&mut ring, capacity, items),
         Work::Exchange => sum = exchange(&mut ring, capacity, items),
+        Work::CopyInWide => return copy_in_wide(capacity, items),
         Work::CopyIn => {
             let source: Vec<u64> = ring.iter().copied().collect();
             (0..rounds).for_each(|_| copy_in(black_box(&mut ring), &source));

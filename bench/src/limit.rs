@@ -1,7 +1,7 @@
 //! The limit: a bare write under a mask, and plain slices. It keeps no length and overwrites without a test.
 
 use crate::pipe;
-use crate::work::{Work, EXTENSION};
+use crate::work::{Wide, Work, EXTENSION};
 use std::hint::black_box;
 
 struct Masked {
@@ -100,8 +100,15 @@ fn slide(ring: &mut Masked, sum: &mut i128, items: usize) -> i128 {
 }
 
 #[inline(never)]
-fn copy_in(slots: &mut [u64], items: &[u64]) {
+fn copy_in<T: Copy>(slots: &mut [T], items: &[T]) {
     slots.copy_from_slice(items);
+}
+
+fn copy_in_wide(capacity: usize, items: usize) -> u64 {
+    let source: Vec<Wide> = (0..capacity).map(|number| [number as u64; 8]).collect();
+    let mut slots = vec![[0; 8]; capacity];
+    (0..items / capacity).for_each(|_| copy_in(black_box(&mut slots), &source));
+    slots[capacity - 1][0]
 }
 
 /// Puts a half in place of the first one, and turns the slice by it.
@@ -164,6 +171,7 @@ pub fn slices(work: Work, capacity: usize, items: usize) -> u64 {
         }
         Work::Slide => sum = slide(&mut ring, &mut 0, items) as u64,
         Work::Pipe | Work::Stream => return through_pipe(capacity, items),
+        Work::CopyInWide => return copy_in_wide(capacity, items),
         Work::CopyIn => {
             let source = ring.slots[..capacity].to_vec();
             (0..rounds).for_each(|_| copy_in(black_box(&mut ring.slots[..capacity]), &source));

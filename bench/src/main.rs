@@ -61,6 +61,7 @@ const TRIES: [&str; 2] = ["array", "heap"];
 const COPIES: [&str; 5] = ["array", "heap", "growable", "VecDeque", "limit"];
 const SLICES: [&str; 4] = ["heap", "growable", "VecDeque", "limit"];
 const MADE: [&str; 6] = ["array", "Rust array", "heap", "Rust heap", "growable", "Rust growable"];
+const WIDE: [&str; 3] = ["heap", "VecDeque", "limit"];
 const STREAMS: [&str; 3] = ["heap", "VecDeque", "limit"];
 
 /// The contenders at windows with their least sample or their product. `VecDeque` keeps pairs of them, or two stacks, by hand.
@@ -81,6 +82,7 @@ impl Contender {
             Work::PushFront | Work::Exchange => FRONTS.contains(&name),
             Work::TryRefill => TRIES.contains(&name),
             Work::CopyIn => COPIES.contains(&name),
+            Work::CopyInWide => WIDE.contains(&name),
             Work::Straighten => SLICES.contains(&name),
             Work::ToVecCopied => SLICES.contains(&name) || RIVALS.contains(&name),
             Work::Stream => capacity == pipe::CAPACITY && STREAMS.contains(&name),

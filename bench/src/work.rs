@@ -3,6 +3,9 @@
 /// The number of items of one extension.
 pub const EXTENSION: u64 = 4096;
 
+/// An item of 64 bytes.
+pub type Wide = [u64; 8];
+
 const CAPACITIES: [usize; 4] = [7, 1000, 1024, 65536];
 
 /// The capacities at which items move to lie in one slice: powers of two up to far beyond the cache.
@@ -10,6 +13,9 @@ const STRAIGHTENED: [usize; 4] = [1 << 10, 1 << 16, 1 << 20, 1 << 23];
 
 /// Those at which rings are made and dropped.
 const MADE: [usize; 3] = [8, 1024, 1 << 20];
+
+/// Those of 64-byte items: a kibibyte, 64 and 8192 of them.
+const WIDE: [usize; 3] = [16, 1 << 10, 1 << 17];
 
 /// Those at which items leave and come at an index, which takes as many steps as the ring holds.
 const EXCHANGED: [usize; 2] = [1000, 65536];
@@ -50,10 +56,11 @@ pub enum Work {
     Stream,
     ToVecCopied,
     Make,
+    CopyInWide,
 }
 
 impl Work {
-    pub const ALL: [Work; 33] = [
+    pub const ALL: [Work; 34] = [
         Work::Push,
         Work::PushCall,
         Work::PushDequeue,
@@ -87,6 +94,7 @@ impl Work {
         Work::Stream,
         Work::ToVecCopied,
         Work::Make,
+        Work::CopyInWide,
     ];
 
     /// The capacities that it is measured at.
@@ -95,6 +103,7 @@ impl Work {
             Work::Straighten => &STRAIGHTENED,
             Work::Exchange => &EXCHANGED,
             Work::Make => &MADE,
+            Work::CopyInWide => &WIDE,
             _ => &CAPACITIES,
         }
     }
@@ -134,6 +143,7 @@ impl Work {
             Work::Stream => "bytes read and written",
             Work::ToVecCopied => "to_vec_copied",
             Work::Make => "make, push one and drop",
+            Work::CopyInWide => "clear and extend by 64-byte items",
         }
     }
 }

@@ -3,14 +3,15 @@
 //! Each export makes a ring of u64 items, a window over one of i64 samples, or a pipe of bytes, fills it, does so much
 //! work on it, and returns a number that depends on that work. Its first argument names the work, by the numbers of
 //! `Work`. It returns 0 where the work or the array's capacity isn't one of those named here, where the capacity is 0,
-//! and where memory is refused. Only the heap ring does the work on pipes, on rings that a loop owns, and on windows with
-//! their least sample or their product: the others return 0 for it.
+//! and where memory is refused. Only the heap ring does the work on pipes, on rings that a loop owns, on items of 64
+//! bytes, and on windows with their least sample or their product: the others return 0 for it.
 #![tactic(auto)]
 
 mod making;
 mod own;
 mod pipes;
 mod rings;
+mod wide;
 mod windows;
 mod work;
 
@@ -19,6 +20,7 @@ use pipes::on_heap_pipe;
 use ringbuffer::ConstGenericRingBuffer;
 use rings::{on_fixed, on_growable, on_heap};
 use std::alloc::Global;
+use wide::copy_in_wide;
 use windows::{
     on_array_window, on_growable_window, on_heap_least, on_heap_product, on_heap_window,
 };
@@ -46,7 +48,8 @@ pub extern "C" fn ring_workloads_array(
         | Work::Product
         | Work::PushOwned
         | Work::PushDequeueOwned
-        | Work::RefillOwned => return 0,
+        | Work::RefillOwned
+        | Work::CopyInWide => return 0,
         _ => {}
     }
     match capacity {
@@ -93,6 +96,9 @@ pub extern "C" fn ring_workloads_heap(
     match Work::numbered(work) {
         Some(Work::Slide) if capacity > 0 => { on_heap_window(alloc, capacity, items).unwrap_or(0) }
         Some(Work::Make) if capacity > 0 => make_heaps(alloc, capacity, items),
+        Some(Work::CopyInWide) if capacity > 0 => {
+            copy_in_wide(alloc, capacity, items).unwrap_or(0)
+        }
         Some(work @ (Work::Pipe | Work::Stream)) if capacity > 0 => {
             on_heap_pipe(alloc, work, capacity, items).unwrap_or(0)
         }
@@ -135,7 +141,8 @@ pub extern "C" fn ring_workloads_growable(
             | Work::Product
             | Work::PushOwned
             | Work::PushDequeueOwned
-            | Work::RefillOwned,
+            | Work::RefillOwned
+            | Work::CopyInWide,
         ) => 0,
         Some(work) if capacity > 0 => on_growable(alloc, work, capacity, items).unwrap_or(0),
         _ => 0,

@@ -79,6 +79,8 @@ pub enum Work {
     ToVecCopied,
     /// Rings that are made, take in an item, and are dropped.
     Make,
+    /// A clear and then a slice of as many 64-byte items as the capacity.
+    CopyInWide,
 }
 
 impl Work {
@@ -118,6 +120,7 @@ impl Work {
             30 => Some(Work::Stream),
             31 => Some(Work::ToVecCopied),
             32 => Some(Work::Make),
+            33 => Some(Work::CopyInWide),
             _ => None,
         }
     }
