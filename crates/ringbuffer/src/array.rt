@@ -19,7 +19,7 @@ use ring_core::{
     DoubleEndedRing, RingBuffer, RingBufferDrainingIterator, RingBufferIntoIterator,
     RingBufferIterator, RingBufferMutIterator,
 };
-use ring_fixed::{Fixed, extend_cloned, index_at, same_items, signed_index_at};
+use ring_fixed::{Fixed, index_at, same_items, signed_index_at};
 use ring_slots::{ArraySlots, RingSlots};
 use std::alloc::AllocError;
 use std::fmt::{self, Debug, Formatter, Write};
@@ -484,7 +484,7 @@ impl<T: Clone + Drop, const CAP: usize> ConstGenericRingBuffer<T, CAP> {
         // For the proof: the contents are within the limit.
         let _ = self.len();
         let mut ring = Self::new();
-        extend_cloned(&mut ring, self.iter())?;
+        self.clone_into(&mut ring)?;
         Ok(ring)
     }
 
