@@ -492,7 +492,7 @@ impl<T: Clone + Drop, const CAP: usize> ConstGenericRingBuffer<T, CAP> {
     /// in the items of both.
     ///
     /// ```rust
-    /// ring.clone_into(&mut kept)
+    /// ring.clone_into(kept).unwrap();
     /// ```
     ///
     /// # Errors
