@@ -124,6 +124,34 @@ impl<T: Drop, S: RingSlots<T>> Fixed<T, S> {
         Ok(())
     }
 
+    /// Drops all items of another ring, and pushes clones of this one's items onto it. Where a clone is refused, those
+    /// before it stay there.
+    pub fn clone_into(&self, other: &mut Self) -> Result<(), AllocError>
+    where
+        T: Clone,
+        requires sound { IsSound S.seen S.is_size self.now }
+        requires other { IsSound S.seen S.is_size other.old }
+        requires room { length (view_of S.seen self.now).items ≤ room_of S.seen other.old }
+        ensures { (ys : List T)
+            × AllZip T.is_clone (take (length ys) (view_of S.seen self.now).items) ys
+            × MatchResult result (λ _. length ys ≡ length (view_of S.seen self.now).items)
+            (λ _. (length ys < length (view_of S.seen self.now).items)
+            × ((x : T) × ¬ (T.is_infallible x)))
+            × ChangesTo S.seen S.is_size other.old other.new
+            (after_fill (view_of S.seen other.old) ys) }
+    {
+        other.clear();
+        for len in 0..self.len {
+            let Ok(item) = self.at(len).clone() else {
+                other.len = len;
+                return Err(AllocError);
+            };
+            Self::put_next(&mut other.slots, len, item);
+        }
+        other.len = self.len;
+        Ok(())
+    }
+
     // Puts clones behind the last item of a ring that begins at the first slot, side by side. Returns the length after
     // them. Where a clone is refused, those before it stay.
     #[inline]

@@ -101,6 +101,13 @@ pub fn copy_of(ring: &ConstGenericRingBuffer<u32, 4>) -> ConstGenericRingBuffer<
     ring.clone().unwrap()
 }
 
+/// Keeps a copy of an array ring of numbers in another ring, which is never refused.
+pub fn keep_copy(ring: &ConstGenericRingBuffer<u32, 4>, kept: &mut ConstGenericRingBuffer<u32, 4>)
+    ensures { kept.new.items ≡ ring.now.items }
+{
+    ring.clone_into(kept).unwrap();
+}
+
 /// Clones an empty array ring of texts, which is never refused.
 pub fn copy_of_nothing() -> ConstGenericRingBuffer<String, 4>
     ensures { result.items ≡ [] }

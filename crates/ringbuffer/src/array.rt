@@ -1,5 +1,5 @@
 //! The ring in an array.
-ghost use Rattle.std.specs.Prelude.{◌≡◌, ◌↔◌, ◌+◌, ◌-◌, ◌<◌, ◌≤◌, [], ◌∷◌, ◌++◌, drop, length, min, refl, take, IsErr, IfErr, IfOk, IfSome, IsOk, IsSome, OnOk, Some, option_to_list, slice_get};
+ghost use Rattle.std.specs.Prelude.{◌≡◌, ◌↔◌, ◌+◌, ◌-◌, ◌<◌, ◌≤◌, [], ◌∷◌, ◌++◌, drop, length, min, refl, take, IsErr, IfErr, IfOk, IfSome, IsOk, IsSome, List, MatchResult, OnOk, Some, option_to_list, slice_get};
 ghost use Rattle.std.specs.Borrow.{Lends, sem};
 ghost use Rattle.std.specs.Cmp.{on_per};
 ghost use Rattle.std.specs.Cmp.Lexicographic.{lists_per, pointwise};
@@ -9,7 +9,7 @@ ghost use Rattle.std.proofs.lemmas.Cmp.{lists_equiv, on_equiv};
 ghost use Rattle.ring_core.specs.Contents.{ChangesSlots, IsWithin, keep_last, overwritten, index_at, Pushes};
 ghost use Rattle.ring_core.specs.Extension.{Extends};
 ghost use Rattle.ring_core.specs.Walk.{DrainsInOrder, DrainsInReverse, ReadsInOrder, ReadsInReverse, StartsOver, UnpacksInOrder, UnpacksInReverse, into_iter_to_come, items_between, iterator_to_come};
-ghost use Rattle.ring_fixed.specs.View.{View, after_extend_from_slice, after_keep_newest, after_pop, after_push, after_push_front, after_put, after_takes, after_truncate, after_write};
+ghost use Rattle.ring_fixed.specs.View.{View, after_extend_from_slice, after_fill, after_keep_newest, after_pop, after_push, after_push_front, after_put, after_takes, after_truncate, after_write};
 
 mod convert;
 mod middle;
@@ -19,7 +19,7 @@ use ring_core::{
     DoubleEndedRing, RingBuffer, RingBufferDrainingIterator, RingBufferIntoIterator,
     RingBufferIterator, RingBufferMutIterator,
 };
-use ring_fixed::{Fixed, extend_cloned, index_at, same_items, signed_index_at};
+use ring_fixed::{Fixed, index_at, same_items, signed_index_at};
 use ring_slots::{ArraySlots, RingSlots};
 use std::alloc::AllocError;
 use std::fmt::{self, Debug, Formatter, Write};
@@ -484,8 +484,29 @@ impl<T: Clone + Drop, const CAP: usize> ConstGenericRingBuffer<T, CAP> {
         // For the proof: the contents are within the limit.
         let _ = self.len();
         let mut ring = Self::new();
-        extend_cloned(&mut ring, self.iter())?;
+        self.clone_into(&mut ring)?;
         Ok(ring)
+    }
+
+    /// Drops all items of `other`, and pushes clones of the items onto it. Unlike `clone` it makes no second array. Takes O(n)
+    /// in the items of both.
+    ///
+    /// ```rust
+    /// ring.clone_into(kept).unwrap();
+    /// ```
+    ///
+    /// # Errors
+    ///
+    /// Where a clone was refused. Then `other` holds the clones before it alone.
+    pub fn clone_into(&self, other: &mut Self) -> Result<(), AllocError>
+        ensures { (ys : List T) × AllZip T.is_clone (take (length ys) self.now.items) ys
+            × MatchResult result (λ _. length ys ≡ length self.now.items)
+            (λ _. (length ys < length self.now.items) × ((x : T) × ¬ (T.is_infallible x)))
+            × (other.new ≡ after_fill other.old ys) }
+    {
+        // For the proof: the contents are within the limit.
+        let _ = self.len();
+        self.ring.clone_into(&mut other.ring)
     }
 }
 
