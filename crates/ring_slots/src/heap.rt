@@ -22,7 +22,7 @@ use std::mem::size_of;
 /// They aren't dropped: slots end by `free`, which asks that all of them are empty, and in no other way.
 ///
 /// A contract sees what each slot holds, and how many changes the slots have had. That count takes no bytes, begins at
-/// 0, and rises by the calls of `RingSlots` and by `slice_mut` alone.
+/// 0, and rises by the calls of `RingSlots` and by `slice_mut`, `put_copies` and `move_down` alone.
 pub struct HeapSlots<T> {
     ptr: *mut T,
     // The number of slots less one, which is the mask of their places where that number is a power of two. It wraps
