@@ -9,6 +9,7 @@ pub fn play<'a, R: Played<'a, u8>>(ring: &mut R, player: &mut Player<'a>) {
     match player.up_to(11) {
         0 => play_text::<R>(player),
         1 if R::IS_FIXED => keep_last(ring, player),
+        2 => play_three::<R>(player),
         _ => play_stream(ring, player),
     }
 }
@@ -20,6 +21,17 @@ fn play_text<'a, R: Played<'a, u8>>(player: &mut Player<'a>) {
         return;
     }
     let made = if player.flip() { R::Letters::from(text.as_str()) } else { R::Letters::from(text) };
+    try_out(made, player);
+}
+
+// Makes a ring of an array of bytes.
+fn play_three<'a, R: Played<'a, u8>>(player: &mut Player<'a>) {
+    let mut bytes: [u8; 3] = std::array::from_fn(|_| player.item());
+    let made = match player.up_to(2) {
+        0 => R::Three::from(bytes),
+        1 => R::Three::from(&bytes),
+        _ => R::Three::from(&mut bytes),
+    };
     try_out(made, player);
 }
 

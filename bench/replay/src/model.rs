@@ -35,7 +35,7 @@ macro_rules! made_of {
     )*};
 }
 
-made_of!(Vec<T> VecDeque<T> LinkedList<T> GrowableAllocRingBuffer<T> &[T] &mut [T] [T; 3] &[T; 3] &mut [T; 3]);
+made_of!(Vec<T> VecDeque<T> LinkedList<T> GrowableAllocRingBuffer<T> &[T] &mut [T]);
 
 impl<T: Clone, const CAP: usize> From<ConstGenericRingBuffer<T, CAP>> for Model<T> {
     fn from(ring: ConstGenericRingBuffer<T, CAP>) -> Model<T> {

@@ -26,6 +26,9 @@ pub trait Played<'a, T: Item<'a>>: RingBuffer<T> + Clone {
     /// A ring of the same kind, for characters.
     type Letters: Played<'a, char> + for<'s> From<&'s str> + From<String>;
 
+    /// A ring of the same kind, for three bytes.
+    type Three: Played<'a, u8> + From<[u8; 3]> + for<'s> From<&'s [u8; 3]> + for<'s> From<&'s mut [u8; 3]>;
+
     fn play_own(&mut self, player: &mut Player<'a>);
 
     /// Makes a ring of a collection, or one of another type.
@@ -64,7 +67,8 @@ pub trait Played<'a, T: Item<'a>>: RingBuffer<T> + Clone {
 }
 
 impl<'a, T: Item<'a>, const CAP: usize> Played<'a, T> for ConstGenericRingBuffer<T, CAP> {
-    type Letters = ConstGenericRingBuffer<char, CAP>;
+    type Letters = ConstGenericRingBuffer<char, 5>;
+    type Three = ConstGenericRingBuffer<u8, 3>;
 
     fn play_makers(&mut self, player: &mut Player<'a>) {
         makers::play_array(self, player);
@@ -97,6 +101,7 @@ macro_rules! played_on_the_heap {
     ($type:ident) => {
         impl<'a, T: Item<'a>> Played<'a, T> for $type<T> {
             type Letters = AllocRingBuffer<char>;
+            type Three = AllocRingBuffer<u8>;
 
             fn play_own(&mut self, player: &mut Player<'a>) {
                 match player.up_to(15) {
@@ -148,6 +153,7 @@ impl<'a, T: Item<'a>> Played<'a, T> for GrowableAllocRingBuffer<T> {
     const IS_FIXED: bool = false;
 
     type Letters = GrowableAllocRingBuffer<char>;
+    type Three = GrowableAllocRingBuffer<u8>;
 
     fn play_makers(&mut self, player: &mut Player<'a>) {
         makers::play_growable(self, player);

@@ -2,15 +2,27 @@
 
 use super::items::Maker;
 use super::player::{Done, Player};
+use super::rings::Played;
 use ringbuffer::{DoubleEndedRing, RingBufferDrainingIterator, RingBufferIntoIterator};
 use std::alloc::AllocError;
 
+// Takes items from both ends of a walk that hands them out.
+macro_rules! take {
+    ($walk:expr, $player:expr) => {{
+        let mut walk = $walk;
+        for _ in 0..$player.some() {
+            $player.note(walk.len() as u64);
+            if $player.flip() {
+                $player.note_taken(walk.next());
+            } else {
+                $player.note_taken(walk.next_back());
+            }
+        }
+    }};
+}
+
 /// Makes a call.
-pub fn play<
-    T: Clone + Drop,
-    M: Maker<T>,
-    R: DoubleEndedRing<T> + Extend<T> + Clone + Drop,
->(
+pub fn play<T: Clone + Drop, M: Maker<T>, R: Played<T>>(
     ring: &mut R,
     player: &mut Player<M>,
 ) -> Done {
@@ -19,9 +31,9 @@ pub fn play<
         1 => player.note_taken(ring.pop_back()),
         2 => ring.truncate(player.kept_of(ring.len())),
         3 => ring.keep_newest(player.kept_of(ring.len())),
-        4 => return Extend::extend(ring, player.items()?),
-        5 => take(&mut RingBufferDrainingIterator::new(ring), player),
-        _ => take(&mut RingBufferIntoIterator::new(ring.clone()?), player),
+        4 => return ring.extend_by_std(player.items()?),
+        5 => take!(RingBufferDrainingIterator::new(ring), player),
+        _ => take!(RingBufferIntoIterator::new(ring.clone()?), player),
     }
     Ok(())
 }
@@ -35,19 +47,4 @@ fn push_front<T: Clone + Drop, M: Maker<T>, R: DoubleEndedRing<T>>(
         Err(_) => return Err(AllocError),
     }
     Ok(())
-}
-
-// Takes items from both ends of a walk that hands them out.
-fn take<T: Drop, M: Maker<T>, W: DoubleEndedIterator<Item = T>>(
-    walk: &mut W,
-    player: &mut Player<M>,
-) {
-    for _ in 0..player.some() {
-        player.note(walk.size_hint().0 as u64);
-        if player.flip() {
-            player.note_taken(walk.next());
-        } else {
-            player.note_taken(walk.next_back());
-        }
-    }
 }

@@ -94,22 +94,52 @@ fn text<M: Maker<char>>(player: &mut Player<M>) -> Result<String, AllocError> {
     Ok(text)
 }
 
+// Draws three bytes.
+fn three<M: Maker<u8>>(player: &mut Player<M>) -> [u8; 3] {
+    [player.item(), player.item(), player.item()]
+}
+
+// Makers of heap rings and of growable rings that take three bytes.
+macro_rules! play_three {
+    ($type:ident, $player:expr) => {{
+        let (alloc, mut bytes) = ($player.alloc, three($player));
+        let made = match $player.up_to(2) {
+            0 => $type::from_array(alloc, [Some(bytes[0]), Some(bytes[1]), Some(bytes[2])])?,
+            1 => $type::from_array_ref(alloc, &bytes)?,
+            _ => $type::from_mut_array(alloc, &mut bytes)?,
+        };
+        try_out(made, $player)
+    }};
+}
+
+// Makers of array rings that take three bytes.
+fn play_array_of_three<M: Maker<u8>>(player: &mut Player<M>) -> Done {
+    let mut bytes = three(player);
+    let made = match player.up_to(2) {
+        0 => ConstGenericRingBuffer::from_array([Some(bytes[0]), Some(bytes[1]), Some(bytes[2])]),
+        1 => ConstGenericRingBuffer::from_array_ref(&bytes)?,
+        _ => ConstGenericRingBuffer::from_mut_array(&mut bytes)?,
+    };
+    try_out(made, player)
+}
+
 impl<const CAP: usize> PlayedBytes for ConstGenericRingBuffer<u8, CAP> {
     fn play_bytes<M: Maker<u8> + Maker<char>>(&mut self, player: &mut Player<M>) -> Done {
         match player.up_to(11) {
             1 => *self = keep_last(self.clone()?, player)?,
             0 => {
                 let text = text(player)?;
-                if CAP == 0 || text.is_empty() {
+                if text.is_empty() {
                     return Ok(());
                 }
                 let made = if player.flip() {
-                    ConstGenericRingBuffer::<char, CAP>::from_text(&text)
+                    ConstGenericRingBuffer::<char, 5>::from_text(&text)
                 } else {
-                    ConstGenericRingBuffer::<char, CAP>::from_string(text)
+                    ConstGenericRingBuffer::<char, 5>::from_string(text)
                 };
                 return try_out(made, player);
             }
+            2 => return play_array_of_three(player),
             _ => return play_stream(self, player),
         }
         Ok(())
@@ -132,6 +162,7 @@ impl PlayedBytes for AllocRingBuffer<u8> {
                 };
                 return try_out(made, player);
             }
+            2 => return play_three!(AllocRingBuffer, player),
             _ => return play_stream(self, player),
         }
         Ok(())
@@ -140,8 +171,10 @@ impl PlayedBytes for AllocRingBuffer<u8> {
 
 impl PlayedBytes for GrowableAllocRingBuffer<u8> {
     fn play_bytes<M: Maker<u8> + Maker<char>>(&mut self, player: &mut Player<M>) -> Done {
-        if 0 < player.up_to(11) {
-            return play_stream(self, player);
+        match player.up_to(11) {
+            0 => {}
+            2 => return play_three!(GrowableAllocRingBuffer, player),
+            _ => return play_stream(self, player),
         }
         let text = text(player)?;
         if text.is_empty() {

@@ -1,11 +1,9 @@
 //! The calls of the trait, and of the walks.
 
-use super::both_ends;
-use super::commands;
 use super::items::Maker;
-use super::picking;
 use super::player::{Done, Player};
 use super::rings::Played;
+use super::{both_ends, commands, picking};
 use ringbuffer::{
     RingBuffer, RingBufferDrainingIterator, RingBufferIterator, RingBufferMutIterator,
 };

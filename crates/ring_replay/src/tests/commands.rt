@@ -10,15 +10,14 @@ pub fn play<T: Clone + Drop, M: Maker<T>, R: RingBuffer<T>>(
     ring: &mut R,
     player: &mut Player<M>,
 ) -> Done {
-    let alloc = player.alloc;
-    let commands = vec![in alloc;
-        draw(player)?,
-        draw(player)?,
-        draw(player)?,
-        draw(player)?,
-    ]?;
+    let mut commands = Vec::new(player.alloc);
+    let mut replies = Vec::new(player.alloc);
+    for _ in 0..4 {
+        commands.push(draw(player)?)?;
+        replies.push(None)?;
+    }
     if player.flip() {
-        let Ok(replies) = run(alloc, ring, commands) else {
+        let Ok(replies) = run(player.alloc, ring, commands) else {
             return Err(AllocError);
         };
         for reply in replies {
@@ -26,8 +25,7 @@ pub fn play<T: Clone + Drop, M: Maker<T>, R: RingBuffer<T>>(
         }
         return Ok(());
     }
-    let mut replies = [None, None, None, None];
-    if run_into(ring, commands, &mut replies).is_err() {
+    if replies.len() != commands.len() || run_into(ring, commands, &mut replies).is_err() {
         return Err(AllocError);
     }
     for reply in replies {

@@ -3,9 +3,7 @@
 use super::calls::walk;
 use super::items::Maker;
 use super::player::{Done, Player};
-use ringbuffer::{
-    RingBuffer, RingBufferIterator, RingBufferMutIterator, partition_point, retain,
-};
+use ringbuffer::{RingBuffer, RingBufferIterator, RingBufferMutIterator, partition_point, retain};
 use std::alloc::AllocError;
 
 /// Makes a call that picks items.
@@ -41,10 +39,7 @@ fn filter<T: Clone + Drop, M: Maker<T>, R: RingBuffer<T>>(
 }
 
 /// Writes items in rising order.
-pub fn raise<T: Clone + Drop, M: Maker<T>, R: RingBuffer<T>>(
-    ring: &mut R,
-    player: &mut Player<M>,
-) {
+pub fn raise<T: Clone + Drop, M: Maker<T>, R: RingBuffer<T>>(ring: &mut R, player: &mut Player<M>) {
     let mut number = player.draw() % 100;
     let len = ring.len();
     let mut cursor = RingBufferMutIterator::new(ring);
@@ -57,10 +52,7 @@ pub fn raise<T: Clone + Drop, M: Maker<T>, R: RingBuffer<T>>(
 }
 
 // Walks over the items at the indexes of a range, whose bounds may lie past the end.
-fn walk_range<T: Clone + Drop, M: Maker<T>, R: RingBuffer<T>>(
-    ring: &R,
-    player: &mut Player<M>,
-) {
+fn walk_range<T: Clone + Drop, M: Maker<T>, R: RingBuffer<T>>(ring: &R, player: &mut Player<M>) {
     let most = ring.len().saturating_add(2);
     let (start, end) = (player.up_to(most), player.up_to(most));
     let mut range = match player.up_to(3) {

@@ -15,8 +15,11 @@ use std::fmt::Debug;
 use std::hash::Hash;
 
 /// A ring with calls of its own.
-pub trait Played<T: Clone + Drop>: DoubleEndedRing<T> + Extend<T> + Clone + Made<T> + Drop {
+pub trait Played<T: Clone + Drop>: DoubleEndedRing<T> + Clone + Made<T> + Drop {
     fn play_own<M: Maker<T>>(&mut self, player: &mut Player<M>) -> Done;
+
+    /// Adds items by std's `Extend`.
+    fn extend_by_std(&mut self, items: Vec<T>) -> Done;
 }
 
 /// What items are that are copied, compared, hashed and printed too.
@@ -160,6 +163,10 @@ impl<T: Clone + Drop, const CAP: usize> Played<T> for ConstGenericRingBuffer<T, 
         }
         Ok(())
     }
+
+    fn extend_by_std(&mut self, items: Vec<T>) -> Done {
+        Extend::extend(self, items)
+    }
 }
 
 impl<T: Plain, const CAP: usize> PlayedCopies<T> for ConstGenericRingBuffer<T, CAP> {
@@ -187,6 +194,10 @@ impl<T: Clone + Drop> Played<T> for AllocRingBuffer<T> {
             }
         }
         Ok(())
+    }
+
+    fn extend_by_std(&mut self, items: Vec<T>) -> Done {
+        Extend::extend(self, items)
     }
 }
 
@@ -219,6 +230,10 @@ impl<T: Clone + Drop> Played<T> for GrowableAllocRingBuffer<T> {
             _ => *self = GrowableAllocRingBuffer::from(VecDeque::from(player.items()?)),
         }
         Ok(())
+    }
+
+    fn extend_by_std(&mut self, items: Vec<T>) -> Done {
+        Extend::extend(self, items)
     }
 }
 
