@@ -138,21 +138,35 @@ fn a_refused_clone_of_an_item_ends_a_clone_or_a_list(rt: HostRuntime) {
     on_each!(&rt, 3, assert_clones_refused, &supply, Copying::List);
 }
 
-/// Clones three items into a ring that holds three others, where from none to three clones are had.
+/// Clones the three items of a ring into another that holds three, where from none to three clones are had.
+fn assert_clone_into_refused<'a>(
+    rt: &impl Abort,
+    mut ring: ConstGenericRingBuffer<Counted<'a>, 3>,
+    mut other: ConstGenericRingBuffer<Counted<'a>, 3>,
+    supply: &'a Supply,
+) {
+    for clones in 0..4 {
+        hold_first(rt, &mut ring, supply, 3, clones + 6);
+        push_items(rt, &mut other, supply, 3);
+        let is_made = ring.clone_into(&mut other).is_ok();
+        assert_equal(rt, (is_made, other.len()), (clones == 3, clones));
+        assert_three(rt, &ring, 0);
+        assert_numbered(rt, &other, 6);
+        other.clear();
+        assert_dropped_after(rt, supply, 3);
+    }
+    assert_dropped_with(rt, supply, (ring, other));
+}
+
 #[test]
 fn a_refused_clone_into_a_ring_leaves_those_before_it(rt: HostRuntime) {
     let supply = supply(&rt, 9);
-    for clones in 0..4 {
-        let mut ring = ConstGenericRingBuffer::<Counted<'_>, 3>::new();
-        let mut other = ConstGenericRingBuffer::<Counted<'_>, 3>::new();
-        hold_first(&rt, &mut ring, &supply, 3, clones + 6);
-        push_items(&rt, &mut other, &supply, 3);
-        let is_made = ring.clone_into(&mut other).is_ok();
-        assert_equal(&rt, (is_made, other.len()), (clones == 3, clones));
-        assert_three(&rt, &ring, 0);
-        assert_numbered(&rt, &other, 6);
-        assert_dropped_with(&rt, &supply, (ring, other));
-    }
+    assert_clone_into_refused(
+        &rt,
+        ConstGenericRingBuffer::new(),
+        ConstGenericRingBuffer::new(),
+        &supply,
+    );
 }
 
 #[test]
