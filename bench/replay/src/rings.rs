@@ -82,6 +82,7 @@ impl<'a, T: Item<'a>, const CAP: usize> Played<'a, T> for ConstGenericRingBuffer
             _ => {
                 let ring: ConstGenericRingBuffer<T, CAP> = player.items().into_iter().collect();
                 player.note_ring(&ring);
+                player.note_ring(&self.clone());
             }
         }
     }

@@ -157,7 +157,10 @@ impl<T: Clone + Drop, const CAP: usize> Played<T> for ConstGenericRingBuffer<T, 
             _ => {
                 let items: Vec<T> = player.items()?;
                 if 0 < CAP {
-                    player.note_ring(&ConstGenericRingBuffer::<T, CAP>::from_iter(items));
+                    let mut ring = ConstGenericRingBuffer::<T, CAP>::from_iter(items);
+                    player.note_ring(&ring);
+                    self.clone_into(&mut ring)?;
+                    player.note_ring(&ring);
                 }
             }
         }
