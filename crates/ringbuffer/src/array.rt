@@ -516,6 +516,7 @@ impl<T: Clone + Drop, const CAP: usize> Clone for ConstGenericRingBuffer<T, CAP>
 
     ghost is_infallible = { λ _. (x : T) → T.is_infallible x };
 
+    #[inline]
     fn clone(&self) -> Result<Self, AllocError> {
         ConstGenericRingBuffer::clone(self)
     }

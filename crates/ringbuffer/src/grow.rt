@@ -596,6 +596,7 @@ impl<T: Clone + Drop> Clone for GrowableAllocRingBuffer<T> {
 
     ghost is_infallible = { λ ring. ring ≡ [] };
 
+    #[inline]
     fn clone(&self) -> Result<Self, AllocError> {
         GrowableAllocRingBuffer::clone(self)
     }

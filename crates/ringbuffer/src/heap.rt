@@ -602,6 +602,7 @@ impl<T: Clone + Drop> Clone for AllocRingBuffer<T> {
     ghost is_clone = { λ ring made. AllZip T.is_clone ring.items made.items
         × (made.capacity ≡ ring.capacity) };
 
+    #[inline]
     fn clone(&self) -> Result<Self, AllocError> {
         AllocRingBuffer::clone(self)
     }
