@@ -299,8 +299,9 @@ impl<T: Drop, S: RingSlots<T>> Fixed<T, S> {
         (Self::put_before(slots, span.start, item), old)
     }
 
-    // Takes the last item.
-    #[inline]
+    // Takes the last item. Inlined first of all, as `put_before` is, so that on a full ring their two places are found as
+    // one.
+    #[inline(always)]
     pub(crate) fn take_last(slots: &mut S, span: Span) -> T
         requires laid_out { IsLaidOut S.is_size (S.seen slots.old) span.start }
         requires len { span.len ≡ length (view_from (S.seen slots.old) span.start).items }
@@ -315,7 +316,7 @@ impl<T: Drop, S: RingSlots<T>> Fixed<T, S> {
     }
 
     // Puts an item before the first, where there is room for one. Returns its place, which is the next start.
-    #[inline]
+    #[inline(always)]
     pub(crate) fn put_before(slots: &mut S, start: usize, item: T) -> usize
         requires laid_out { IsLaidOut S.is_size (S.seen slots.old) start }
         requires room { length (view_from (S.seen slots.old) start).items
