@@ -6,6 +6,10 @@ use Rattle.ring_fixed.specs.declared.fixed.Fixed.{Fixed}
 use Rattle.ring_fixed.specs.fixed.Sound.{ChangesTo, view_of}
 use Rattle.ring_slots.specs.Slots.{Slots}
 
+-- what two views show is equal part by part
+pub view_is : {X : Type 0} {v w : View X} → v.items ≡ w.items → v.changes ≡ w.changes → v.capacity ≡ w.capacity → v ≡ w
+view_is items changes capacity = λ i. record { items = items i; changes = changes i; capacity = capacity i }
+
 module _ {X : Type 0} where
   pub after_turn_left-none : (v : View X) → after_turn_left 0 v ≡ v
   after_turn_left-none v = let none : v.changes + 2 * 0 ≡ v.changes = omega arith in rw (append-nil, none) refl
@@ -15,11 +19,8 @@ module _ {X : Type 0} where
       let xs = v.items in
       let behind : drop n xs ≡ get_or xs n x ∷ drop (suc n) xs = drop-cons xs n x low in
       let is : get_or xs n x ≡ x = let e : Some (get_or xs n x) ≡ Some x = sym (ap (λ l. slice_get (l ++ take n xs) 0) behind) ∙ first in cc in
-      let items : drop 1 (turned n xs) ++ x ∷ [] ≡ turned (n + 1) xs =
-      rw (add-one, take-suc xs n x low, behind, is) (append_assoc (drop (suc n) xs) (take n xs) (x ∷ [])) in
       let some : 0 < length (turned n xs) = rw behind (omega arith) in
-      let changes : v.changes + 2 * n + min (length (turned n xs)) 1 + 1 ≡ v.changes + 2 * (n + 1) = omega arith in
-      λ i. record { items = items i; changes = changes i; capacity = v.capacity }
+      view_is (rw (add-one, take-suc xs n x low, behind, is) (append_assoc (drop (suc n) xs) (take n xs) (x ∷ []))) (omega arith) refl
 
   pub length-turned : (n : ℕ) (xs : List X) → n ≤ length xs → length (turned n xs) ≡ length xs
   length-turned n xs low = omega (arith, length-append (drop n xs) (take n xs), length-drop n xs, length-take-le n xs low)
@@ -52,10 +53,8 @@ module _ {X : Type 0} where
       let long : length xs - 1 ≡ length zs = omega (arith, length-append (drop (suc r) xs) (take r xs), length-drop (suc r) xs, length-take r xs) in
       let more : length (zs ++ g ∷ []) - 1 ≡ length zs = omega (arith, length-append zs (g ∷ [])) in
       let is : g ≡ x = let e : Some g ≡ Some x = sym (ap (λ l. slice_get l 0) (drop-append_seam zs (g ∷ []))) ∙ slice_get-drop (length zs) 0 (zs ++ g ∷ []) ∙ ap (slice_get (zs ++ g ∷ [])) {x = length zs + 0} {y = length zs} (omega arith) ∙ rw (on, all, long) at last in cc in
-      let items : x ∷ take (length (turned (length xs - n) xs) - 1) (turned (length xs - n) xs) ≡ turned r xs =
-      rw (on, all, more, take-append_seam zs (g ∷ [])) (rw (sym is) (ap (λ l. l ++ take r xs) (sym (drop-cons xs r x (omega arith))))) in
-      let changes : v.changes + 2 * n + min (length (turned (length xs - n) xs)) 1 + 1 ≡ v.changes + 2 * (n + 1) = let some = length-turned (length xs - n) xs (omega arith) in omega arith in
-      λ i. record { items = items i; changes = changes i; capacity = v.capacity }
+      let some = length-turned (length xs - n) xs (omega arith) in
+      view_is (rw (on, all, more, take-append_seam zs (g ∷ [])) (rw (sym is) (ap (λ l. l ++ take r xs) (sym (drop-cons xs r x (omega arith)))))) (omega arith) refl
 
 module _ {X : Type 0} (i : ℕ) (v : View X) where
   -- an item taken from the front, between a turn to the left and one to the right
@@ -67,10 +66,7 @@ module _ {X : Type 0} (i : ℕ) (v : View X) where
         let xs = v.items in let back = drop (suc i) xs in
         let left : drop 1 (turned i xs) ≡ back ++ take i xs = rw (drop-cons xs i y low) refl in
         let count : length (back ++ take i xs) - i ≡ length back = omega (arith, length-append back (take i xs), length-take i xs) in
-        let items : (after_turn_right i (after_take (after_turn_left i v))).items ≡ (after_remove i v).items =
-        rw (left, count, drop-append_seam back (take i xs), take-append_seam back (take i xs), add-one) refl in
-        let changes : (after_turn_right i (after_take (after_turn_left i v))).changes ≡ (after_remove i v).changes = omega (arith, length-turned i xs (omega arith)) in
-        λ j. record { items = items j; changes = changes j; capacity = v.capacity }
+        view_is (rw (left, count, drop-append_seam back (take i xs), take-append_seam back (take i xs), add-one) refl) (omega (arith, length-turned i xs (omega arith))) refl
 
   -- an item taken from the back, between a turn to the right and one to the left
   pub after_remove-back : i < length v.items → length v.items - 1 - i ≤ i
@@ -84,20 +80,14 @@ module _ {X : Type 0} (i : ℕ) (v : View X) where
         let all : turned (suc i) xs ≡ zs ++ g ∷ [] = ap (λ l. back ++ l) (take-suc xs i y low) ∙ sym (append_assoc back (take i xs) (g ∷ [])) in
         let more : length (zs ++ g ∷ []) - 1 ≡ length zs = omega (arith, length-append zs (g ∷ [])) in
         let count : j ≡ length back = omega (arith, length-drop (suc i) xs) in
-        let items : (after_turn_left j (after_pop (after_turn_right j v))).items ≡ (after_remove i v).items =
-        rw (on, all, more, take-append_seam zs (g ∷ []), count, drop-append_seam back (take i xs), take-append_seam back (take i xs), add-one) refl in
-        let changes : (after_turn_left j (after_pop (after_turn_right j v))).changes ≡ (after_remove i v).changes = omega (arith, length-turned (length xs - j) xs (omega arith)) in
-        λ k. record { items = items k; changes = changes k; capacity = v.capacity }
+        view_is (rw (on, all, more, take-append_seam zs (g ∷ []), count, drop-append_seam back (take i xs), take-append_seam back (take i xs), add-one) refl) (omega (arith, length-turned (length xs - j) xs (omega arith))) refl
 
   -- an item put before the first, between a turn to the left and one to the right
   pub after_insert-front : (x : X) → i ≤ length v.items - i → i ≤ length v.items → after_turn_right i (after_put_first (after_turn_left i v) x) ≡ after_insert i x v
   after_insert-front x few low =
       let xs = v.items in let back = x ∷ drop i xs in
       let count : length (back ++ take i xs) - i ≡ length back = omega (arith, length-append back (take i xs), length-take i xs) in
-      let items : (after_turn_right i (after_put_first (after_turn_left i v) x)).items ≡ (after_insert i x v).items =
-      rw (count, drop-append_seam back (take i xs), take-append_seam back (take i xs)) refl in
-      let changes : (after_turn_right i (after_put_first (after_turn_left i v) x)).changes ≡ (after_insert i x v).changes = omega arith in
-      λ j. record { items = items j; changes = changes j; capacity = v.capacity }
+      view_is (rw (count, drop-append_seam back (take i xs), take-append_seam back (take i xs)) refl) (omega arith) refl
 
   -- an item put after the last, between a turn to the right and one to the left
   pub after_insert-back : (x : X) → length v.items - i ≤ i → i ≤ length v.items
@@ -106,10 +96,7 @@ module _ {X : Type 0} (i : ℕ) (v : View X) where
       let xs = v.items in let j = length xs - i in let back = drop i xs in let front = take i xs ++ x ∷ [] in
       let on : length xs - j ≡ i = omega arith in
       let count : j ≡ length back = omega (arith, length-drop i xs) in
-      let items : (after_turn_left j (after_put (after_turn_right j v) x)).items ≡ (after_insert i x v).items =
-      rw (on, append_assoc back (take i xs) (x ∷ []), count, drop-append_seam back front, take-append_seam back front) (append_assoc (take i xs) (x ∷ []) back) in
-      let changes : (after_turn_left j (after_put (after_turn_right j v) x)).changes ≡ (after_insert i x v).changes = omega arith in
-      λ k. record { items = items k; changes = changes k; capacity = v.capacity }
+      view_is (rw (on, append_assoc back (take i xs) (x ∷ []), count, drop-append_seam back front, take-append_seam back front) (append_assoc (take i xs) (x ∷ []) back)) (omega arith) refl
 
   -- a rotation turns the shorter way
   pub after_rotate-left : i ≤ length v.items - i → after_turn_left i v ≡ after_rotate i v
