@@ -2,6 +2,7 @@
 use Rattle.ring_slots.proofs.Words.{◌≡◌, refl, sym, ap, ◌∙◌, false, List, [], ◌∷◌, ◌++◌, ℕ, zero, suc, ◌+◌, ◌<◌, ◌≤◌, arith, length, get_or, take, cut, length-append, length-drop, length-take, length-map, map, Option, None, Some}
 use mathlib.Core.Logic.{inl, inr}
 use Rattle.std.proofs.Common.{append_assoc, ext_get_or}
+use Rattle.std.proofs.lemmas.Grind.{common_steps}
 use Rattle.std.proofs.Math.Decide.{dec_lt}
 use Rattle.std.proofs.lemmas.List.{drop-map, get_or-append_right, get_or-drop, get_or-take, get_or_append_left, map-append, take-map}
 use Rattle.std.specs.Mem.Slots.{SamePlaces, slots_filled, slots_items, slots_len}
@@ -23,25 +24,17 @@ get_or-map_some (x ∷ xs) zero = refl
 get_or-map_some (x ∷ xs) (suc i) = get_or-map_some xs i
 
 module _ {X : Type 0} (slots : List (Option X)) (from : ℕ) (xs : List X) (within : from + length xs ≤ length slots) where
-  front : length (take from slots) ≡ from
-  front = omega (arith, length-take from slots)
-
   pub length-filled : length (filled slots from xs) ≡ length slots
-  length-filled = omega (arith, front, length-append (take from slots) (map Some xs ++ cut (from + length xs) slots), length-append (map Some xs) (cut (from + length xs) slots), length-map xs Some, length-drop (from + length xs) slots)
+  length-filled = grind (arith, common_steps)
 
   pub filled-before : (i : ℕ) → i < from → get_or (filled slots from xs) i None ≡ get_or slots i None
-  filled-before i low = get_or_append_left (take from slots) _ None i (omega (arith, front)) ∙ get_or-take from slots i None low
-
-  past : (i : ℕ) → from ≤ i → get_or (filled slots from xs) i None ≡ get_or (map Some xs ++ cut (from + length xs) slots) (i - from) None
-  past i late = get_or-append_right (take from slots) _ from i None front late
+  filled-before i low = grind (arith, common_steps)
 
   pub filled-in : (i : ℕ) → from ≤ i → i < from + length xs → get_or (filled slots from xs) i None ≡ slice_get xs (i - from)
-  filled-in i late low = past i late ∙ get_or_append_left (map Some xs) _ None (i - from) (omega (arith, length-map xs Some)) ∙ get_or-map_some xs (i - from)
+  filled-in i late low = grind (arith, common_steps, get_or-map_some)
 
   pub filled-behind : (i : ℕ) → from + length xs ≤ i → get_or (filled slots from xs) i None ≡ get_or slots i None
-  filled-behind i late =
-      past i (omega arith) ∙ get_or-append_right (map Some xs) _ (length xs) (i - from) None (length-map xs Some) (omega arith)
-      ∙ get_or-drop (from + length xs) slots (i - from - length xs) None ∙ ap (λ k. get_or slots k None) (omega arith)
+  filled-behind i late = grind (arith, common_steps)
 
 -- slots that hold a row into which items were copied have these items
 module _ {X : Type 0} (old new : List (Option X)) (before after : Row X) (size from : ℕ) (xs : List X) (all : size ≡ length old) (within : from + length xs ≤ length old)
