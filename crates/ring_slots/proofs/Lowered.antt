@@ -15,22 +15,14 @@ use Rattle.ring_slots.specs.block.Row.{HoldsRow}
 use Rattle.ring_slots.proofs.Filled.{get_or-map_some}
 use Rattle.ring_slots.proofs.SlotsInMemory.{stretch_long}
 
--- a place whose slot holds an item is filled
-filled_where : {X : Type 0} (f : Bool) (c : Option X) (x : X) → Some x ≡ (if f then c else None) → f ≡ true
-filled_where true c x is = refl
-filled_where false c x is = cc
-
 -- the places of full slots are filled
 pub stretch_filled : {X : Type 0} (slots : List (Option X)) (from count : ℕ) (xs : List X) (row : Row X) (size : ℕ) → size ≡ length slots → from + count ≤ length slots → HoldsStretch slots from count xs
     → HoldsRow slots row size → Filled (slots_filled row) from (from + count)
 stretch_filled slots from count xs row size all within holds had i late low =
     let k : ℕ = i - from in let here : from + k ≡ i = omega arith in let long = stretch_long slots from count xs within holds in
-    let slot : get_or slots i None ≡ slice_get xs k =
-    ap (λ n. get_or slots n None) (sym here) ∙ sym (get_or-drop from slots k None) ∙ sym (get_or-take count (cut from slots) k None (omega arith)) ∙ ap (λ (l : List (Option _)). get_or l k None) holds ∙ get_or-map_some xs k in
-    elim (slice_get_cases xs k).1 [
-      | inl is ↦ filled_where (get_or (slots_filled row) i false) (slice_get (slots_items row) i) is.0 (sym is.2 ∙ sym slot ∙ had.held i (omega arith))
-      | inr past ↦ let bad = past.0 in absurd (omega arith)
-    ]
+    let slot : get_or slots i None ≡ get_or (take count (cut from slots)) k None = grind (arith, common_steps) in
+    let item = ap (λ (l : List (Option _)). get_or l k None) holds ∙ get_or-map_some xs k in let held = had.held i (omega arith) in
+    grind (arith, slot, item, held, slice_get_cases xs k)
 
 -- slots that hold a row in which the last items were moved down have them there
 module _ {X : Type 0} (old new : List (Option X)) (before after : Row X) (size from to : ℕ) (d : X) (all : size ≡ length old) (some : from < size) (order : to ≤ from)
