@@ -10,7 +10,7 @@ use Rattle.ring_fixed.specs.View.{after_turn_within, turned_within}
 use Rattle.ring_fixed.proofs.Copies.{LaysOut-filled}
 use Rattle.ring_fixed.proofs.SlotsHold.{straight_on}
 use Rattle.ring_fixed.proofs.Stretches.{stretch_of}
-use Rattle.ring_fixed.proofs.Turns.{view_is}
+use Rattle.ring_fixed.proofs.RepeatedSteps.{view_is}
 use Rattle.ring_slots.proofs.Filled.{first_item}
 use Rattle.ring_slots.specs.Slots.{filled}
 

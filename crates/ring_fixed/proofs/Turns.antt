@@ -3,13 +3,10 @@ use Rattle.ring_fixed.proofs.Words.{◌≡◌, ℕ, suc, ◌+◌, ◌-◌, ◌*�
 use Rattle.std.proofs.lemmas.Grind.{elements}
 use Rattle.std.proofs.lemmas.Option.{get_or_from_slice_get}
 use Rattle.ring_fixed.proofs.LaysOut.{LaysOut-then}
+use Rattle.ring_fixed.proofs.RepeatedSteps.{view_is}
 use Rattle.ring_fixed.specs.declared.fixed.Fixed.{Fixed}
 use Rattle.ring_fixed.specs.fixed.Sound.{ChangesTo, view_of}
 use Rattle.ring_slots.specs.Slots.{Slots}
-
--- two views are equal part by part
-pub view_is : {X : Type 0} {v w : View X} → v.items ≡ w.items → v.changes ≡ w.changes → v.capacity ≡ w.capacity → v ≡ w
-view_is items changes capacity = λ i. record { items = items i; changes = changes i; capacity = capacity i }
 
 module _ {X : Type 0} where
   pub length-turned : (n : ℕ) (xs : List X) → n ≤ length xs → length (turned n xs) ≡ length xs

@@ -2,7 +2,7 @@ use Rattle.ring_fixed.proofs.Words.{LaysOut, List, ◌≡◌, ◌+◌, ◌*◌, 
 use Rattle.ring_fixed.proofs.LaysOut.{LaysOut-none}
 use Rattle.ring_fixed.proofs.Stretches.{stretch_is}
 use Rattle.ring_fixed.proofs.TurnedWithin.{LaysOut-within, after_turn_within-none, length-turned_within, stretch_within}
-use Rattle.ring_fixed.proofs.Turns.{view_is}
+use Rattle.ring_fixed.proofs.RepeatedSteps.{view_is}
 use Rattle.ring_fixed.specs.View.{after_turn_within}
 use Rattle.ring_fixed.specs.fixed.Sound.{ChangesTo}
 use Rattle.ring_fixed.proofs.by_slices.Fixed+T+HeapSlots+T.turn_within.Goals as goal
