@@ -1,7 +1,8 @@
 -- An item put before the first.
-use Rattle.ring_fixed.proofs.Words.{◌≡◌, ◌≢◌, ℕ, zero, suc, ◌+◌, ◌-◌, ◌%◌, ◌<◌, List, ◌∷◌, length, get_or, Option, None, Some, refl, ap, ◌∙◌, arith, length-set, length-take, get_or-set_same, get_or-set_other, set, add-mod_right, mod-eq_of_lt, mod-lt, slice_get, slice_get_past, Slots, IsEmptyAt, changed, View, after_pop, after_push_front, after_put_first, min, take_all, SlotsHold, items_from, view_from, IsLaidOut, LaysOut}
+use Rattle.ring_fixed.proofs.Words.{◌≡◌, ◌≢◌, ℕ, zero, suc, ◌+◌, ◌-◌, ◌%◌, ◌<◌, List, ◌∷◌, length, get_or, Option, None, Some, refl, sym, ap, ◌∙◌, arith, length-set, length-take, get_or-set_same, get_or-set_other, set, add-mod_right, mod-eq_of_lt, mod-lt, slice_get, slice_get_past, Slots, IsEmptyAt, changed, View, after_pop, after_push_front, after_put_first, min, take_all, SlotsHold, items_from, view_from, IsLaidOut, LaysOut}
 use Rattle.ring_fixed.proofs.SlotsHold.{count_on, wrap}
 use Rattle.ring_fixed.proofs.LaysOut.{LaysOut-items}
+use Rattle.ring_fixed.proofs.RepeatedSteps.{view_is}
 
 module _ (start size : ℕ) (within : start < size) where
   -- the place before the start, counted round
@@ -62,13 +63,8 @@ module _ {X : Type 0} (capacity : ℕ) (v : View X) (x : X) where
   -- a push in front where there is no room
   pub after_push_front-full : length v.items ≡ capacity → 0 < capacity → after_put_first (after_pop v) x ≡ after_push_front capacity v x
   after_push_front-full full some =
-      let last = length v.items - 1 in
-      let more : capacity ≡ suc last = omega arith in
-      let twice : v.changes + min (length v.items) 1 + 1 ≡ v.changes + 1 + (length v.items + 1 - capacity) = omega arith in
-      rw (twice, more) refl
+      let more : capacity ≡ suc (length v.items - 1) = omega arith in view_is (rw more refl) (omega arith) refl
 
   -- and where there is some
   pub after_push_front-room : length v.items < capacity → after_put_first v x ≡ after_push_front capacity v x
-  after_push_front-room room =
-      let once : v.changes + 1 + (length v.items + 1 - capacity) ≡ v.changes + 1 = omega arith in
-      rw (once, take_all capacity (x ∷ v.items) (omega arith)) refl
+  after_push_front-room room = view_is (sym (take_all capacity (x ∷ v.items) (omega arith))) (omega arith) refl
