@@ -20,19 +20,16 @@ full_stretch (None ∷ cs) zero full = cc
 full_stretch (Some x ∷ cs) zero full = (omega arith, (x ∷ [], refl))
 full_stretch (c ∷ cs) (suc i) full = let rest = full_stretch cs i full in (omega (arith, rest.0), rest.1)
 
--- where n sizes fit a block, so do one size, and the way to a slot
-pub place_fits : (i n bytes : ℕ) → i < n → n * bytes < 2 ^ 63 → (bytes < 2 ^ 64) × (i * bytes < 2 ^ 64)
-place_fits i n bytes within fit =
-    let once : 1 * bytes ≤ n * bytes = mul-le-mul_right bytes (omega arith) in
-    let before : i * bytes ≤ n * bytes = mul-le-mul_right bytes (omega arith) in
-    (omega (arith, one-mul bytes), omega arith)
-
--- and so do a stretch of slots, and the way to it
+-- where n sizes fit a block, so do a stretch of slots, and the way to it
 pub stretch_fits : (from len n bytes : ℕ) → from + len ≤ n → n * bytes < 2 ^ 63 → (from * bytes < 2 ^ 64) × (len * bytes < 2 ^ 63)
 stretch_fits from len n bytes within fit =
     let before : from * bytes ≤ n * bytes = mul-le-mul_right bytes (omega arith) in
     let all : len * bytes ≤ n * bytes = mul-le-mul_right bytes (omega arith) in
     (omega arith, omega arith)
+
+-- and so do one size, and the way to a slot
+pub place_fits : (i n bytes : ℕ) → i < n → n * bytes < 2 ^ 63 → (bytes < 2 ^ 64) × (i * bytes < 2 ^ 64)
+place_fits i n bytes within fit = let both = stretch_fits i 1 n bytes (omega arith) fit in (omega (arith, one-mul bytes), both.0)
 
 -- a stretch has as many items as slots
 pub stretch_long : {A : Type 0} (cs : List (Option A)) (from len : ℕ) (xs : List A) → from + len ≤ length cs → HoldsStretch cs from len xs → length xs ≡ len
