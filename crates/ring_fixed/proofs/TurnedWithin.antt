@@ -28,11 +28,9 @@ module _ {X : Type 0} {P : ℕ → Type 0} (s : Slots X) (start : ℕ) (laid_out
 
   pub stretch_within : HoldsStretch s.slots place len (take len (drop i items))
   stretch_within =
-      let xs = take len (drop i items) in let enough = laid_out.fit in
-      let long : length xs ≡ len = omega (arith, length-take len (drop i items), length-drop i items) in
-      let reads : (k : ℕ) → k < length xs → get_or s.slots (place + k) None ≡ slice_get xs k =
-      λ k below. ap (λ p. get_or s.slots p None) (straight_on start i place (length s.slots) k is (omega arith)) ∙ laid_out.layout (i + k) (omega arith) ∙ sym (slice_get-drop i k items) ∙ sym (slice_get-take len k (drop i items) (omega arith)) in
-      rw long at (stretch_of s.slots place xs (omega arith) reads)
+      let enough = laid_out.fit in
+      stretch_of s.slots place len (take len (drop i items)) (omega (arith, length-take len (drop i items), length-drop i items)) fit (λ k below.
+      ap (λ p. get_or s.slots p None) (straight_on start i place (length s.slots) k is (omega arith)) ∙ laid_out.layout (i + k) (omega arith) ∙ sym (slice_get-drop i k items) ∙ sym (slice_get-take len k (drop i items) below))
 
   pub LaysOut-within : (ys : List X) → length ys ≡ len → (changes : ℕ)
       → LaysOut P s (record { slots = refilled s.slots place len ys; changes = changes }) start (record { items = take i items ++ (ys ++ drop (i + len) items); changes = changes; capacity = length s.slots })
