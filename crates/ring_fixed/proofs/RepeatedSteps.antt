@@ -32,9 +32,6 @@ module _ {X : Type 0} where
       view_is (keep_last-keep_last (Some capacity) all ys ∙ ap (keep_last (Some capacity)) (append_assoc v.items xs ys))
       (omega (arith, length-drop (length all - capacity) all, length-append v.items xs, length-append xs ys)) refl
 
-  pub after_extend-more : (capacity : ℕ) (v : View X) (ys : List X) (y : X) → after_push capacity (after_extend capacity v ys) y ≡ after_extend capacity v (ys ++ y ∷ [])
-  after_extend-more capacity v ys y = after_extend-then capacity v ys (y ∷ [])
-
   -- an extension by items that fit
   pub after_extend-fits : (capacity : ℕ) (v : View X) (xs : List X) → length v.items + length xs ≤ capacity → after_puts xs v ≡ after_extend capacity v xs
   after_extend-fits capacity v xs fits =

@@ -2,7 +2,7 @@ use Rattle.ring_fixed.proofs.Words.{◌≡◌, ℕ, ◌<◌, ◌≤◌, ◌+◌,
 use Rattle.ring_fixed.proofs.LaysOut.{LaysOut-none, LaysOut-then}
 use Rattle.ring_fixed.proofs.SlotsHold.{straight_on, count_on}
 use Rattle.ring_fixed.proofs.Sources.{Gives-none, Gives-one, Gives-then}
-use Rattle.ring_fixed.proofs.RepeatedSteps.{after_extend-none, after_extend-more, after_extend-fits, after_extend-full, after_puts-more, after_push-full}
+use Rattle.ring_fixed.proofs.RepeatedSteps.{after_extend-none, after_extend-then, after_extend-fits, after_extend-full, after_puts-more, after_push-full}
 use Rattle.ring_fixed.proofs.fixed.Fixed.push_stretch.Goals as goal
 
 -- The place after the last goes straight on.
@@ -31,7 +31,7 @@ module _ {X : Type 0} (old : Slots X) (span : Span) (capacity i : ℕ) (xs : Lis
       → LaysOut P now new (if full then ((now_at full).start + 1) % length now.slots else (now_at full).start) (if full then after_put (after_take (view_from now (now_at full).start)) x else after_put (view_from now (now_at full).start) x)
       → LaysOut P old new (after_pushes full span (i + 1) (length old.slots)).start (after_extend capacity v (xs ++ x ∷ []))
   one_more x some true full room so_far step =
-      let pushed = sym (after_push-full capacity (after_extend capacity v xs) x (after_extend-full capacity v xs (sym (full refl) ∙ counted)) some) ∙ after_extend-more capacity v xs x in
+      let pushed = sym (after_push-full capacity (after_extend capacity v xs) x (after_extend-full capacity v xs (sym (full refl) ∙ counted)) some) ∙ after_extend-then capacity v xs (x ∷ []) in
       let place = ap (λ n. ((span.start + i) % length old.slots + 1) % n) so_far.same_size ∙ count_on span.start i 1 (i + 1) (length old.slots) refl in
       rw (place, pushed) at (LaysOut-then (λ w. after_put (after_take w) x) so_far step)
   one_more x some false full room so_far step =
