@@ -1,14 +1,12 @@
 -- What slots hold once items are put into a stretch of them.
-use Rattle.ring_slots.proofs.Words.{◌≡◌, refl, sym, ap, ◌∙◌, false, List, [], ◌∷◌, ◌++◌, ℕ, zero, suc, ◌+◌, ◌<◌, ◌≤◌, arith, length, get_or, take, cut, length-append, length-drop, length-take, length-map, map, Option, None, Some}
+use Rattle.ring_slots.proofs.Words.{◌≡◌, refl, ap, false, List, [], ◌∷◌, ◌++◌, ℕ, zero, suc, ◌+◌, ◌<◌, ◌≤◌, arith, length, get_or, take, cut, map, Option, None, Some}
 use mathlib.Core.Logic.{◌⊎◌}
-use Rattle.std.proofs.Common.{append_assoc, ext_get_or}
+use Rattle.std.proofs.Common.{ext_get_or}
 use Rattle.std.proofs.lemmas.Grind.{common_steps}
 use Rattle.std.proofs.lemmas.Option.{slice_get_cases}
-use Rattle.std.proofs.Math.Decide.{dec_lt}
-use Rattle.std.proofs.lemmas.List.{drop-map, get_or-append_right, get_or-drop, get_or-take, get_or_append_left, map-append, take-map}
 use Rattle.std.specs.Mem.Slots.{SamePlaces, slots_filled, slots_items, slots_len}
 use Rattle.std.specs.Mem.Slots.Ownership.{Filled, SameOutside}
-use Rattle.std.specs.Prelude.{◌-◌, if◌then◌else◌, slice_get}
+use Rattle.std.specs.Prelude.{◌-◌, slice_get}
 use Rattle.core.specs.declared.slots.Slots.{Slots as Row}
 use Rattle.ring_slots.specs.Slots.{filled}
 use Rattle.ring_slots.specs.block.Row.{HoldsRow}

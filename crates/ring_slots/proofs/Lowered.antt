@@ -1,14 +1,11 @@
 -- What slots hold once the items of the last of them have moved down.
-use Rattle.ring_slots.proofs.Words.{◌≡◌, refl, sym, ap, ◌∙◌, Bool, true, false, List, ◌++◌, ℕ, ◌+◌, ◌<◌, ◌≤◌, arith, length, get_or, replicate, take, cut, length-append, length-drop, length-take, length-replicate, Option, None, Some, HoldsStretch}
-use mathlib.Core.Logic.{inl, inr}
+use Rattle.ring_slots.proofs.Words.{◌≡◌, ap, ◌∙◌, false, List, ℕ, ◌+◌, ◌<◌, ◌≤◌, arith, length, get_or, replicate, take, cut, Option, None, HoldsStretch}
 use Rattle.std.proofs.Common.{ext_get_or}
 use Rattle.std.proofs.lemmas.Grind.{common_steps}
-use Rattle.std.proofs.Math.Decide.{dec_lt}
-use Rattle.std.proofs.lemmas.List.{get_or-append_right, get_or-drop, get_or-replicate, get_or-take, get_or_append_left, get_or_past}
 use Rattle.std.proofs.lemmas.Option.{slice_get-get_or, slice_get_cases}
 use Rattle.std.specs.Mem.Slots.{IsMoved, SameItemsOutside, SamePlaces, slots_filled, slots_items, slots_len}
 use Rattle.std.specs.Mem.Slots.Ownership.{Filled, SameOutside}
-use Rattle.std.specs.Prelude.{◌-◌, if◌then◌else◌, min, max, slice_get}
+use Rattle.std.specs.Prelude.{◌-◌, min, max}
 use Rattle.core.specs.declared.slots.Slots.{Slots as Row}
 use Rattle.ring_slots.specs.Slots.{lowered}
 use Rattle.ring_slots.specs.block.Row.{HoldsRow}
