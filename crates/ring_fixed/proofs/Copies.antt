@@ -1,5 +1,5 @@
 -- Items put at once into slots side by side, behind the last or in place of others.
-use Rattle.ring_fixed.proofs.Words.{◌≡◌, ℕ, ◌+◌, ◌-◌, ◌%◌, ◌<◌, ◌≤◌, List, ◌++◌, length, get_or, None, sym, ap, ◌∙◌, arith, length-append, dec_lt, common_steps, slice_get, slice_get_cases, slice_get_past, ◌⊎◌, Slots, after_puts, view_from, SlotsHold, items_from, IsLaidOut, LaysOut}
+use Rattle.ring_fixed.proofs.Words.{◌≡◌, ℕ, ◌+◌, ◌-◌, ◌%◌, ◌<◌, ◌≤◌, List, ◌++◌, length, get_or, None, ap, ◌∙◌, arith, length-append, common_steps, slice_get, slice_get_cases, slice_get_past, ◌⊎◌, Slots, after_puts, view_from, SlotsHold, items_from, IsLaidOut, LaysOut}
 use Rattle.ring_slots.specs.Slots.{filled, with_items}
 use Rattle.ring_slots.proofs.Filled.{filled-before, filled-behind, filled-in, length-filled}
 use Rattle.ring_fixed.proofs.SlotsHold.{straight_on, wrap}

@@ -1,5 +1,5 @@
 -- A stretch of the items of a ring that is turned in its place.
-use Rattle.ring_fixed.proofs.Words.{min, after_insert, after_pop, after_put_first, after_remove, after_take, if◌then◌else◌, set, after_swap, ◌≡◌, ◌≢◌, ℕ, zero, suc, ◌+◌, ◌-◌, ◌*◌, ◌%◌, ◌<◌, ◌≤◌, List, [], ◌∷◌, ◌++◌, Option, None, Some, add-one, append-nil, append_assoc, ap, arith, common_steps, dec_lt, drop, drop-append_seam, drop-cons, get_or, length, length-append, length-drop, length-take, map, refl, slice_get, slice_get-drop, slice_get-take, slice_get_cases, sym, take, take-append-drop, take_at, turned, inl, inr, ◌∙◌, ◌⊎◌, Slots, HoldsStretch, refilled, SlotsHold, items_from, IsLaidOut, LaysOut, View, length-map, ext_get_or, get_or_append_left, get_or-append_right, get_or-drop, get_or-take, length-set}
+use Rattle.ring_fixed.proofs.Words.{after_insert, after_pop, after_put_first, after_remove, after_take, if◌then◌else◌, after_swap, ◌≡◌, ℕ, suc, ◌+◌, ◌-◌, ◌%◌, ◌<◌, ◌≤◌, List, [], ◌∷◌, ◌++◌, Option, None, Some, add-one, append_assoc, ap, arith, common_steps, drop, get_or, length, length-append, length-drop, length-take, map, refl, slice_get, slice_get-drop, slice_get-take, slice_get_cases, sym, take, take_at, turned, ◌∙◌, ◌⊎◌, Slots, HoldsStretch, refilled, items_from, IsLaidOut, LaysOut, View, length-map, ext_get_or, get_or_append_left, get_or-append_right, get_or-drop, get_or-take}
 use Rattle.std.proofs.lemmas.Bool.Decides.{nat_tests}
 use Rattle.std.proofs.lemmas.Grind.{elements}
 use Rattle.std.proofs.lemmas.List.Edits.{length-swap, swap_is}

@@ -1,4 +1,4 @@
-use Rattle.ring_fixed.proofs.Words.{LaysOut, List, ◌≡◌, ◌+◌, ◌*◌, ◌≤◌, ◌++◌, ◌∙◌, View, IsPowerOfTwo, ap, arith, drop, items_from, length, length-drop, length-take, subst, sym, take, turned, view_of}
+use Rattle.ring_fixed.proofs.Words.{LaysOut, List, ◌≡◌, ◌+◌, ◌*◌, ◌≤◌, ◌++◌, ◌∙◌, IsPowerOfTwo, ap, arith, drop, items_from, length, length-drop, length-take, subst, sym, take, turned, view_of}
 use Rattle.ring_fixed.proofs.LaysOut.{LaysOut-none}
 use Rattle.ring_fixed.proofs.Stretches.{stretch_is}
 use Rattle.ring_fixed.proofs.TurnedWithin.{LaysOut-within, after_turn_within-none, length-turned_within, stretch_within}
@@ -32,6 +32,7 @@ returns-clause-after g c =
     let long : length ys ≡ len = omega (arith, c.rotate_left.ensures.len, ap length was, length-take len (drop i items), length-drop i items) in
     let count : c.after-changes.result.count ≡ f.slots.changes + 4 * c.args.others = omega (arith, c.after-changes.ensures, c.after-3.ensures, c.after-2.ensures, c.after.ensures, c.changes.ensures) in
     let lies = LaysOut-within f.slots f.start sound i len place low c.place-place.ensures fit ys long c.after-changes.result.count in
-    let after = after_turn_within i c.args.others c.args.count (view_of (λ s. s) f) in
-    (subst (LaysOut IsPowerOfTwo f.slots _ f.start) (view_is {w = after} (ap (λ (l : List _). take i items ++ (l ++ drop (i + len) items)) is) count (λ k. length f.slots.slots)) lies,
-     c.requires.sound.1 ∙ sym (length-turned_within i len c.args.count items low (omega arith)))
+    let after = after_turn_within i c.args.others c.args.count (view_of (λ s. s) f) in (
+      subst (LaysOut IsPowerOfTwo f.slots _ f.start) (view_is {w = after} (ap (λ (l : List _). take i items ++ (l ++ drop (i + len) items)) is) count (λ k. length f.slots.slots)) lies,
+      c.requires.sound.1 ∙ sym (length-turned_within i len c.args.count items low (omega arith)),
+    )
