@@ -1,5 +1,5 @@
 -- Items that go round a ring, and one that is taken or put between two turns.
-use Rattle.ring_fixed.proofs.Words.{◌≡◌, ℕ, suc, ◌+◌, ◌-◌, ◌<◌, ◌≤◌, List, [], ◌∷◌, ◌++◌, Some, add-one, ap, append-nil, append_assoc, arith, common_steps, drop, ext_get_or, drop-cons, get_or, length, refl, slice_get, sym, take, take-append-add, take-suc, turned, View, after_insert, after_pop, after_put, after_put_first, after_remove, after_rotate, after_take, after_turn_left, after_turn_right, ◌∙◌}
+use Rattle.ring_fixed.proofs.Words.{subst, ◌≡◌, ℕ, suc, ◌+◌, ◌-◌, ◌*◌, ◌<◌, ◌≤◌, List, [], ◌∷◌, ◌++◌, Some, add-one, ap, append-nil, append_assoc, arith, common_steps, drop, ext_get_or, drop-append_seam, drop-cons, drop-length, get_or, length, length-append, length-drop, length-take, length-take-le, min, refl, slice_get, slice_get-drop, slice_get-take, sym, take, take-append-add, take-append-drop, take-suc, take_all, take_at, turned, View, after_insert, after_pop, after_put, after_put_first, after_remove, after_rotate, after_take, after_turn_left, after_turn_right, ◌∙◌}
 use Rattle.std.proofs.lemmas.Grind.{elements}
 use Rattle.std.proofs.lemmas.Option.{get_or_from_slice_get}
 use Rattle.ring_fixed.proofs.LaysOut.{LaysOut-then}
@@ -96,5 +96,6 @@ module _ {X : Type 0} (i : ℕ) (v : View X) where
 
 module _ {T S : Type 0} (seen : S → Slots T) (P : ℕ → Type 0) where
   -- one call, and then another that works on what the first one shows
-  pub ChangesTo-then : (a b c : Fixed T S) {v : View T} (step : View T → View T) → ChangesTo seen P a b v → ChangesTo seen P b c (step (view_of seen b)) → ChangesTo seen P a c (step v)
-  ChangesTo-then a b c step first second = (LaysOut-then step first.0 second.0, second.1 ∙ ap (λ (w : View T). length (step w).items) first.0.shows)
+  pub ChangesTo-then : (a b c : Fixed T S) {v w : View T} (step : View T → View T) → ChangesTo seen P a b v → ChangesTo seen P b c (step (view_of seen b)) → step v ≡ w → ChangesTo seen P a c w
+  ChangesTo-then a b c step first second is =
+      subst (ChangesTo seen P a c) is (LaysOut-then step first.0 second.0, second.1 ∙ ap (λ (w : View T). length (step w).items) first.0.shows)
