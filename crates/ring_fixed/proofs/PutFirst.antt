@@ -1,6 +1,6 @@
 -- An item put before the first.
-use Rattle.ring_fixed.proofs.Words.{◌≡◌, ℕ, suc, ◌+◌, ◌-◌, ◌%◌, ◌<◌, List, ◌∷◌, length, Option, Some, refl, sym, ap, ◌∙◌, arith, dec_lt, slice_get-drop, length-set, length-take, get_or-set_same, get_or-set_other, set, mod-lt, slice_get_past, Slots, IsEmptyAt, changed, View, after_pop, after_push_front, after_put_first, take_all, SlotsHold, items_from, view_from, IsLaidOut, LaysOut}
-use Rattle.ring_fixed.proofs.SlotsHold.{wrap}
+use Rattle.ring_fixed.proofs.Words.{◌≡◌, ◌≢◌, ℕ, zero, suc, ◌+◌, ◌-◌, ◌%◌, ◌<◌, List, ◌∷◌, length, get_or, Option, None, Some, refl, sym, ap, ◌∙◌, arith, dec_lt, slice_get-drop, length-set, length-take, get_or-set_same, get_or-set_other, set, add-mod_right, mod-eq_of_lt, mod-lt, slice_get, slice_get_past, Slots, IsEmptyAt, changed, View, after_pop, after_push_front, after_put_first, min, take_all, SlotsHold, items_from, view_from, IsLaidOut, LaysOut}
+use Rattle.ring_fixed.proofs.SlotsHold.{count_on, wrap}
 use Rattle.ring_fixed.proofs.LaysOut.{LaysOut-items}
 use Rattle.ring_fixed.proofs.RepeatedSteps.{view_is}
 
@@ -26,12 +26,6 @@ module _ {X : Type 0} (slots : List (Option X)) (start : ℕ) (within : start < 
       ])
 
 module _ {X : Type 0} {P : ℕ → Type 0} (s : Slots X) (start : ℕ) (laid_out : IsLaidOut P s start) where
-  -- before the first item the slot is empty where there is room
-  pub before_empty : (place : ℕ) → length (items_from s.slots start) < length s.slots → place ≡ (start + (length s.slots - 1)) % length s.slots → IsEmptyAt s place
-  before_empty place room found =
-      let items = items_from s.slots start in let size = length s.slots in
-      rw found (mod-lt (start + (size - 1)) (omega arith), laid_out.layout (size - 1) (omega arith) ∙ slice_get_past items (size - 1) (omega arith))
-
   pub LaysOut-put_first : (new : Slots X) (place : ℕ) (x : X) → length (items_from s.slots start) < length s.slots → place ≡ (start + (length s.slots - 1)) % length s.slots
       → new ≡ changed s place (Some x) → LaysOut P s new place (after_put_first (view_from s start) x)
   LaysOut-put_first new place x room found is =
