@@ -7,13 +7,11 @@ use Rattle.ring_fixed.proofs.fixed.Fixed.push_stretch.Goals as goal
 
 -- The place after the last goes straight on.
 goes_straight : (full : Bool) (span : Span) (end i size : ℕ) → end ≡ (span.start + span.len) % size → end + i < size → let now = after_pushes full span i size in end + i ≡ (now.start + now.len) % size
-goes_straight true span end i size found low = straight_on span.start span.len end size i found low ∙ sym (count_on span.start i span.len (span.len + i) size (omega arith))
-goes_straight false span end i size found low = straight_on span.start span.len end size i found low
+goes_straight full span end i size found low = grind (arith, straight_on span.start span.len end size i found low, count_on span.start i span.len (span.len + i) size)
 
 -- No push leaves the start as it is.
 none_yet : (full : Bool) (span : Span) (size : ℕ) → span.start < size → (after_pushes full span 0 size).start ≡ span.start
-none_yet true span size low = ap (λ n. n % size) {x = span.start + 0} {y = span.start} (omega arith) ∙ mod-eq_of_lt low
-none_yet false span size low = refl
+none_yet full span size low = grind (arith, mod-eq_of_lt)
 
 -- As many pushes on, from a ring of that length.
 module _ {X : Type 0} (old : Slots X) (span : Span) (capacity i : ℕ) (xs : List X) (long : length xs ≡ i) (counted : span.len ≡ length (items_from old.slots span.start)) where
