@@ -1,6 +1,6 @@
 -- An item put before the first.
-use Rattle.ring_fixed.proofs.Words.{◌≡◌, ◌≢◌, ℕ, zero, suc, ◌+◌, ◌-◌, ◌%◌, ◌<◌, List, ◌∷◌, length, get_or, Option, None, Some, refl, sym, ap, ◌∙◌, arith, dec_lt, slice_get-drop, length-set, length-take, get_or-set_same, get_or-set_other, set, add-mod_right, mod-eq_of_lt, mod-lt, slice_get, slice_get_past, Slots, IsEmptyAt, changed, View, after_pop, after_push_front, after_put_first, min, take_all, SlotsHold, items_from, view_from, IsLaidOut, LaysOut}
-use Rattle.ring_fixed.proofs.SlotsHold.{count_on, wrap}
+use Rattle.ring_fixed.proofs.Words.{◌≡◌, ℕ, suc, ◌+◌, ◌-◌, ◌%◌, ◌<◌, List, ◌∷◌, length, Option, Some, refl, sym, ap, arith, dec_lt, slice_get-drop, length-set, length-take, get_or-set_same, get_or-set_other, set, mod-lt, Slots, changed, View, after_pop, after_push_front, after_put_first, take_all, SlotsHold, items_from, view_from, IsLaidOut, LaysOut}
+use Rattle.ring_fixed.proofs.SlotsHold.{wrap}
 use Rattle.ring_fixed.proofs.LaysOut.{LaysOut-items}
 use Rattle.ring_fixed.proofs.RepeatedSteps.{view_is}
 

@@ -1,5 +1,5 @@
 -- A stretch of the items of a ring that is turned in its place.
-use Rattle.ring_fixed.proofs.Words.{after_insert, after_pop, after_put_first, after_remove, after_take, if◌then◌else◌, after_swap, ◌≡◌, ℕ, suc, ◌+◌, ◌-◌, ◌%◌, ◌<◌, ◌≤◌, List, [], ◌∷◌, ◌++◌, Option, None, Some, add-one, append_assoc, ap, arith, common_steps, drop, get_or, length, length-append, length-drop, length-take, map, refl, slice_get, slice_get-drop, slice_get-take, slice_get_cases, sym, take, take_at, turned, ◌∙◌, ◌⊎◌, Slots, HoldsStretch, refilled, items_from, IsLaidOut, LaysOut, View, length-map, ext_get_or, get_or_append_left, get_or-append_right, get_or-drop, get_or-take}
+use Rattle.ring_fixed.proofs.Words.{after_insert, after_pop, after_put_first, after_remove, after_take, if◌then◌else◌, after_swap, ◌≡◌, ℕ, suc, ◌+◌, ◌-◌, ◌%◌, ◌<◌, ◌≤◌, List, [], ◌∷◌, ◌++◌, None, add-one, append_assoc, ap, arith, common_steps, drop, get_or, length, length-append, length-drop, length-take, refl, slice_get, slice_get-drop, slice_get-take, slice_get_cases, sym, take, turned, ◌∙◌, ◌⊎◌, Slots, HoldsStretch, refilled, items_from, IsLaidOut, LaysOut, View, ext_get_or, get_or_append_left, get_or-append_right, get_or-drop, get_or-take}
 use Rattle.std.proofs.lemmas.Bool.Decides.{nat_tests}
 use Rattle.std.proofs.lemmas.Grind.{elements}
 use Rattle.std.proofs.lemmas.List.Edits.{length-swap, swap_is}
@@ -11,14 +11,7 @@ use Rattle.ring_fixed.proofs.Copies.{LaysOut-filled}
 use Rattle.ring_fixed.proofs.SlotsHold.{straight_on}
 use Rattle.ring_fixed.proofs.Stretches.{stretch_of}
 use Rattle.ring_fixed.proofs.RepeatedSteps.{view_is}
-use Rattle.ring_slots.proofs.Filled.{first_item}
-use Rattle.ring_slots.specs.Slots.{filled}
-
--- other items in a stretch of slots
-refilled_is : {X : Type 0} (cs : List (Option X)) (place : ℕ) (ys : List X) → refilled cs place (length ys) ys ≡ filled cs place ys
-refilled_is cs place ys =
-    let n = length ys in let zs = take n (drop place cs) in
-    ap (λ l. take place cs ++ (l ++ drop (place + n) cs)) (take_at (map Some ys) (drop (length (map Some ys)) zs) n (omega (arith, length-map ys Some)))
+use Rattle.ring_slots.proofs.Filled.{first_item, refilled_is}
 
 -- items that lie side by side are a stretch of slots, and others put there, as many, take their place in the ring
 module _ {X : Type 0} {P : ℕ → Type 0} (s : Slots X) (start : ℕ) (laid_out : IsLaidOut P s start) (i len place : ℕ)

@@ -1,5 +1,5 @@
 -- Items that go round a ring, and one that is taken or put between two turns.
-use Rattle.ring_fixed.proofs.Words.{subst, ◌≡◌, ℕ, suc, ◌+◌, ◌-◌, ◌*◌, ◌<◌, ◌≤◌, List, [], ◌∷◌, ◌++◌, Some, add-one, ap, append-nil, append_assoc, arith, common_steps, drop, ext_get_or, drop-append_seam, drop-cons, drop-length, get_or, length, length-append, length-drop, length-take, length-take-le, min, refl, slice_get, slice_get-drop, slice_get-take, sym, take, take-append-add, take-append-drop, take-suc, take_all, take_at, turned, View, after_insert, after_pop, after_put, after_put_first, after_remove, after_rotate, after_take, after_turn_left, after_turn_right, ◌∙◌}
+use Rattle.ring_fixed.proofs.Words.{subst, ◌≡◌, ℕ, suc, ◌+◌, ◌-◌, ◌<◌, ◌≤◌, List, [], ◌∷◌, ◌++◌, Some, add-one, ap, append-nil, append_assoc, arith, common_steps, drop, ext_get_or, drop-cons, get_or, length, refl, slice_get, sym, take, take-append-add, take-suc, turned, View, after_insert, after_pop, after_put, after_put_first, after_remove, after_rotate, after_take, after_turn_left, after_turn_right, ◌∙◌}
 use Rattle.std.proofs.lemmas.Grind.{elements}
 use Rattle.std.proofs.lemmas.Option.{get_or_from_slice_get}
 use Rattle.ring_fixed.proofs.LaysOut.{LaysOut-then}

@@ -1,5 +1,5 @@
 -- What slots hold once items are put into a stretch of them.
-use Rattle.ring_slots.proofs.Words.{◌≡◌, refl, ap, false, List, [], ◌∷◌, ◌++◌, ℕ, zero, suc, ◌+◌, ◌<◌, ◌≤◌, arith, length, get_or, take, cut, map, Option, None, Some}
+use Rattle.ring_slots.proofs.Words.{length-map, take_front, refilled, ◌≡◌, refl, ap, false, List, [], ◌∷◌, ◌++◌, ℕ, zero, suc, ◌+◌, ◌<◌, ◌≤◌, arith, length, get_or, take, cut, map, Option, None, Some}
 use mathlib.Core.Logic.{◌⊎◌}
 use Rattle.std.proofs.Common.{ext_get_or}
 use Rattle.std.proofs.lemmas.Grind.{common_steps}
@@ -34,6 +34,12 @@ module _ {X : Type 0} (slots : List (Option X)) (from : ℕ) (xs : List X) (with
 
   pub filled-behind : (i : ℕ) → from + length xs ≤ i → get_or (filled slots from xs) i None ≡ get_or slots i None
   filled-behind i late = grind (arith, common_steps)
+
+-- as many items put in place of others
+pub refilled_is : {X : Type 0} (cs : List (Option X)) (place : ℕ) (ys : List X) → refilled cs place (length ys) ys ≡ filled cs place ys
+refilled_is cs place ys =
+    let n = length ys in let zs = take n (cut place cs) in
+    ap (λ l. take place cs ++ (l ++ cut (place + n) cs)) (take_front (map Some ys) (cut (length (map Some ys)) zs) n (omega (arith, length-map ys Some)))
 
 -- slots that hold a row into which items were copied have these items
 module _ {X : Type 0} (old new : List (Option X)) (before after : Row X) (size from : ℕ) (xs : List X) (all : size ≡ length old) (within : from + length xs ≤ length old)

@@ -1,9 +1,8 @@
-use Rattle.ring_fixed.proofs.Words.{refl, ◌+◌, ◌-◌, View, IsPowerOfTwo, ap, arith, items_from, length, subst, view_of}
+use Rattle.ring_fixed.proofs.Words.{refl, ◌+◌, ◌-◌, View, IsPowerOfTwo, ap, arith, items_from, length, view_of}
 use Rattle.std.proofs.lemmas.List.Edits.{length-swap}
 use Rattle.ring_fixed.proofs.Turns.{ChangesTo-then}
 use Rattle.ring_fixed.proofs.TurnedWithin.{after_turn_within-forward, length-turned_within}
 use Rattle.ring_fixed.specs.View.{after_swap, after_turn_within}
-use Rattle.ring_fixed.specs.fixed.Sound.{ChangesTo}
 use Rattle.ring_fixed.proofs.by_slices.Fixed+T+HeapSlots+T.bring_forward.Goals as goal
 
 -- No call changes how many items there are.

@@ -1,8 +1,7 @@
-use Rattle.ring_fixed.proofs.Words.{IsPowerOfTwo, arith, subst, view_of}
+use Rattle.ring_fixed.proofs.Words.{IsPowerOfTwo, arith, view_of}
 use Rattle.ring_fixed.proofs.Turns.{ChangesTo-then}
 use Rattle.ring_fixed.proofs.TurnedWithin.{after_insert-first}
 use Rattle.ring_fixed.specs.View.{after_turn_within}
-use Rattle.ring_fixed.specs.fixed.Sound.{ChangesTo}
 use Rattle.ring_fixed.proofs.by_slices.Fixed+T+HeapSlots+T.insert_by_slices.Goals as goal
 
 pub returns-then-index-behind : goal.returns-then-index-behind

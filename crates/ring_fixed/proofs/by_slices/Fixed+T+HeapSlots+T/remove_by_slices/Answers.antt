@@ -1,8 +1,7 @@
-use Rattle.ring_fixed.proofs.Words.{◌≡◌, ◌-◌, ◌≤◌, ◌∙◌, View, IsPowerOfTwo, after_pop, after_take, ap, arith, length, slice_get, subst, view_of}
+use Rattle.ring_fixed.proofs.Words.{◌≡◌, ◌-◌, ◌≤◌, ◌∙◌, View, IsPowerOfTwo, after_pop, after_take, ap, arith, length, slice_get, view_of}
 use Rattle.ring_fixed.proofs.Turns.{ChangesTo-then}
 use Rattle.ring_fixed.proofs.TurnedWithin.{after_remove-first, after_remove-last, last_was}
 use Rattle.ring_fixed.specs.View.{after_turn_within}
-use Rattle.ring_fixed.specs.fixed.Sound.{ChangesTo}
 use Rattle.ring_fixed.proofs.by_slices.Fixed+T+HeapSlots+T.remove_by_slices.Goals as goal
 
 pub returns-then-index-behind-clause-after : goal.returns-then-index-behind-clause-after

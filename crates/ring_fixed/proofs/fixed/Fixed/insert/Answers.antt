@@ -1,6 +1,5 @@
-use Rattle.ring_fixed.proofs.Words.{refl, after_put_first, after_turn_right, arith, subst, view_of}
+use Rattle.ring_fixed.proofs.Words.{refl, after_put_first, after_turn_right, arith, view_of}
 use Rattle.ring_fixed.proofs.Turns.{ChangesTo-then, after_insert-front}
-use Rattle.ring_fixed.specs.fixed.Sound.{ChangesTo}
 use Rattle.ring_fixed.proofs.fixed.Fixed.insert.Goals as goal
 
 pub returns-then-index-behind : goal.returns-then-index-behind

@@ -1,6 +1,5 @@
-use Rattle.ring_fixed.proofs.Words.{refl, ◌≡◌, ◌+◌, ◌-◌, ◌≤◌, ◌∙◌, View, after_pop, after_take, after_turn_left, after_turn_right, ap, arith, length, subst, turned, view_of}
+use Rattle.ring_fixed.proofs.Words.{refl, ◌≡◌, ◌+◌, ◌-◌, ◌≤◌, ◌∙◌, View, after_pop, after_take, after_turn_left, after_turn_right, ap, arith, length, turned, view_of}
 use Rattle.ring_fixed.proofs.Turns.{ChangesTo-then, after_remove-back, after_remove-front, last-turned}
-use Rattle.ring_fixed.specs.fixed.Sound.{ChangesTo}
 use Rattle.ring_fixed.proofs.fixed.Fixed.remove.Goals as goal
 
 pub returns-then-index-behind-clause-after : goal.returns-then-index-behind-clause-after
