@@ -39,22 +39,20 @@ module _ {X : Type 0} {P : ℕ → Type 0} (s : Slots X) (start : ℕ) (laid_out
       -- the slot of each item in the range is empty
       emptied_at : (j : ℕ) → j < size → from ≤ j → j < to → slot_at new ((start + j) % size) ≡ None
       emptied_at j low late early =
-          let starts = laid_out.start_within in let place = (start + j) % size in
-          elim (wrap start j size starts (omega arith)) [ inl a ↦ second.behind place (omega arith) ∙ first.emptied place (omega arith) (omega arith) | inr a ↦ second.emptied place (omega arith) (omega arith) ]
+          let starts = laid_out.start_within in let round = wrap start j size starts (omega arith) in
+          grind (arith, round, first.emptied, second.behind, second.emptied)
 
       -- and every other slot is as it was
       kept_at : (j : ℕ) → j < size → (j < from) ⊎ (to ≤ j) → slot_at new ((start + j) % size) ≡ slice_get items j
       kept_at j low other =
-          let starts = laid_out.start_within in let place = (start + j) % size in
-          let same : slot_at new place ≡ slot_at s place = elim (wrap start j size starts (omega arith)) [ inl a ↦ grind (arith, first.before, first.behind, second.behind) | inr a ↦ grind (arith, first.before, second.before, second.behind) ] in
-          same ∙ laid_out.layout j low
+          let starts = laid_out.start_within in let round = wrap start j size starts (omega arith) in let held = laid_out.layout j low in
+          grind (arith, round, held, first.before, first.behind, second.before, second.behind)
 
       -- the items before the index stay, where those up to the last are dropped
       kept : to ≡ length items → SlotsHold new.slots start (take from items)
       kept all j low =
           let low' : j < size = rw same_size at low in
-          let early = λ (low : j < from). kept_at j low' (inl low) in let late = λ (above : to ≤ j). kept_at j low' (inr above) in
-          rw same_size (grind (arith, early, late, emptied_at j, slice_get-take, slice_get_past, length-take))
+          rw same_size (grind (arith, kept_at j, emptied_at j, slice_get-take, slice_get_past, length-take))
 
       pub LaysOut-truncate : to ≡ length items → LaysOut P s new start (after_truncate from (view_from s start))
       LaysOut-truncate all =

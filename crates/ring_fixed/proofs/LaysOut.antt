@@ -77,10 +77,9 @@ module _ {X : Type 0} {P : ℕ → Type 0} (s : Slots X) (start : ℕ) (laid_out
   same_place len some fit = sym (count_on start 1 (len - 1) len (length s.slots) (omega arith))
 
   -- past the last item the slots are empty
-  pub past_empty : (place : ℕ) → length (items_from s.slots start) < length s.slots → place ≡ (start + length (items_from s.slots start)) % length s.slots → IsEmptyAt s place
-  past_empty place room found =
-      let items = items_from s.slots start in
-      rw found (mod-lt (start + length items) (omega arith), laid_out.layout (length items) room ∙ slice_get_past items (length items) (omega arith))
+  pub past_empty : (place k : ℕ) → length (items_from s.slots start) ≤ k → k < length s.slots → place ≡ (start + k) % length s.slots → IsEmptyAt s place
+  past_empty place k past low found =
+      rw found (mod-lt (start + k) (omega arith), laid_out.layout k low ∙ slice_get_past (items_from s.slots start) k past)
 
 module _ {X : Type 0} (slots : List (Option X)) (start : ℕ) (empty : slots ≡ replicate (length slots) None) where
   -- in empty slots no item lies

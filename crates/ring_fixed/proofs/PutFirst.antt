@@ -1,7 +1,8 @@
 -- An item put before the first.
-use Rattle.ring_fixed.proofs.Words.{◌≡◌, ◌≢◌, ℕ, zero, suc, ◌+◌, ◌-◌, ◌%◌, ◌<◌, List, ◌∷◌, length, get_or, Option, None, Some, refl, ap, ◌∙◌, arith, length-set, length-take, get_or-set_same, get_or-set_other, set, add-mod_right, mod-eq_of_lt, mod-lt, slice_get, slice_get_past, Slots, IsEmptyAt, changed, View, after_pop, after_push_front, after_put_first, min, take_all, SlotsHold, items_from, view_from, IsLaidOut, LaysOut}
-use Rattle.ring_fixed.proofs.SlotsHold.{count_on, wrap}
+use Rattle.ring_fixed.proofs.Words.{◌≡◌, ℕ, suc, ◌+◌, ◌-◌, ◌%◌, ◌<◌, List, ◌∷◌, length, Option, Some, refl, sym, ap, arith, dec_lt, slice_get-drop, length-set, length-take, get_or-set_same, get_or-set_other, set, mod-lt, Slots, changed, View, after_pop, after_push_front, after_put_first, take_all, SlotsHold, items_from, view_from, IsLaidOut, LaysOut}
+use Rattle.ring_fixed.proofs.SlotsHold.{wrap}
 use Rattle.ring_fixed.proofs.LaysOut.{LaysOut-items}
+use Rattle.ring_fixed.proofs.RepeatedSteps.{view_is}
 
 module _ (start size : ℕ) (within : start < size) where
   -- the place before the start, counted round
@@ -11,39 +12,20 @@ module _ (start size : ℕ) (within : start < size) where
   pub before_within : place_before < size
   before_within = mod-lt (start + (size - 1)) (omega arith)
 
-  -- one on from the place before the start is the start
-  on_from : (k : ℕ) → (place_before + suc k) % size ≡ (start + k) % size
-  on_from k = count_on start (size - 1) (suc k) (size + k) size (omega arith) ∙ ap (λ n. n % size) {x = start + (size + k)} {y = start + k + size} (omega arith) ∙ add-mod_right (start + k) size
-
-  at_itself : (place_before + 0) % size ≡ place_before
-  at_itself = ap (λ n. n % size) {x = place_before + 0} {y = place_before} (omega arith) ∙ mod-eq_of_lt before_within
-
-  -- the last of all places is none of those before it
-  apart : (k : ℕ) → suc k < size → (start + k) % size ≢ place_before
-  apart k low same = grind (arith, wrap start k size within, wrap start (size - 1) size within)
-
 module _ {X : Type 0} (slots : List (Option X)) (start : ℕ) (within : start < length slots) where
   -- an item put into the slot before the first
   pub SlotsHold-put_first : (xs : List X) (x : X) → SlotsHold slots start xs
       → SlotsHold (set slots (place_before start (length slots) within) (Some x)) (place_before start (length slots) within) (x ∷ xs)
   SlotsHold-put_first xs x hold k low =
-      let size = length slots in let place = place_before start size within in
-      rw (length-set slots place (Some x)) (held k (rw (length-set slots place (Some x)) at low)) where
-        held : (k : ℕ) → k < length slots → get_or (set slots (place_before start (length slots) within) (Some x)) ((place_before start (length slots) within + k) % length slots) None ≡ slice_get (x ∷ xs) k
-        held zero low =
-            let size = length slots in let place = place_before start size within in
-            ap (λ n. get_or (set slots place (Some x)) n None) (at_itself start size within) ∙ get_or-set_same slots place (Some x) None (before_within start size within)
-        held (suc k) low =
-            let size = length slots in let place = place_before start size within in
-            ap (λ n. get_or (set slots place (Some x)) n None) (on_from start size within k) ∙ get_or-set_other slots place ((start + k) % size) (Some x) None (apart start size within k low) ∙ hold k (omega arith)
+      let size = length slots in let place = place_before start size within in let placed = before_within start size within in
+      let low' : k < size = rw (length-set slots place (Some x)) at low in let held = hold (k - 1) in
+      let round = wrap place k size placed (omega arith) in let round' = wrap start (size - 1) size within (omega arith) in let round'' = wrap start (k - 1) size within (omega arith) in
+      rw (length-set slots place (Some x)) (elim (dec_lt 0 k) [
+        | yes behind ↦ grind (arith, held, round, round', round'', get_or-set_other, slice_get-drop 1 (k - 1) (x ∷ xs))
+        | no first ↦ let is : k ≡ 0 = omega arith in rw is (grind (arith, round, placed, get_or-set_same))
+      ])
 
 module _ {X : Type 0} {P : ℕ → Type 0} (s : Slots X) (start : ℕ) (laid_out : IsLaidOut P s start) where
-  -- before the first item the slot is empty where there is room
-  pub before_empty : (place : ℕ) → length (items_from s.slots start) < length s.slots → place ≡ (start + (length s.slots - 1)) % length s.slots → IsEmptyAt s place
-  before_empty place room found =
-      let items = items_from s.slots start in let size = length s.slots in
-      rw found (mod-lt (start + (size - 1)) (omega arith), laid_out.layout (size - 1) (omega arith) ∙ slice_get_past items (size - 1) (omega arith))
-
   pub LaysOut-put_first : (new : Slots X) (place : ℕ) (x : X) → length (items_from s.slots start) < length s.slots → place ≡ (start + (length s.slots - 1)) % length s.slots
       → new ≡ changed s place (Some x) → LaysOut P s new place (after_put_first (view_from s start) x)
   LaysOut-put_first new place x room found is =
@@ -62,13 +44,8 @@ module _ {X : Type 0} (capacity : ℕ) (v : View X) (x : X) where
   -- a push in front where there is no room
   pub after_push_front-full : length v.items ≡ capacity → 0 < capacity → after_put_first (after_pop v) x ≡ after_push_front capacity v x
   after_push_front-full full some =
-      let last = length v.items - 1 in
-      let more : capacity ≡ suc last = omega arith in
-      let twice : v.changes + min (length v.items) 1 + 1 ≡ v.changes + 1 + (length v.items + 1 - capacity) = omega arith in
-      rw (twice, more) refl
+      let more : capacity ≡ suc (length v.items - 1) = omega arith in view_is (rw more refl) (omega arith) refl
 
   -- and where there is some
   pub after_push_front-room : length v.items < capacity → after_put_first v x ≡ after_push_front capacity v x
-  after_push_front-room room =
-      let once : v.changes + 1 + (length v.items + 1 - capacity) ≡ v.changes + 1 = omega arith in
-      rw (once, take_all capacity (x ∷ v.items) (omega arith)) refl
+  after_push_front-room room = view_is (sym (take_all capacity (x ∷ v.items) (omega arith))) (omega arith) refl

@@ -16,7 +16,7 @@ module _ {X : Type 0} {P : ℕ → Type 0} {s taken : Slots X} {start next place
   found_again = rw (after.same_size, count, turned) (found ∙ same_place s start laid_out len some (rw counted laid_out.fit))
 
   pub over_empty : IsEmptyAt taken place
-  over_empty = past_empty taken next after.laid_out place room found_again
+  over_empty = past_empty taken next after.laid_out place (length (items_from taken.slots next)) (omega arith) room found_again
 
   pub over_lays_out : (new : Slots X) (x : X) → new ≡ changed taken place (Some x) → LaysOut P s new next (after_put (after_take (view_from s start)) x)
   over_lays_out new x is =

@@ -1,6 +1,10 @@
 -- What steps repeated come to.
 use Rattle.ring_fixed.proofs.Words.{◌≡◌, ℕ, suc, ◌+◌, ◌-◌, ◌<◌, ◌≤◌, List, Some, ap, sym, ◌∙◌, [], ◌∷◌, ◌++◌, length, take, refl, arith, append_assoc, append-nil, length-append, length-drop, min, option_to_list, slice_get, drop-length, drop-append-le, drop_min, take_all, View, after_put, after_puts, after_take, after_takes, after_clear, after_push, after_extend, after_extend_from_slice, after_keep_newest, keep_last, drop-append, take-suc_get, keep_last-keep_last}
 
+-- two views are equal part by part
+pub view_is : {X : Type 0} {v w : View X} → v.items ≡ w.items → v.changes ≡ w.changes → v.capacity ≡ w.capacity → v ≡ w
+view_is items changes capacity = λ i. record { items = items i; changes = changes i; capacity = capacity i }
+
 module _ {X : Type 0} where
   -- the last item behind those before it makes all items
   pub last_behind : (xs : List X) → take (length xs - 1) xs ++ option_to_list (slice_get xs (length xs - 1)) ≡ xs
@@ -10,9 +14,7 @@ module _ {X : Type 0} where
   after_takes-all k v all = rw (all, drop-length v.items) refl
 
   pub after_puts-then : (xs ys : List X) (v : View X) → after_puts ys (after_puts xs v) ≡ after_puts (xs ++ ys) v
-  after_puts-then xs ys v =
-      let sum : v.changes + length xs + length ys ≡ v.changes + length (xs ++ ys) = omega (arith, length-append xs ys) in
-      rw (append_assoc v.items xs ys, sum) refl
+  after_puts-then xs ys v = view_is (append_assoc v.items xs ys) (omega (arith, length-append xs ys)) refl
 
   pub after_puts-more : (xs : List X) (x : X) (v : View X) → after_put (after_puts xs v) x ≡ after_puts (xs ++ x ∷ []) v
   after_puts-more xs x v = after_puts-then xs (x ∷ []) v
@@ -21,30 +23,22 @@ module _ {X : Type 0} where
   pub after_push-full : (capacity : ℕ) (v : View X) (x : X) → length v.items ≡ capacity → 0 < capacity → after_push capacity v x ≡ after_put (after_take v) x
   after_push-full capacity v x full some =
       let one : length (v.items ++ x ∷ []) - capacity ≡ 1 = omega (arith, length-append v.items (x ∷ [])) in
-      let twice : v.changes + 1 + (length v.items + 1 - capacity) ≡ v.changes + min (length v.items) 1 + 1 = omega arith in
-      rw (one, twice, drop-append-le 1 v.items (x ∷ []) (omega arith)) refl
+      view_is (rw (one, drop-append-le 1 v.items (x ∷ []) (omega arith)) refl) (omega arith) refl
 
   -- one extension, and then another
   pub after_extend-then : (capacity : ℕ) (v : View X) (xs ys : List X) → after_extend capacity (after_extend capacity v xs) ys ≡ after_extend capacity v (xs ++ ys)
   after_extend-then capacity v xs ys =
       let all = v.items ++ xs in
-      let items = keep_last-keep_last (Some capacity) all ys ∙ ap (keep_last (Some capacity)) (append_assoc v.items xs ys) in
-      let changes : (after_extend capacity (after_extend capacity v xs) ys).changes ≡ (after_extend capacity v (xs ++ ys)).changes =
-      omega (arith, length-drop (length all - capacity) all, length-append v.items xs, length-append xs ys) in
-      λ i. record { items = items i; changes = changes i; capacity = v.capacity }
-
-  pub after_extend-more : (capacity : ℕ) (v : View X) (ys : List X) (y : X) → after_push capacity (after_extend capacity v ys) y ≡ after_extend capacity v (ys ++ y ∷ [])
-  after_extend-more capacity v ys y = after_extend-then capacity v ys (y ∷ [])
+      view_is (keep_last-keep_last (Some capacity) all ys ∙ ap (keep_last (Some capacity)) (append_assoc v.items xs ys))
+      (omega (arith, length-drop (length all - capacity) all, length-append v.items xs, length-append xs ys)) refl
 
   -- an extension by items that fit
   pub after_extend-fits : (capacity : ℕ) (v : View X) (xs : List X) → length v.items + length xs ≤ capacity → after_puts xs v ≡ after_extend capacity v xs
   after_extend-fits capacity v xs fits =
-      let none_over : length (v.items ++ xs) - capacity ≡ 0 = omega (arith, length-append v.items xs) in
-      let none_gave_way : v.changes + length xs + (length v.items + length xs - capacity) ≡ v.changes + length xs = omega arith in
-      rw (none_over, none_gave_way) refl
+      let none_over : length (v.items ++ xs) - capacity ≡ 0 = omega (arith, length-append v.items xs) in view_is (rw none_over refl) (omega arith) refl
 
   pub after_extend-none : (capacity : ℕ) (v : View X) → length v.items ≤ capacity → v ≡ after_extend capacity v []
-  after_extend-none capacity v fits = let same : v.changes + 0 ≡ v.changes = omega arith in rw (append-nil v.items, same) refl ∙ after_extend-fits capacity v [] (omega arith)
+  after_extend-none capacity v fits = view_is (sym (append-nil v.items)) (omega arith) refl ∙ after_extend-fits capacity v [] (omega arith)
 
   -- a ring that holds as many as it may holds as many after an extension
   pub after_extend-full : (capacity : ℕ) (v : View X) (ys : List X) → capacity ≡ length v.items → length (after_extend capacity v ys).items ≡ capacity
@@ -59,24 +53,20 @@ module _ {X : Type 0} where
       let back : length ys - n ≡ cut - length xs = omega (arith, length-append xs ys) in
       rw (front, back, drop_min) (drop-append cut xs ys)
 
-  -- a slice pushed: the newest items kept that leave room for what the limit leaves of it, and then that put
-  pub after_extend_from_slice-by : (limit : ℕ) (v : View X) (xs newest : List X) → newest ≡ keep_last (Some limit) xs
-      → after_puts newest (after_keep_newest (limit - length newest) v) ≡ after_extend_from_slice limit v xs
-  after_extend_from_slice-by limit v xs newest is =
-      let long : length newest ≡ min (length xs) limit = omega (arith, ap (λ (l : List X). length l) is, length-drop (length xs - limit) xs) in
-      let room : limit - length newest ≡ limit - length xs = omega (arith, long) in
-      let changes : v.changes + (length v.items - (limit - length newest)) + length newest ≡ v.changes + min (length xs) limit + (length v.items + min (length xs) limit - limit) = omega (arith, long) in
-      let items : keep_last (Some (limit - length newest)) v.items ++ newest ≡ keep_last (Some limit) (v.items ++ xs) = rw (room, is) (keep_last-append limit v.items xs) in
-      λ i. record { items = items i; changes = changes i; capacity = v.capacity }
+  module _ (limit : ℕ) (v : View X) (xs newest : List X) (is : newest ≡ keep_last (Some limit) xs) where
+    long : length newest ≡ min (length xs) limit
+    long = omega (arith, ap (λ (l : List X). length l) is, length-drop (length xs - limit) xs)
 
-  -- what the limit leaves of a slice pushed in order
-  pub after_extend-newest : (limit : ℕ) (v : View X) (xs newest : List X) → newest ≡ keep_last (Some limit) xs
-      → after_extend limit v newest ≡ after_extend_from_slice limit v xs
-  after_extend-newest limit v xs newest is =
-      let long : length newest ≡ min (length xs) limit = omega (arith, ap (λ (l : List X). length l) is, length-drop (length xs - limit) xs) in
-      let room : limit - length newest ≡ limit - length xs = omega (arith, long) in
-      let none_over : length newest - limit ≡ 0 = omega (arith, long) in
-      let changes : v.changes + length newest + (length v.items + length newest - limit) ≡ v.changes + min (length xs) limit + (length v.items + min (length xs) limit - limit) = omega (arith, long) in
-      let ours : keep_last (Some limit) (v.items ++ newest) ≡ keep_last (Some (limit - length xs)) v.items ++ newest = sym (keep_last-append limit v.items newest) ∙ rw (room, none_over) refl in
-      let items : keep_last (Some limit) (v.items ++ newest) ≡ keep_last (Some limit) (v.items ++ xs) = ours ∙ rw is (keep_last-append limit v.items xs) in
-      λ i. record { items = items i; changes = changes i; capacity = v.capacity }
+    room : limit - length newest ≡ limit - length xs
+    room = omega (arith, long)
+
+    -- a slice pushed: the newest items kept that leave room for what the limit leaves of it, and then that put
+    pub after_extend_from_slice-by : after_puts newest (after_keep_newest (limit - length newest) v) ≡ after_extend_from_slice limit v xs
+    after_extend_from_slice-by = view_is (rw (room, is) (keep_last-append limit v.items xs)) (omega (arith, long)) refl
+
+    -- what the limit leaves of a slice pushed in order
+    pub after_extend-newest : after_extend limit v newest ≡ after_extend_from_slice limit v xs
+    after_extend-newest =
+        let none_over : length newest - limit ≡ 0 = omega (arith, long) in
+        let ours : keep_last (Some limit) (v.items ++ newest) ≡ keep_last (Some (limit - length xs)) v.items ++ newest = sym (keep_last-append limit v.items newest) ∙ rw (room, none_over) refl in
+        view_is (ours ∙ rw is (keep_last-append limit v.items xs)) (omega (arith, long)) refl

@@ -5,11 +5,9 @@ use Rattle.ring_fixed.proofs.SlotsHold.{wrap}
 
 module _ {X : Type 0} where
   -- items that are known one by one are a stretch
-  pub stretch_of : (cs : List (Option X)) (from : ℕ) (xs : List X) → from + length xs ≤ length cs → ((k : ℕ) → k < length xs → get_or cs (from + k) None ≡ slice_get xs k)
-      → take (length xs) (drop from cs) ≡ map Some xs
-  stretch_of cs from xs fit reads =
-      let part = take (length xs) (drop from cs) in let long : length part ≡ length xs = omega (arith, length-take (length xs) (drop from cs), length-drop from cs) in
-      ext_get_or None part (map Some xs) (omega (arith, length-map xs Some)) (λ k low. grind (arith, reads k, get_or-take, get_or-drop, get_or-map_some))
+  pub stretch_of : (cs : List (Option X)) (from n : ℕ) (xs : List X) → length xs ≡ n → from + n ≤ length cs → ((k : ℕ) → k < n → get_or cs (from + k) None ≡ slice_get xs k) → HoldsStretch cs from n xs
+  stretch_of cs from n xs long fit reads =
+      ext_get_or None (take n (drop from cs)) (map Some xs) (omega (arith, long, length-take n (drop from cs), length-drop from cs, length-map xs Some)) (λ k low. grind (arith, reads k, get_or-take, get_or-drop, get_or-map_some, length-take n (drop from cs)))
 
   somes-map : (xs : List X) → somes (map Some xs) ≡ xs
   somes-map [] = refl
@@ -28,18 +26,13 @@ module _ {X : Type 0} {P : ℕ → Type 0} (s : Slots X) (start : ℕ) (laid_out
   pub first_held : HoldsStretch s.slots start first (take first items)
   first_held =
       let within = laid_out.start_within in
-      let xs = take first items in
-      let long : length xs ≡ first = omega (arith, length-take first items) in
-      rw long at (stretch_of s.slots start xs (omega arith) (λ k low. grind (arith, laid_out.layout k, mod-eq_of_lt, slice_get-take)))
+      stretch_of s.slots start first (take first items) (omega (arith, length-take first items)) (omega arith) (λ k low. grind (arith, laid_out.layout k, mod-eq_of_lt, slice_get-take))
 
   -- those that go on at the first
   pub second_held : HoldsStretch s.slots 0 (len - first) (drop first items)
   second_held =
-      let within = laid_out.start_within in let fit = laid_out.fit in
-      let xs = drop first items in
-      let long : length xs ≡ len - first = omega (arith, length-drop first items) in
-      let round = λ (k : ℕ). wrap start (first + k) (length s.slots) within in
-      rw long at (stretch_of s.slots 0 xs (omega arith) (λ k low. grind (arith, laid_out.layout (first + k), round k, slice_get-drop)))
+      let within = laid_out.start_within in let fit = laid_out.fit in let round = λ (k : ℕ). wrap start (first + k) (length s.slots) within in
+      stretch_of s.slots 0 (len - first) (drop first items) (omega (arith, length-drop first items)) (omega arith) (λ k low. grind (arith, laid_out.layout (first + k), round k, slice_get-drop))
 
   pub first_stretch : IsFullStretch s.slots start first
   first_stretch = let within = laid_out.start_within in (omega arith, (take first items, first_held))

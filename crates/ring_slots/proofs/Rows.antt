@@ -1,5 +1,5 @@
 -- The slots of an owner become a row of core's, and a row becomes slots.
-use Rattle.ring_slots.proofs.Words.{◌≡◌, refl, ap, Bool, true, false, List, [], ◌∷◌, ℕ, zero, suc, ◌+◌, ◌<◌, ◌≤◌, arith, length, get_or, Ura, ent, emp, id⊢, Fml, Logic, sem, ‵, ◌$◌, ◌∵◌, !, qed, use1, frame, by, layout, froom, RattleType, Option, Some, None, row, slot}
+use Rattle.ring_slots.proofs.Words.{◌≡◌, refl, ap, Bool, true, false, List, [], ◌∷◌, ℕ, zero, suc, ◌+◌, ◌<◌, ◌≤◌, arith, length, map, get_or, Ura, ent, emp, id⊢, Fml, Logic, sem, ‵, ◌$◌, ◌∵◌, !, qed, use1, frame, by, layout, froom, RattleType, Option, Some, None, row, slot}
 use base.Logic.{mono_r}
 use denote.Param.Laws.{Laws}
 use denote.RawPtr.{block_ptr}
@@ -13,66 +13,43 @@ abbrev pub items_of : (X : RattleType) → Laws X → El
 items_of X L = record { row = X; laws = L; al = no_al }
 
 module _ {A : Type 0} where
-  -- an item for each slot, in an empty one this
-  abbrev pub or_this : A → List (Option A) → List A
-  or_this x [] = []
-  or_this x (None ∷ cs) = x ∷ or_this x cs
-  or_this x (Some y ∷ cs) = y ∷ or_this x cs
+  -- the item of a slot, or this where it is empty
+  abbrev pub or_this : A → Option A → A
+  or_this x None = x
+  or_this x (Some y) = y
 
-  -- whether each slot holds an item
-  abbrev pub are_full : List (Option A) → List Bool
-  are_full [] = []
-  are_full (None ∷ cs) = false ∷ are_full cs
-  are_full (Some y ∷ cs) = true ∷ are_full cs
+  -- whether a slot holds an item
+  abbrev pub is_full : Option A → Bool
+  is_full None = false
+  is_full (Some y) = true
 
   -- the slots of a row, of which those from the n-th on are empty
   abbrev pub slots_to : ℕ → List A → List Bool → List (Option A)
   slots_to n [] fs = []
   slots_to n (x ∷ xs) [] = []
   slots_to zero (x ∷ xs) (f ∷ fs) = None ∷ slots_to zero xs fs
-  slots_to (suc n) (x ∷ xs) (true ∷ fs) = Some x ∷ slots_to n xs fs
-  slots_to (suc n) (x ∷ xs) (false ∷ fs) = None ∷ slots_to n xs fs
-
-  pub length-or_this : (x : A) (cs : List (Option A)) → length (or_this x cs) ≡ length cs
-  length-or_this x [] = refl
-  length-or_this x (None ∷ cs) = ap suc (length-or_this x cs)
-  length-or_this x (Some y ∷ cs) = ap suc (length-or_this x cs)
-
-  pub length-are_full : (cs : List (Option A)) → length (are_full cs) ≡ length cs
-  length-are_full [] = refl
-  length-are_full (None ∷ cs) = ap suc (length-are_full cs)
-  length-are_full (Some y ∷ cs) = ap suc (length-are_full cs)
+  slots_to (suc n) (x ∷ xs) (f ∷ fs) = (if f then Some x else None) ∷ slots_to n xs fs
 
   pub length-slots_to : (n : ℕ) (xs : List A) (fs : List Bool) → length fs ≡ length xs → length (slots_to n xs fs) ≡ length xs
   length-slots_to n [] fs same = refl
   length-slots_to n (x ∷ xs) [] same = absurd (omega arith)
   length-slots_to zero (x ∷ xs) (f ∷ fs) same = ap suc (length-slots_to zero xs fs (omega arith))
-  length-slots_to (suc n) (x ∷ xs) (true ∷ fs) same = ap suc (length-slots_to n xs fs (omega arith))
-  length-slots_to (suc n) (x ∷ xs) (false ∷ fs) same = ap suc (length-slots_to n xs fs (omega arith))
+  length-slots_to (suc n) (x ∷ xs) (f ∷ fs) same = ap suc (length-slots_to n xs fs (omega arith))
 
   -- a slot holds what its place of the row says
-  pub held_in : (x : A) (cs : List (Option A)) (i : ℕ) → get_or cs i None ≡ (if get_or (are_full cs) i false then slice_get (or_this x cs) i else None)
+  pub held_in : (x : A) (cs : List (Option A)) (i : ℕ) → get_or cs i None ≡ (if get_or (map is_full cs) i false then slice_get (map (or_this x) cs) i else None)
   held_in x [] i = refl
   held_in x (None ∷ cs) zero = refl
   held_in x (Some y ∷ cs) zero = refl
-  held_in x (None ∷ cs) (suc i) = held_in x cs i
-  held_in x (Some y ∷ cs) (suc i) = held_in x cs i
-
-  -- past the last slot there is nothing
-  pub past_end : (cs : List (Option A)) (i : ℕ) → length cs ≤ i → get_or cs i None ≡ None
-  past_end [] i late = refl
-  past_end (c ∷ cs) zero late = absurd (omega arith)
-  past_end (c ∷ cs) (suc i) late = past_end cs i (omega arith)
+  held_in x (c ∷ cs) (suc i) = held_in x cs i
 
   pub held_to : (n : ℕ) (xs : List A) (fs : List Bool) (i : ℕ) → length fs ≡ length xs → i < n → get_or (slots_to n xs fs) i None ≡ (if get_or fs i false then slice_get xs i else None)
   held_to n [] [] i same low = refl
   held_to n [] (f ∷ fs) i same low = absurd (omega arith)
   held_to n (x ∷ xs) [] i same low = absurd (omega arith)
   held_to zero (x ∷ xs) (f ∷ fs) i same low = absurd (omega arith)
-  held_to (suc n) (x ∷ xs) (true ∷ fs) zero same low = refl
-  held_to (suc n) (x ∷ xs) (false ∷ fs) zero same low = refl
-  held_to (suc n) (x ∷ xs) (true ∷ fs) (suc i) same low = held_to n xs fs i (omega arith) (omega arith)
-  held_to (suc n) (x ∷ xs) (false ∷ fs) (suc i) same low = held_to n xs fs i (omega arith) (omega arith)
+  held_to (suc n) (x ∷ xs) (f ∷ fs) zero same low = refl
+  held_to (suc n) (x ∷ xs) (f ∷ fs) (suc i) same low = held_to n xs fs i (omega arith) (omega arith)
 
   pub empty_from : (n : ℕ) (xs : List A) (fs : List Bool) (i : ℕ) → n ≤ i → get_or (slots_to n xs fs) i None ≡ None
   empty_from n [] fs i late = refl
@@ -80,14 +57,13 @@ module _ {A : Type 0} where
   empty_from zero (x ∷ xs) (f ∷ fs) zero late = refl
   empty_from zero (x ∷ xs) (f ∷ fs) (suc i) late = empty_from zero xs fs i (omega arith)
   empty_from (suc n) (x ∷ xs) (f ∷ fs) zero late = absurd (omega arith)
-  empty_from (suc n) (x ∷ xs) (true ∷ fs) (suc i) late = empty_from n xs fs i (omega arith)
-  empty_from (suc n) (x ∷ xs) (false ∷ fs) (suc i) late = empty_from n xs fs i (omega arith)
+  empty_from (suc n) (x ∷ xs) (f ∷ fs) (suc i) late = empty_from n xs fs i (omega arith)
 
 module _ (X : RattleType) {M : Type 1} {𝓤 : Ura M} (𝓛 : Logic 𝓤) (b : ℕ) where
   abbrev places : ℕ → List X.Denot → List Bool → Fml
   places o xs fs = slots (R X) (block_ptr b o) xs fs
 
-  pub to_row : (x : X.Denot) (cs : List (Option X.Denot)) (o : ℕ) → ent 𝓤 (sem 𝓛 (row (R X) b o cs)) (sem 𝓛 (places o (or_this x cs) (are_full cs)))
+  pub to_row : (x : X.Denot) (cs : List (Option X.Denot)) (o : ℕ) → ent 𝓤 (sem 𝓛 (row (R X) b o cs)) (sem 𝓛 (places o (map (or_this x) cs) (map is_full cs)))
   to_row x [] o = id⊢ 𝓤 (emp 𝓤)
   to_row x (None ∷ cs) o = mono_r 𝓤 (sem 𝓛 (slot (R X) b o None)) (to_row x cs (o + bytes X))
   to_row x (Some y ∷ cs) o = mono_r 𝓤 (sem 𝓛 (slot (R X) b o (Some y))) (to_row x cs (o + bytes X))

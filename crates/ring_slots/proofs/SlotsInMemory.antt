@@ -1,6 +1,8 @@
 -- A stretch of slots of a row is taken out and put back, and a row is made of memory and gives it back.
-use Rattle.ring_slots.proofs.Words.{◌≡◌, refl, sym, ap, ◌∙◌, Bool, true, false, List, [], ◌∷◌, ℕ, zero, suc, ◌+◌, ◌*◌, ◌^◌, ◌<◌, ◌≤◌, zero-mul, one-mul, suc-mul, mul-le-mul_right, arith, T, eqb, eqb→eq, length, get_or, set, replicate, Ura, full_share, SProp, ent, sep, emp, id⊢, assoc∗, Fml, Lft, fsep, fat, froom, Ty, ty_array, Val, has_ty, WT, Logic, sem, fact, Item, Step, step, prop, suffices, ‵, ◌⊛◌, some, ◌$◌, ◌∵◌, !, qed, by, move, keep, drop, use1, use2, pick, split, rewrite, fsplit, fjoin, frame, done, Typed, mem, cells, part_at, layout, param, RattleType, nothing, says, capped_is, capped, part_out, Option, Some, None, IsSome, type_size, ◌++◌, cut, take, take-append-drop, length-take, length-drop, drop-cons, drop-drop, set_split, map, elements_shared, length-map, HoldsStretch, IsFullStretch, slot, row, row_shown}
+use Rattle.ring_slots.proofs.Words.{◌≡◌, refl, sym, ap, ◌∙◌, false, List, [], ◌∷◌, ℕ, zero, suc, ◌+◌, ◌*◌, ◌^◌, ◌<◌, ◌≤◌, zero-mul, one-mul, suc-mul, mul-le-mul_right, arith, T, eqb, length, get_or, set, replicate, Ura, full_share, SProp, ent, sep, emp, id⊢, assoc∗, Fml, Lft, fsep, fat, froom, Ty, ty_array, Val, has_ty, WT, Logic, sem, fact, Item, Step, step, prop, suffices, ‵, ◌⊛◌, some, ◌$◌, ◌∵◌, !, qed, by, move, keep, drop, use1, use2, pick, split, rewrite, fsplit, fjoin, frame, done, Typed, mem, cells, part_at, layout, param, RattleType, nothing, says, capped_is, capped, part_out, Option, Some, None, IsSome, type_size, ◌++◌, cut, take, take-append-drop, length-take, length-drop, drop-cons, drop-drop, set_split, map, elements_shared, length-map, HoldsStretch, IsFullStretch, slot, row, row_shown}
 use base.Logic.{mono_r}
+use Rattle.std.proofs.lemmas.Grind.{common_steps}
+use Rattle.std.proofs.lemmas.Bool.Decides.{nat_tests}
 
 -- the item of a full slot
 pub item_of : {A : Type 0} (c : Option A) → IsSome c → (x : A) × (c ≡ Some x)
@@ -9,9 +11,7 @@ item_of (Some x) full = (x, refl)
 
 -- a slot that holds an item is one of the row's
 pub full_within : {A : Type 0} (cs : List (Option A)) (i : ℕ) (x : A) → get_or cs i None ≡ Some x → i < length cs
-full_within [] i x holds = cc
-full_within (c ∷ cs) zero x holds = omega arith
-full_within (c ∷ cs) (suc i) x holds = omega (arith, full_within cs i x holds)
+full_within cs i x holds = grind (arith, common_steps)
 
 -- a full slot is a stretch of one
 pub full_stretch : {A : Type 0} (cs : List (Option A)) (i : ℕ) → IsSome (get_or cs i None) → IsFullStretch cs i 1
@@ -20,19 +20,16 @@ full_stretch (None ∷ cs) zero full = cc
 full_stretch (Some x ∷ cs) zero full = (omega arith, (x ∷ [], refl))
 full_stretch (c ∷ cs) (suc i) full = let rest = full_stretch cs i full in (omega (arith, rest.0), rest.1)
 
--- where n sizes fit a block, so do one size, and the way to a slot
-pub place_fits : (i n bytes : ℕ) → i < n → n * bytes < 2 ^ 63 → (bytes < 2 ^ 64) × (i * bytes < 2 ^ 64)
-place_fits i n bytes within fit =
-    let once : 1 * bytes ≤ n * bytes = mul-le-mul_right bytes (omega arith) in
-    let before : i * bytes ≤ n * bytes = mul-le-mul_right bytes (omega arith) in
-    (omega (arith, one-mul bytes), omega arith)
-
--- and so do a stretch of slots, and the way to it
+-- where n sizes fit a block, so do a stretch of slots, and the way to it
 pub stretch_fits : (from len n bytes : ℕ) → from + len ≤ n → n * bytes < 2 ^ 63 → (from * bytes < 2 ^ 64) × (len * bytes < 2 ^ 63)
 stretch_fits from len n bytes within fit =
     let before : from * bytes ≤ n * bytes = mul-le-mul_right bytes (omega arith) in
     let all : len * bytes ≤ n * bytes = mul-le-mul_right bytes (omega arith) in
     (omega arith, omega arith)
+
+-- and so do one size, and the way to a slot
+pub place_fits : (i n bytes : ℕ) → i < n → n * bytes < 2 ^ 63 → (bytes < 2 ^ 64) × (i * bytes < 2 ^ 64)
+place_fits i n bytes within fit = let both = stretch_fits i 1 n bytes (omega arith) fit in (omega (arith, one-mul bytes), both.0)
 
 -- a stretch has as many items as slots
 pub stretch_long : {A : Type 0} (cs : List (Option A)) (from len : ℕ) (xs : List A) → from + len ≤ length cs → HoldsStretch cs from len xs → length xs ≡ len
@@ -45,13 +42,9 @@ product_is zero bytes fits = zero-mul (capped bytes) ∙ sym (zero-mul bytes)
 product_is (suc k) bytes fits =
     let once = suc-mul k bytes in ap (λ (j : ℕ). suc k * j) (capped_is bytes (omega arith))
 
-not_so : (y : Bool) → (T y → ⊥) → y ≡ false
-not_so true never = absurd (never tt)
-not_so false never = refl
-
 -- a size above 0 is not 0
 pub has_size : (bytes : ℕ) → 0 < bytes → eqb bytes 0 ≡ false
-has_size bytes sized = not_so (eqb bytes 0) (λ same. let none : bytes ≡ 0 = eqb→eq bytes 0 same in absurd (omega arith))
+has_size bytes sized = grind (arith, nat_tests)
 
 -- what is owned of an item is one machine value
 pub one_value : (τ : Ty) (vs : List Val) → Typed (τ ∷ []) vs → (v : Val) × ((vs ≡ v ∷ []) × (T (has_ty τ v) × WT v))

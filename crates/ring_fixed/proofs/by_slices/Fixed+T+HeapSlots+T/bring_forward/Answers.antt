@@ -1,9 +1,8 @@
-use Rattle.ring_fixed.proofs.Words.{◌+◌, ◌-◌, View, IsPowerOfTwo, ap, arith, items_from, length, subst, view_of}
+use Rattle.ring_fixed.proofs.Words.{refl, ◌+◌, ◌-◌, View, IsPowerOfTwo, ap, arith, items_from, length, view_of}
 use Rattle.std.proofs.lemmas.List.Edits.{length-swap}
 use Rattle.ring_fixed.proofs.Turns.{ChangesTo-then}
 use Rattle.ring_fixed.proofs.TurnedWithin.{after_turn_within-forward, length-turned_within}
 use Rattle.ring_fixed.specs.View.{after_swap, after_turn_within}
-use Rattle.ring_fixed.specs.fixed.Sound.{ChangesTo}
 use Rattle.ring_fixed.proofs.by_slices.Fixed+T+HeapSlots+T.bring_forward.Goals as goal
 
 -- No call changes how many items there are.
@@ -17,6 +16,5 @@ turn_within-requires-3-clause-within g c =
 pub returns : goal.returns
 returns g c =
     let f = c.args.self.now in let v = view_of (λ s. s) f in let i = c.args.index in let first = c.up_to_last_slot-first.result in let others = c.args.others in
-    let across = ChangesTo-then (λ s. s) IsPowerOfTwo f c.turn_within-2.new.self c.swap.new.self (after_swap (i + first - 1) (i + first)) c.turn_within-2.ensures.after c.swap.ensures.after in
-    let round = ChangesTo-then (λ s. s) IsPowerOfTwo f c.swap.new.self c.turn_within-3.new.self (after_turn_within i (first - 1) (first - 1)) across c.turn_within-3.ensures.after in
-    subst (ChangesTo (λ s. s) IsPowerOfTwo f c.turn_within-3.new.self) (after_turn_within-forward v i first others c.requires.within (omega (arith, c.up_to_last_slot-first.ensures)) c.if-others-first.false) round
+    let across = ChangesTo-then (λ s. s) IsPowerOfTwo f c.turn_within-2.new.self c.swap.new.self (after_swap (i + first - 1) (i + first)) c.turn_within-2.ensures.after c.swap.ensures.after refl in
+    ChangesTo-then (λ s. s) IsPowerOfTwo f c.swap.new.self c.turn_within-3.new.self (after_turn_within i (first - 1) (first - 1)) across c.turn_within-3.ensures.after (after_turn_within-forward v i first others c.requires.within (omega (arith, c.up_to_last_slot-first.ensures)) c.if-others-first.false)

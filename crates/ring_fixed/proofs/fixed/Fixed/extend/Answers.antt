@@ -1,13 +1,13 @@
 use Rattle.ring_fixed.proofs.Words.{◌≡◌, [], ◌∷◌, ◌++◌, ◌-◌, ◌∙◌, ap, sym, arith, drop, rules, length, length-drop, View, after_push, view_from}
 use Rattle.ring_fixed.proofs.LaysOut.{LaysOut-then}
-use Rattle.ring_fixed.proofs.RepeatedSteps.{after_extend-more}
+use Rattle.ring_fixed.proofs.RepeatedSteps.{after_extend-then}
 use Rattle.ring_fixed.proofs.fixed.Fixed.extend.Goals as goal
 
 -- One more item is pushed.
 pub loop-item-preserved : goal.loop-item-preserved
 loop-item-preserved g c =
     let v = view_from (g.S.RingSlots.seen c.args.self.now.slots) c.args.self.now.start in let pushed = c.push_from.ensures in
-    let is = after_extend-more c.args.capacity v c.loop-item.yielded c.in-Some.item in
+    let is = after_extend-then c.args.capacity v c.loop-item.yielded (c.in-Some.item ∷ []) in
     let after = rw is at (LaysOut-then (λ w. after_push c.args.capacity w c.in-Some.item) c.loop-item.invariant.lays_out pushed.after) in
     let all = v.items ++ (c.loop-item.yielded ++ c.in-Some.item ∷ []) in let over = length all - c.args.capacity in
     let len : c.push_from.result.0.len ≡ length (drop over all) = pushed.len ∙ ap (λ (w : View _). length w.items) (sym pushed.after.shows ∙ after.shows) in

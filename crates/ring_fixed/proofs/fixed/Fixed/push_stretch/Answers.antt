@@ -2,18 +2,16 @@ use Rattle.ring_fixed.proofs.Words.{◌≡◌, ℕ, ◌<◌, ◌≤◌, ◌+◌,
 use Rattle.ring_fixed.proofs.LaysOut.{LaysOut-none, LaysOut-then}
 use Rattle.ring_fixed.proofs.SlotsHold.{straight_on, count_on}
 use Rattle.ring_fixed.proofs.Sources.{Gives-none, Gives-one, Gives-then}
-use Rattle.ring_fixed.proofs.RepeatedSteps.{after_extend-none, after_extend-more, after_extend-fits, after_extend-full, after_puts-more, after_push-full}
+use Rattle.ring_fixed.proofs.RepeatedSteps.{after_extend-none, after_extend-then, after_extend-fits, after_extend-full, after_puts-more, after_push-full}
 use Rattle.ring_fixed.proofs.fixed.Fixed.push_stretch.Goals as goal
 
 -- The place after the last goes straight on.
 goes_straight : (full : Bool) (span : Span) (end i size : ℕ) → end ≡ (span.start + span.len) % size → end + i < size → let now = after_pushes full span i size in end + i ≡ (now.start + now.len) % size
-goes_straight true span end i size found low = straight_on span.start span.len end size i found low ∙ sym (count_on span.start i span.len (span.len + i) size (omega arith))
-goes_straight false span end i size found low = straight_on span.start span.len end size i found low
+goes_straight full span end i size found low = grind (arith, straight_on span.start span.len end size i found low, count_on span.start i span.len (span.len + i) size)
 
 -- No push leaves the start as it is.
 none_yet : (full : Bool) (span : Span) (size : ℕ) → span.start < size → (after_pushes full span 0 size).start ≡ span.start
-none_yet true span size low = ap (λ n. n % size) {x = span.start + 0} {y = span.start} (omega arith) ∙ mod-eq_of_lt low
-none_yet false span size low = refl
+none_yet full span size low = grind (arith, mod-eq_of_lt)
 
 -- As many pushes on, from a ring of that length.
 module _ {X : Type 0} (old : Slots X) (span : Span) (capacity i : ℕ) (xs : List X) (long : length xs ≡ i) (counted : span.len ≡ length (items_from old.slots span.start)) where
@@ -31,7 +29,7 @@ module _ {X : Type 0} (old : Slots X) (span : Span) (capacity i : ℕ) (xs : Lis
       → LaysOut P now new (if full then ((now_at full).start + 1) % length now.slots else (now_at full).start) (if full then after_put (after_take (view_from now (now_at full).start)) x else after_put (view_from now (now_at full).start) x)
       → LaysOut P old new (after_pushes full span (i + 1) (length old.slots)).start (after_extend capacity v (xs ++ x ∷ []))
   one_more x some true full room so_far step =
-      let pushed = sym (after_push-full capacity (after_extend capacity v xs) x (after_extend-full capacity v xs (sym (full refl) ∙ counted)) some) ∙ after_extend-more capacity v xs x in
+      let pushed = sym (after_push-full capacity (after_extend capacity v xs) x (after_extend-full capacity v xs (sym (full refl) ∙ counted)) some) ∙ after_extend-then capacity v xs (x ∷ []) in
       let place = ap (λ n. ((span.start + i) % length old.slots + 1) % n) so_far.same_size ∙ count_on span.start i 1 (i + 1) (length old.slots) refl in
       rw (place, pushed) at (LaysOut-then (λ w. after_put (after_take w) x) so_far step)
   one_more x some false full room so_far step =

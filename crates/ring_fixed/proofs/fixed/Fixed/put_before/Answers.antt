@@ -1,9 +1,11 @@
-use Rattle.ring_fixed.proofs.PutFirst.{LaysOut-put_first, before_empty}
+use Rattle.ring_fixed.proofs.Words.{arith}
+use Rattle.ring_fixed.proofs.LaysOut.{past_empty}
+use Rattle.ring_fixed.proofs.PutFirst.{LaysOut-put_first}
 use Rattle.ring_fixed.proofs.fixed.Fixed.put_before.Goals as goal
 
 -- The slot before the first is empty.
 pub put-requires : goal.put-requires
-put-requires g c = before_empty _ _ c.requires.laid_out _ c.requires.room (rw c.size.ensures at c.place-place.ensures)
+put-requires g c = past_empty _ _ c.requires.laid_out _ _ (omega (arith, c.requires.room)) (omega (arith, c.requires.room)) (rw c.size.ensures at c.place-place.ensures)
 
 pub returns : goal.returns
 returns g c = LaysOut-put_first _ _ c.requires.laid_out _ _ _ c.requires.room (rw c.size.ensures at c.place-place.ensures) c.put.ensures

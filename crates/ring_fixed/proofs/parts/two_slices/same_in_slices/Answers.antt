@@ -20,10 +20,6 @@ pointwise-beside : {A : Type 0} (eq : A → A → Bool) (am ab al bm bb bl : Lis
 pointwise-beside eq am ab al bm bb bl one other (inl none) = rw (nil_from_length am none, nil_from_length bb (omega arith)) (pointwise-append eq ab bm al bl other)
 pointwise-beside eq am ab al bm bb bl one other (inr none) = rw (nil_from_length ab (omega arith), nil_from_length bm none) (pointwise-append eq am bb al bl one)
 
--- at the least of two lengths one list has nothing left
-one-empty : (n a b x y : ℕ) → n ≡ min a b → x ≡ a - n → y ≡ b - n → (x ≡ 0) ⊎ (y ≡ 0)
-one-empty n a b x y least one other = elim (dec_lt a b) [ yes low ↦ inl (omega arith) | no high ↦ inr (omega arith) ]
-
 -- the items of a slice before a place, and those from there on
 abbrev Parts : {A : Type 0} → List A → ℕ → List A → List A → Type 0
 Parts xs place front back = (front ≡ take place xs) × (back ≡ drop place xs)
@@ -41,7 +37,7 @@ pointwise-parts eq a b c d af am ab al bf bm bb bl n same least pa pc pb pd =
     let first : length af ≡ length bf = ap length pa.0 ∙ length-take-le n a (omega (least, arith)) ∙ sym (length-take-le n c (omega (least, arith))) ∙ ap length (sym pc.0) in
     let beside_a : length am ≡ length bb = sym (ap length pd.0 ∙ length-take-le (length am) d (omega (least, left_a, same, arith))) in
     let beside_c : length ab ≡ length bm = ap length pb.0 ∙ length-take-le (length bm) b (omega (least, left_c, same, arith)) in
-    let behind = pointwise-beside eq am ab al bm bb bl beside_a beside_c (one-empty n _ _ _ _ least left_a left_c) in
+    let behind = pointwise-beside eq am ab al bm bb bl beside_a beside_c (elim (dec_lt (length a) (length c)) [ yes low ↦ inl (omega arith) | no high ↦ inr (omega arith) ]) in
     rw (joined a n af am pa, joined b _ ab al pb, joined c n bf bm pc, joined d _ bb bl pd, append_assoc af am, append_assoc bf bm)
     (pointwise-append eq af bf (am ++ (ab ++ al)) (bm ++ (bb ++ bl)) first ∙ ap (λ (r : Bool). pointwise eq af bf && r) behind)
 

@@ -10,16 +10,12 @@ use denote.Struct.Members.{Member}
 use denote.Struct.Recorded.{Recorded-part}
 use denote.Triple.Clauses.{Ended}
 use borrow.Table.Elements.{at, at_mul, focus_any}
+use Rattle.ring_slots.proofs.Filled.{first_item}
 use Rattle.ring_slots.proofs.SlotsInMemory.{product_is}
 use Rattle.ring_slots.specs.contracts.array.Cells.{the_row, the_type}
 use Rattle.ring_slots.specs.contracts.array.Cells.at_mut as contract
 use Rattle.ring_slots.proofs.array.Cells.at_mut.Statement.{statement}
 use Rattle.ring_slots.proofs.array.Cells.at_mut.Code as code
-
--- what shows that a list has an element at an index has one to give
-some_element : {A : Type 0} (xs : List A) (k : ℕ) → k < length xs → A
-some_element [] k within = absurd (omega arith)
-some_element (x ∷ xs) k within = x
 
 module _ (X : RattleType) (n : ℕ) where
   -- the types of an element, of the length and of the struct, as the code of the function has them
@@ -91,7 +87,7 @@ module _ (X : RattleType) (n : ℕ) where
         use1 𝓛 (‵ (fsep (feq ℕ (length d.xs) n) (row Element full_share d.xs b o))) (Array-apart 𝓛 Element full_share tt n d.xs b o) $
         fsplit ! $ feq_l ! (λ long.
         let is_there : m < length d.xs = omega arith in
-        let any : X.Denot = some_element d.xs m is_there in let read : X.Denot = get_or d.xs m any in
+        let any : X.Denot = first_item d.xs (omega arith) in let read : X.Denot = get_or d.xs m any in
         show ! Apart read $ check ! (get_or_default d.xs m any read is_there, long) $
         use1 𝓛 (‵ (cells (mem Element) d.xs b o)) (whole_in 𝓛 Element d.xs b o) $
         use1 𝓛 (‵ ((mem Element).own_at read b spot) ⊛ raw (all 𝓤 array_back)) (focus_any 𝓛 (mem Element) any m d.xs b o is_there) $
