@@ -1,4 +1,4 @@
-use Rattle.ring_fixed.proofs.Words.{refl, ◌≡◌, ◌+◌, ◌-◌, ◌≤◌, ◌∙◌, View, after_pop, after_take, after_turn_left, after_turn_right, ap, arith, length, turned, view_of}
+use Rattle.ring_fixed.proofs.Words.{refl, ◌≡◌, ◌+◌, ◌-◌, ◌∙◌, View, after_pop, after_take, after_turn_left, after_turn_right, ap, arith, length, turned, view_of}
 use Rattle.ring_fixed.proofs.Turns.{ChangesTo-then, after_remove-back, after_remove-front, last-turned}
 use Rattle.ring_fixed.proofs.fixed.Fixed.remove.Goals as goal
 
@@ -13,8 +13,7 @@ returns-clause-after g c =
     let S = g.S.RingSlots in let f = c.args.self.now in let v = view_of S.seen f in let i = c.args.index in
     let took = ChangesTo-then S.seen S.is_size f c.turn_right-2.new.self c.pop_back-item.new.self after_pop c.turn_right-2.ensures c.pop_back-item.ensures.after refl in
     let same : f.len - 1 - i ≡ length v.items - 1 - i = ap (λ n. n - 1 - i) c.requires.sound.1 in
-    let few : length v.items - 1 - i ≤ i = omega (arith, c.if-index-behind.false, c.requires.sound.1) in
-    ChangesTo-then S.seen S.is_size f c.pop_back-item.new.self c.turn_left-2.new.self (after_turn_left (f.len - 1 - i)) took c.turn_left-2.ensures.after (rw same (after_remove-back i v c.requires.within few))
+    ChangesTo-then S.seen S.is_size f c.pop_back-item.new.self c.turn_left-2.new.self (after_turn_left (f.len - 1 - i)) took c.turn_left-2.ensures.after (rw same (after_remove-back i v c.requires.within (omega (arith, c.if-index-behind.false, c.requires.sound.1))))
 
 pub returns-clause-value : goal.returns-clause-value
 returns-clause-value g c =
