@@ -47,7 +47,12 @@ fn draw(svg: &mut String, panel: &Panel, left: f64, color: &str) {
     for (row, (work, ratio)) in panel.ratios.iter().enumerate() {
         let y = TOP + ROW * (row as f64 + 0.5);
         text(svg, start - 8.0, y + 4.0, "end", work);
-        writeln!(svg, r#"<circle cx="{:.1}" cy="{y:.1}" r="4" fill="{color}"/>"#, start + across(*ratio)).unwrap();
+        let x = start + across(*ratio);
+        writeln!(svg, r#"<circle cx="{x:.1}" cy="{y:.1}" r="4" fill="{color}"/>"#).unwrap();
+        // A mark at the end of the axis stands for a number beyond it.
+        if *ratio > GREATEST {
+            text(svg, x - 8.0, y + 4.0, "end", &format!("{ratio:.0}"));
+        }
     }
 }
 
