@@ -82,7 +82,7 @@ module _ {X : Type 0} (v : View X) (i first others : ℕ) (low : i + others < le
   pub after_turn_within-forward : after_turn_within i (first - 1) (first - 1) (after_swap (i + first - 1) (i + first) (after_turn_within (i + first) (others - first) (others - first) v)) ≡ after_turn_within i others others v
   after_turn_within-forward = view_is (brought_round v.items i first others 1 low some few refl) (omega (arith, four)) refl
 
--- the items but for some from an index on, once those are the last or the first
+-- the items without those from an index on, once those are the last or the first
 module _ {X : Type 0} (i n : ℕ) (xs : List X) (some : 0 < n) (low : i + n ≤ length xs) where
   abbrev without : List X
   without = take i xs ++ drop (i + n) xs
