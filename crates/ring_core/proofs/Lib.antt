@@ -1,3 +1,4 @@
+pub mod Answered
 pub mod BothMeanings
 pub mod CommandLoop
 pub mod Drained

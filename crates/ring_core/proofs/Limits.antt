@@ -1,5 +1,5 @@
 -- What follows of a limit on a list.
-use Rattle.ring_core.proofs.Words.{◌≡◌, ℕ, zero, suc, ◌+◌, ◌-◌, ◌<◌, List, [], ◌∷◌, ◌++◌, length, map, drop, Option, None, Some, IfSome, IsSome, refl, slice_set, negsuc, ◌≤◌, take, slice_get, option_to_list, ◌∙◌, ap, sym, arith, length-append, length-drop, zero-mod, set-append_seam, drop-append-le, drop-drop, drop-map, drop_all, length-map, IsWithin, keep_last, overwritten, signed_index_at}
+use Rattle.ring_core.proofs.Words.{false≢true, ◌≡◌, ℕ, zero, suc, ◌+◌, ◌-◌, ◌<◌, List, [], ◌∷◌, ◌++◌, length, map, drop, Option, None, Some, IfSome, IsSome, refl, slice_set, negsuc, ◌≤◌, take, slice_get, option_to_list, ◌∙◌, ap, sym, arith, length-append, length-drop, zero-mod, set-append_seam, drop-append-le, drop-drop, drop-map, drop_all, length-map, IsWithin, keep_last, overwritten, signed_index_at}
 
 -- a list within its limit loses nothing
 pub keep_last_within : {A : Type 0} (limit : Option ℕ) (xs : List A) → IsWithin xs limit → keep_last limit xs ≡ xs
@@ -60,3 +60,11 @@ overwritten-keep_last {A} (Some n) xs x within = rw (length-append xs (x ∷ [])
   split (suc zero) (y ∷ ys) one some = refl
   split (suc zero) [] one some = absurd (omega arith)
   split (suc (suc k)) ys one some = absurd (omega arith)
+
+-- a count that rose by one rose, and by no more
+pub counts_one : (n : ℕ) → (n ≤ n + 1) × (n + 1 ≤ n + 1)
+counts_one n = (omega arith, omega arith)
+
+-- what is owed of rings with a limit is owed of none without
+pub counts_none : {R P : Type 0} (limit : R → Option ℕ) (ring : R) → limit ring ≡ None → IsSome (limit ring) → P
+counts_none limit ring none some = absurd (false≢true (rw none at some))

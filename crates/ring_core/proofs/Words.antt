@@ -16,7 +16,7 @@ pub use Rattle.std.proofs.lemmas.Bool.{cases_Bool, cases_lt, eqb-true, false≢t
 pub use Rattle.std.proofs.lemmas.Bool.Decides.{nat_tests}
 pub use Rattle.std.proofs.lemmas.Grind.{flat_map-append}
 pub use Rattle.std.proofs.lemmas.Iterator.Consumers.{YieldsList-from_shown, YieldsList-so_far, YieldsList-turn}
-pub use Rattle.std.proofs.lemmas.List.{drop-append-le, drop-drop, drop-map, drop-set-lt, drop_all, drop_min, length-map, length-take, length-take-le, length_push, map-append, set_at, take-append-drop, take_all, take_at, take_min}
+pub use Rattle.std.proofs.lemmas.List.{drop-append-le, drop-drop, drop-map, drop-set-lt, drop_all, drop_min, length-map, length-replicate, length-take, length-take-le, length_push, map-append, set_at, take-append-drop, take_all, take_at, take_min}
 pub use Rattle.std.proofs.lemmas.List.Elements.{All-cons, All-nil, AllZip-push, filter-append}
 pub use Rattle.std.proofs.lemmas.Option.{IfSome_then, get_or_from_slice_get, slice_get_cases, slice_get_past, slice_get_within}
 pub use Rattle.std.specs.Iterator.{Drains, YieldsThen}

@@ -4,5 +4,6 @@ pub mod Extension
 pub mod Filtering
 pub mod History
 pub mod Meaning
+pub mod Replies
 pub mod Stream
 pub mod Walk

@@ -1,5 +1,6 @@
 -- What the walks over a ring have still to come.
-use Rattle.std.specs.Prelude.{◌≡◌, ℕ, IsSome, Option, List, length, take, drop}
+use Rattle.std.specs.Prelude.{◌≡◌, ℕ, IsSome, Option, List, length, max, take, drop}
+use Rattle.std.specs.List.{remove_range}
 use Rattle.std.specs.Iterator.{YieldsFirst, YieldsFirstRef, YieldsLast, YieldsLastRef}
 use Rattle.std.specs.Iterator.Runs.{YieldsInOrder, YieldsInReverse, YieldsRefsInOrder, YieldsRefsInReverse}
 use Rattle.std.specs.Range.Bound.{end_index, start_index}
@@ -17,6 +18,10 @@ to_come xs front back = drop front (take back xs)
 -- the items of a list at the indexes in a range, whose ends are cut to the list's length
 abbrev pub items_between : {A : Type 0} → Bound ℕ → Bound ℕ → List A → List A
 items_between start end xs = to_come xs (start_index start) (end_index end (length xs))
+
+-- the items of a list at the other indexes
+abbrev pub items_outside : {A : Type 0} → Bound ℕ → Bound ℕ → List A → List A
+items_outside start end xs = remove_range xs (start_index start) (max (start_index start) (end_index end (length xs)))
 
 module _ {T RB : Type 0} (contents : RB → List T) where
   -- what a reading walk has still to come

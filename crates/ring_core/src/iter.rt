@@ -1,6 +1,6 @@
 //! Walks over any ring buffer: reading, writing, and taking the items out.
 
-ghost use Rattle.std.specs.Prelude.{◌≡◌, ◌+◌, ◌-◌, ◌↔◌, [], drop, length, min, IfSome, IsNone, Some, slice_get};
+ghost use Rattle.std.specs.Prelude.{◌≡◌, ◌+◌, ◌-◌, ◌↔◌, [], drop, length, max, min, IfSome, IsNone, Some, slice_get};
 ghost use Rattle.std.specs.Borrow.{sem};
 ghost use Rattle.std.specs.Iterator.{YieldsFirstRef, YieldsLastRef, UpTo, at_most, item_count};
 ghost use Rattle.std.specs.Iterator.SizeHint.{IsWithinCount};
@@ -13,7 +13,7 @@ use crate::ring::RingBuffer;
 use std::alloc::AllocError;
 use std::iter::FusedIterator;
 use std::marker::PhantomData;
-use std::ops::{Bound, RangeBounds};
+use std::ops::{Bound, Range, RangeBounds};
 
 // Returns the first index of a range, or `len` if that is less.
 fn start_within<X: RangeBounds<usize>>(range: &X, len: usize) -> usize
@@ -37,6 +37,17 @@ fn end_within<X: RangeBounds<usize>>(range: &X, len: usize) -> usize
         Bound::Excluded(end) => len.min(*end),
         Bound::Unbounded => len,
     }
+}
+
+/// Returns the indexes of a range that are below `len`. A bound past `len` is cut to it, and a range that ends before it
+/// starts has no indexes.
+pub fn range_within<X: RangeBounds<usize>>(range: &X, len: usize) -> Range<usize>
+    requires { X.has_bounds range.now }
+    ensures start { result.start ≡ min (start_index (X.start_bound range.now)) len }
+    ensures end { result.end ≡ max result.start (min (end_index (X.end_bound range.now) len) len) }
+{
+    let start = start_within(range, len);
+    start..end_within(range, len).max(start)
 }
 
 /// A walk over the items of a ring, from either end.
@@ -374,3 +385,65 @@ impl<T: Drop, RB: RingBuffer<T> + Drop> ExactSizeIterator for RingBufferIntoIter
 }
 
 impl<T: Drop, RB: RingBuffer<T> + Drop> FusedIterator for RingBufferIntoIterator<T, RB> {}
+
+/// The walks over a ring of any type. Each `RingBuffer` has them.
+pub trait RingBufferExt<T: Drop>: RingBuffer<T> {
+    /// Returns a walk over the items, oldest first, from either end.
+    ///
+    /// ```rust
+    /// ring.iter().count()
+    /// ```
+    fn iter(&self) -> RingBufferIterator<'_, T, Self>
+        ensures left { iterator_to_come Self.contents result ≡ Self.contents self.now }
+        ensures runs { ReadsInOrder Self.contents }
+        ensures runs_back { ReadsInReverse Self.contents };
+
+    /// Returns a walk over the items at the indexes in a range, as `2..5` or `3..`, without walking over those before it.
+    /// A bound past the length is cut to it, and a range that ends before it starts has no items.
+    fn range<X: RangeBounds<usize>>(&self, range: X) -> RingBufferIterator<'_, T, Self>
+        requires { X.has_bounds range }
+        ensures left { iterator_to_come Self.contents result
+            ≡ items_between (X.start_bound range) (X.end_bound range) (Self.contents self.now) }
+        ensures runs { ReadsInOrder Self.contents }
+        ensures runs_back { ReadsInReverse Self.contents };
+
+    /// Returns a cursor that lends the items for writing, one at a time, from either end.
+    fn iter_mut(&mut self) -> RingBufferMutIterator<'_, T, Self>
+        ensures same_reference { result.ring.ghost_name ≡ self.entry.ghost_name }
+        ensures ring { result.ring.now ≡ self.entry.now }
+        ensures starts { StartsOver Self.contents result };
+
+    /// Returns a walk that takes the items out, oldest first, and from either end if the ring is a `DoubleEndedRing`.
+    /// Those that it didn't hand out stay.
+    ///
+    /// ```rust
+    /// ring.drain().collect(alloc)
+    /// ```
+    fn drain(&mut self) -> RingBufferDrainingIterator<'_, T, Self>
+        ensures same_reference { result.ring.ghost_name ≡ self.entry.ghost_name }
+        ensures ring { result.ring.now ≡ self.entry.now }
+        ensures runs { DrainsInOrder Self.contents Self.limit Self.slot_changes }
+        ensures runs_back { DrainsInReverse Self.contents Self.limit Self.slot_changes };
+}
+
+impl<T: Drop, R: RingBuffer<T>> RingBufferExt<T> for R {
+    #[inline]
+    fn iter(&self) -> RingBufferIterator<'_, T, R> {
+        RingBufferIterator::new(self)
+    }
+
+    #[inline]
+    fn range<X: RangeBounds<usize>>(&self, range: X) -> RingBufferIterator<'_, T, R> {
+        RingBufferIterator::range(self, range)
+    }
+
+    #[inline]
+    fn iter_mut(&mut self) -> RingBufferMutIterator<'_, T, R> {
+        RingBufferMutIterator::new(self)
+    }
+
+    #[inline]
+    fn drain(&mut self) -> RingBufferDrainingIterator<'_, T, R> {
+        RingBufferDrainingIterator::new(self)
+    }
+}

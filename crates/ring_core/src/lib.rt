@@ -14,7 +14,8 @@ mod written;
 
 pub use double_ended::DoubleEndedRing;
 pub use iter::{
-    RingBufferDrainingIterator, RingBufferIntoIterator, RingBufferIterator, RingBufferMutIterator,
+    RingBufferDrainingIterator, RingBufferExt, RingBufferIntoIterator, RingBufferIterator,
+    RingBufferMutIterator, range_within,
 };
 pub use last_bytes::LastBytes;
 pub use moving::move_all;

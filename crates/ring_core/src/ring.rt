@@ -1,9 +1,9 @@
 //! The trait that every ring buffer implements.
 
-ghost use Rattle.std.specs.Prelude.{◌≡◌, ℕ, ◌-◌, ◌<◌, ◌≤◌, ◌↔◌, List, [], ◌∷◌, ◌++◌, drop, length, All, Contains, IfOk, IfErr, IfSome, IsNone, IsOk, IsSome, IsTrue, OnErr, OnOk, Option, None, slice_get, slice_set};
+ghost use Rattle.std.specs.Prelude.{◌≡◌, ℕ, ◌+◌, ◌-◌, ◌<◌, ◌≤◌, ◌↔◌, List, [], ◌∷◌, ◌++◌, drop, length, All, Contains, IfOk, IfErr, IfSome, IsNone, IsOk, IsSome, IsTrue, OnErr, OnOk, Option, None, slice_get, slice_set};
 ghost use Rattle.std.specs.Borrow.{LendsIf, sem};
 ghost use Rattle.std.specs.Iterator.{IsFiniteIterable};
-ghost use Rattle.std.specs.List.{AllZip, FoldsTo, list_any};
+ghost use Rattle.std.specs.List.{AllZip, FoldsTo, IsAnyAnswer, list_any};
 ghost use Rattle.std.specs.Option.{option_copied, option_copied_mut};
 ghost use Rattle.ring_core.specs.Contents.{Counts, IsWithin, Pushes, keep_last, overwritten, index_at, signed_index_at};
 ghost use Rattle.ring_core.specs.Extension.{Extends};
@@ -22,7 +22,7 @@ pub trait RingBuffer<T: Drop>: Sized {
     // The items, oldest first.
     ghost contents: { Self → List T };
 
-    // The most items that the ring holds, if there is such a number. No call changes it.
+    // The most items that the ring holds, if there is such a number. No call of this trait changes it.
     ghost limit: { Self → Option ℕ };
 
     // The ring with the item at an index replaced.
@@ -44,7 +44,7 @@ pub trait RingBuffer<T: Drop>: Sized {
     }
 
     /// Returns whether the ring holds as many items as `capacity` says. The next push onto a full ring takes out the
-    /// oldest item if the ring has a limit, and asks for memory if it has none.
+    /// oldest item if the ring has a limit, and may ask for memory if it has none.
     ///
     /// ```rust
     /// if queue.is_full() {
@@ -59,8 +59,8 @@ pub trait RingBuffer<T: Drop>: Sized {
         self.len() == self.capacity()
     }
 
-    /// Returns the limit of a ring that has one. Without a limit it is the number of items that there is room for
-    /// before the next request for memory.
+    /// Returns the limit of a ring that has one. A ring without a limit returns how many items its memory has room for,
+    /// of which a contract says only that it is no less than the length.
     fn capacity(&self) -> usize
         ensures value { IfSome (limit self.now) (λ n. result ≡ n) }
         ensures holds { length (contents self.now) ≤ result }
@@ -306,7 +306,8 @@ pub trait RingBuffer<T: Drop>: Sized {
     fn contains(&self, x: &T) -> bool
     where
         T: PartialEq,
-        ensures { result ≡ list_any (λ y. T.eq y x.now) (contents self.now) }
+        ensures value { result ≡ list_any (λ y. T.eq y x.now) (contents self.now) }
+        ensures cases { IsAnyAnswer (λ y b. T.eq y x.now ≡ b) (contents self.now) result }
     {
         for i in 0..self.len() {
             if *self.get(i).unwrap() == *x {
@@ -322,4 +323,9 @@ pub trait RingBuffer<T: Drop>: Sized {
 
     // A write leaves the limit as it is.
     ghost keeps_limit: { (s : Self) (i : ℕ) (x : T) → limit (with_item s i x) ≡ limit s };
+
+    // A write to a ring with a limit counts as one slot change at most.
+    ghost counts_write: { (s : Self) (i : ℕ) (x : T) → IsSome (limit s)
+        → (slot_changes s ≤ slot_changes (with_item s i x))
+        × (slot_changes (with_item s i x) ≤ slot_changes s + 1) };
 }

@@ -1,8 +1,9 @@
 //! Commands for a ring as values, and runs of them on any lawful ring.
 
-ghost use Rattle.std.specs.Prelude.{◌≡◌, [], ◌∷◌, ◌++◌, ◌+◌, ◌*◌, ◌<◌, ◌≤◌, IfErr, IfOk, IsOk, IsSome, OnOk, None, Some, length, map, replicate, slice_set, take, vec_capacity, vec_len};
+ghost use Rattle.std.specs.Prelude.{◌≡◌, ℕ, suc, List, [], ◌∷◌, ◌++◌, ◌+◌, ◌-◌, ◌*◌, ◌<◌, ◌≤◌, IfErr, IfOk, IsOk, IsSome, OnOk, None, Some, length, map, replicate, slice_set, take, vec_capacity, vec_len};
 ghost use Rattle.ring_core.specs.Contents.{Counts};
 ghost use Rattle.ring_core.specs.History.{CountsFew, CountsTwice, KeepsToNumbers, MeaningsAgree, RunsJoinByNumber, contents_after, pushed, replies_of, steps};
+ghost use Rattle.ring_core.specs.Replies.{CanStore, Stores};
 ghost use Rattle.ring_core.specs.Meaning.{IfNoRoom, IfStopped, IsRefused, RunsJoin, StopsAt, after_all, after_one, places, puts, replies_to, reply_to};
 
 use crate::ring::RingBuffer;
@@ -116,12 +117,97 @@ fn empty<T: Drop>(replies: &mut [Option<Reply<T>>])
     }
 }
 
-// Puts a reply into its place.
-fn put<T: Drop>(replies: &mut [Option<Reply<T>>], at: usize, reply: Reply<T>)
-    requires { at < length replies.old }
-    ensures { replies.new ≡ slice_set replies.old at (Some reply) }
+// What a run stores its replies in.
+trait Replies<T: Drop>: Sized {
+    ghost use Rattle.std.specs.Prelude.{ℕ, List};
+    ghost use Rattle.ring_core.specs.declared.runs.Reply.{Reply};
+
+    // Since the first of the two states these replies were stored, and there is room for so many more.
+    ghost HasTaken: { Self → Self → List (Reply T) → ℕ → Type 0 };
+
+    // Stores the reply that comes after `at` others.
+    fn store(&mut self, at: usize, reply: Reply<T>)
+        requires { CanStore HasTaken self.old at }
+        ensures { Stores HasTaken self.old self.new at reply };
+}
+
+// Each reply goes last in a vector, which has room for it.
+impl<T: Drop> Replies<T> for Vec<Reply<T>> {
+    ghost HasTaken = { λ _ now replies room. (now.items ≡ replies)
+        × (length replies + room ≤ vec_capacity now) };
+
+    #[inline]
+    fn store(&mut self, _at: usize, reply: Reply<T>)
+        requires { vec_len self.old < vec_capacity self.old }
+        ensures items { self.new.items ≡ self.old.items ++ reply ∷ [] }
+        ensures room { vec_capacity self.old ≤ vec_capacity self.new }
+    {
+        self.push(reply).unwrap();
+    }
+}
+
+// Places for replies, empty at first.
+#[derive(Drop)]
+struct Places<'a, T> {
+    places: &'a mut [Option<Reply<T>>],
+}
+
+// Each reply goes into the place with its number.
+impl<'a, T: Drop> Replies<T> for Places<'a, T> {
+    ghost HasTaken = { λ first now replies room. (now.places.ghost_name ≡ first.places.ghost_name)
+        × (now.places.now ≡ places (length replies + room) replies) };
+
+    #[inline]
+    fn store(&mut self, at: usize, reply: Reply<T>)
+        requires { at < length self.old.places.now }
+        ensures same_reference { self.new.places.ghost_name ≡ self.old.places.ghost_name }
+        ensures stored { self.new.places.now ≡ slice_set self.old.places.now at (Some reply) }
+    {
+        self.places[at] = Some(reply);
+    }
+}
+
+// Does the commands in order, and stores the reply to each.
+fn run_all<T: Drop, R: RingBuffer<T>, P: Replies<T>>(
+    ring: &mut R,
+    commands: Vec<Command<T>>,
+    replies: &mut P,
+) -> Result<(), Stopped>
+    requires { P.HasTaken replies.old replies.old [] (length commands.items) }
+    ensures never_refused { IsSome (R.limit ring.old) → IsOk result }
+    ensures same_limit { R.limit ring.new ≡ R.limit ring.old }
+    ensures in_turn { OnOk result (R.contents ring.new
+        ≡ after_all (R.limit ring.old) (R.contents ring.old) commands.items) }
+    ensures contents { OnOk result (R.contents ring.new
+        ≡ contents_after (R.limit ring.old) (R.contents ring.old) commands.items) }
+    ensures replies { OnOk result (P.HasTaken replies.old replies.new
+        (replies_to (R.limit ring.old) (R.contents ring.old) commands.items) 0) }
+    ensures same_replies { replies_of (R.limit ring.old) (R.contents ring.old) commands.items
+        ≡ replies_to (R.limit ring.old) (R.contents ring.old) commands.items }
+    ensures numbers { KeepsToNumbers (R.limit ring.old) (R.contents ring.old)
+        (steps commands.items) }
+    ensures changes { Counts R.limit R.contents R.slot_changes ring.old ring.new (length (pushed (steps commands.items))) }
+    ensures few_changes { CountsFew R.limit R.contents R.slot_changes ring.old ring.new commands.items }
+    ensures twice { CountsTwice R.limit R.contents R.slot_changes ring.old ring.new commands.items }
+    ensures stopped { IfErr result
+        (λ s. StopsAt (R.limit ring.old) (R.contents ring.old) commands.items s.at
+        (R.contents ring.new)) }
+    ensures replies_before { IfErr result
+        (λ s. P.HasTaken replies.old replies.new
+        (replies_to (R.limit ring.old) (R.contents ring.old) (take s.at commands.items))
+        (length commands.items - s.at)) }
 {
-    replies[at] = Some(reply);
+    // For the proof: the contents are within the limit.
+    let _ = ring.len();
+    let mut at = 0;
+    for command in commands {
+        let Ok(reply) = apply(ring, command) else {
+            return Err(Stopped { at });
+        };
+        replies.store(at, reply);
+        at += 1;
+    }
+    Ok(())
 }
 
 /// Does the commands in order, and puts the reply to each into the place with its number. It takes no memory.
@@ -164,27 +250,8 @@ pub fn run_into<T: Drop, R: RingBuffer<T>>(
         (λ s. replies.new ≡ places (length commands.items)
         (replies_to (R.limit ring.old) (R.contents ring.old) (take s.at commands.items))) }
 {
-    // For the proof: the contents are within the limit.
-    let _ = ring.len();
     empty(replies);
-    let mut at = 0;
-    for command in commands {
-        let Ok(reply) = apply(ring, command) else {
-            return Err(Stopped { at });
-        };
-        put(replies, at, reply);
-        at += 1;
-    }
-    Ok(())
-}
-
-// Puts a reply last, where there is room for it.
-fn store<T: Drop>(replies: &mut Vec<Reply<T>>, reply: Reply<T>)
-    requires { vec_len replies.old < vec_capacity replies.old }
-    ensures items { replies.new.items ≡ replies.old.items ++ reply ∷ [] }
-    ensures capacity { vec_capacity replies.old ≤ vec_capacity replies.new }
-{
-    replies.push(reply).unwrap();
+    run_all(ring, commands, &mut Places { places: replies })
 }
 
 /// Does the commands in order, and returns the reply to each. It takes the memory for all replies first.
@@ -230,20 +297,18 @@ pub fn run<T: Drop, R: RingBuffer<T>>(
         (λ f. IfStopped f (λ at r. r
         ≡ replies_to (R.limit ring.old) (R.contents ring.old) (take at commands.items))) }
 {
-    // For the proof: the contents are within the limit.
-    let _ = ring.len();
     let Ok(mut replies) = Vec::with_capacity(alloc, commands.len()) else {
+        // For the proof: the contents are within the limit.
+        let _ = ring.len();
         return Err(RunFault::NoRoom(commands));
     };
-    let mut at = 0;
-    for command in commands {
-        let Ok(reply) = apply(ring, command) else {
-            return Err(RunFault::Stopped { at, replies });
-        };
-        store(&mut replies, reply);
-        at += 1;
+    match run_all(ring, commands, &mut replies) {
+        Ok(()) => Ok(replies),
+        Err(stopped) => Err(RunFault::Stopped {
+            at: stopped.at,
+            replies,
+        }),
     }
-    Ok(replies)
 }
 
 /// Shows by its contract that both meanings of a run are the same on a ring that is within its limit, and that runs join

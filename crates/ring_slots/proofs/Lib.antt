@@ -7,3 +7,4 @@ mod Rows
 mod SharedSlots
 mod SlotsInMemory
 mod Words
+pub mod Passed

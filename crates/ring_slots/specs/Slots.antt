@@ -1,11 +1,12 @@
 -- What a contract sees of the slots of a ring.
 use Rattle.std.specs.List.{refill}
-use Rattle.std.specs.Prelude.{◌≡◌, ℕ, ◌+◌, ◌-◌, ◌*◌, ◌<◌, ◌≤◌, List, ◌++◌, length, replicate, take, drop, map, slice_index_or, slice_set, Option, None, Some, IsSome}
+use Rattle.std.specs.Prelude.{◌≡◌, ℕ, ◌+◌, ◌-◌, ◌*◌, ◌<◌, ◌≤◌, List, [], ◌∷◌, ◌++◌, length, replicate, take, drop, map, slice_index_or, slice_set, Option, None, Some, IsSome}
 
--- what each slot holds, an item or nothing, and how many changes the slots have had
+-- what each slot holds, an item or nothing, how many changes the slots have had, and the capacity that they were made for
 pub record Slots (X : Type 0) : Type 0 where
   pub slots : List (Option X)
   pub changes : ℕ
+  pub capacity : ℕ
 
 module _ {X : Type 0} where
   -- what the slot at a place holds: nothing, too, where there is no such slot
@@ -46,12 +47,24 @@ module _ {X : Type 0} where
 
   -- the slots after one change: the slot at the place holds this now, every other slot what it held
   abbrev pub changed : Slots X → ℕ → Option X → Slots X
-  changed s place slot = record { slots = slice_set s.slots place slot; changes = s.changes + 1 }
+  changed s place slot = record s { slots = slice_set s.slots place slot; changes = s.changes + 1 }
 
   -- the slots once these items are put into those from a place on, each by one change
   abbrev pub with_items : Slots X → ℕ → List X → Slots X
-  with_items s place xs = record { slots = filled s.slots place xs; changes = s.changes + length xs }
+  with_items s place xs = record s { slots = filled s.slots place xs; changes = s.changes + length xs }
+
+  -- the `len` slots from a place on, all of them full, hold other items now, each by one change: `passed` says which, given those that they held
+  abbrev pub Passes : Slots X → Slots X → ℕ → ℕ → (List X → List X → Type 0) → Type 0
+  Passes old new from len passed = (had has : List X) × HoldsStretch old.slots from len had × passed had has × (new ≡ with_items old from has)
+
+  -- an item went before the others, and the last of them all is left over
+  abbrev pub passed_up : X → X → List X → List X → Type 0
+  passed_up item over had has = item ∷ had ≡ has ++ over ∷ []
+
+  -- an item went behind the others, and the first of them all is left over
+  abbrev pub passed_down : X → X → List X → List X → Type 0
+  passed_down item over had has = had ++ item ∷ [] ≡ over ∷ has
 
   -- the slots once the items from a place on have moved down to another, each by two changes
   abbrev pub with_lowered : Slots X → ℕ → ℕ → Slots X
-  with_lowered s from to = record { slots = lowered s.slots from to; changes = s.changes + 2 * (length s.slots - from) }
+  with_lowered s from to = record s { slots = lowered s.slots from to; changes = s.changes + 2 * (length s.slots - from) }

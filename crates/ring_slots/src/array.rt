@@ -1,9 +1,10 @@
 //! Slots that lie in the value itself.
-ghost use Rattle.std.specs.Prelude.{◌≡◌, ◌<◌, ℕ, length, replicate, None, Some, refl, slice_index_or};
+ghost use Rattle.std.specs.Prelude.{◌≡◌, ◌+◌, ◌<◌, ◌≤◌, ◌++◌, ℕ, List, drop, length, replicate, take, None, Some, refl, slice_index_or};
 ghost use Rattle.std.specs.Borrow.{sem};
-ghost use Rattle.ring_slots.specs.Slots.{changed, slot_at};
+ghost use Rattle.ring_slots.specs.Slots.{changed, passed_down, passed_up, slot_at};
 
 use crate::change_count::ChangeCount;
+use crate::passing::{pass_down, pass_up};
 use crate::place::{wrapped, wrapped_after, wrapped_next};
 use crate::slots::RingSlots;
 use std::marker::Model;
@@ -33,6 +34,29 @@ impl<X, const N: usize> Cells<X, N> {
     {
         &mut self.xs[place]
     }
+
+    // Puts an element before `len` of them from a place on, each of which moves one up, and returns the one that was last.
+    #[inline]
+    fn pass_up(&mut self, from: usize, len: usize, x: X) -> X
+        requires { from + len ≤ N }
+        ensures { (ys : List X) × passed_up x result (take len (drop from self.old.xs)) ys
+            × (self.new.xs ≡ take from self.old.xs ++ (ys ++ drop (from + len) self.old.xs)) }
+    {
+        let xs = &mut self.xs[..];
+        pass_up(&mut xs[from..from + len], x)
+    }
+
+    // Puts an element behind `len` of them from a place on, each of which moves one down, and returns the one that was
+    // first.
+    #[inline]
+    fn pass_down(&mut self, from: usize, len: usize, x: X) -> X
+        requires { from + len ≤ N }
+        ensures { (ys : List X) × passed_down x result (take len (drop from self.old.xs)) ys
+            × (self.new.xs ≡ take from self.old.xs ++ (ys ++ drop (from + len) self.old.xs)) }
+    {
+        let xs = &mut self.xs[..];
+        pass_down(&mut xs[from..from + len], x)
+    }
 }
 
 impl<T, const N: usize> Cells<Option<T>, N> {
@@ -61,17 +85,17 @@ impl<T, const CAP: usize> Model for ArraySlots<T, CAP> {
 
     ghost Value = { Slots T };
 
-    ghost view = { λ s. record { slots = s.cells.xs; changes = s.changes.count } };
+    ghost view = { λ s. record { slots = s.cells.xs; changes = s.changes.count; capacity = CAP } };
 
     ghost invariant = { λ s. length s.cells.xs ≡ CAP };
 }
 
-impl<T: Drop, const CAP: usize> ArraySlots<T, CAP> {
+impl<T, const CAP: usize> ArraySlots<T, CAP> {
     ghost use Rattle.ring_slots.specs.array.Lends.{lends_slot};
 
     /// Makes empty slots.
     pub fn new() -> Self
-        ensures { result ≡ record { slots = replicate CAP None; changes = 0 } }
+        ensures { result ≡ record { slots = replicate CAP None; changes = 0; capacity = CAP } }
     {
         ArraySlots {
             cells: Cells::empty(),
@@ -91,10 +115,12 @@ impl<T: Drop, const CAP: usize> ArraySlots<T, CAP> {
     }
 }
 
-impl<T: Drop, const CAP: usize> RingSlots<T> for ArraySlots<T, CAP> {
+impl<T, const CAP: usize> RingSlots<T> for ArraySlots<T, CAP> {
     ghost seen = { λ s. s };
 
-    ghost is_size = { λ _. Unit {0} };
+    ghost is_size = { λ capacity size. (capacity ≡ CAP) × (size ≡ CAP) };
+
+    ghost limit = { λ _. CAP };
 
     ghost with_slot = { λ s place x. changed s place (Some x) };
 
@@ -105,6 +131,11 @@ impl<T: Drop, const CAP: usize> RingSlots<T> for ArraySlots<T, CAP> {
         // For the proof: of `self.cells.xs.len()` only `CAP` is known.
         let cells = &self.cells;
         cells.xs.len()
+    }
+
+    #[inline]
+    fn limit(&self) -> usize {
+        self.size()
     }
 
     #[inline]
@@ -123,7 +154,10 @@ impl<T: Drop, const CAP: usize> RingSlots<T> for ArraySlots<T, CAP> {
     }
 
     #[inline]
-    fn put(&mut self, place: usize, item: T) {
+    fn put(&mut self, place: usize, item: T)
+    where
+        T: Drop,
+    {
         *self.slot_mut(place) = Some(item);
     }
 
@@ -133,7 +167,10 @@ impl<T: Drop, const CAP: usize> RingSlots<T> for ArraySlots<T, CAP> {
     }
 
     #[inline]
-    fn discard(&mut self, place: usize) {
+    fn discard(&mut self, place: usize)
+    where
+        T: Drop,
+    {
         *self.slot_mut(place) = None;
     }
 
@@ -146,4 +183,32 @@ impl<T: Drop, const CAP: usize> RingSlots<T> for ArraySlots<T, CAP> {
     fn get_mut(&mut self, place: usize) -> &mut T {
         self.slot_mut(place).as_mut().unwrap()
     }
+
+    #[inline]
+    fn row(&self, _: usize, _: usize) -> Option<&[T]> {
+        None
+    }
+
+    #[inline]
+    fn pass_up(&mut self, from: usize, len: usize, item: T) -> T {
+        self.changes = self.changes.after(len);
+        self.cells.pass_up(from, len, Some(item)).unwrap()
+    }
+
+    #[inline]
+    fn pass_down(&mut self, from: usize, len: usize, item: T) -> T {
+        self.changes = self.changes.after(len);
+        self.cells.pass_down(from, len, Some(item)).unwrap()
+    }
+
+    #[inline]
+    fn goes_by_stretch() -> bool {
+        false
+    }
+
+    #[inline]
+    fn free(self)
+    where
+        T: Drop,
+    {}
 }

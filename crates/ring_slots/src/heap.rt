@@ -1,18 +1,22 @@
 //! Slots on the heap.
-ghost use Rattle.std.specs.Prelude.{◌≡◌, ◌+◌, ◌-◌, ◌%◌, ◌^◌, ◌↔◌, ◌<◌, ◌≤◌, ℕ, min, length, replicate, None, Some, refl, IfOk, IsTrue};
+ghost use Rattle.std.specs.Prelude.{◌≡◌, ◌+◌, ◌-◌, ◌%◌, ◌^◌, ◌↔◌, ◌<◌, ◌≤◌, ℕ, min, length, replicate, None, Some, refl, IfOk, IsErr, IsTrue};
 ghost use Rattle.std.specs.Borrow.{sem};
-ghost use Rattle.std.specs.Int.{IsPowerOfTwo};
+ghost use Rattle.std.specs.Int.{IsNextPowerOfTwo};
 ghost use Rattle.std.specs.Mem.{type_size};
 ghost use Rattle.std.specs.Vec.Ownership.{FitsInBlock};
+ghost use Rattle.ring_slots.specs.block.Block.{IsNewBlock};
 ghost use Rattle.ring_slots.specs.Slots.{HoldsStretch, IsEmptyStretch, IsFullStretch, changed, with_items, with_lowered};
 
 use crate::block::{Deed, Owner};
 use crate::change_count::ChangeCount;
+use crate::passing::{pass_down, pass_up};
 use crate::place::masked;
 use crate::slots::RingSlots;
 use std::alloc::{AllocError, Global};
 use std::marker::{Model, Send, Sync};
 use std::mem::size_of;
+
+const GREATEST_POWER_OF_TWO: usize = 1 << (usize::BITS - 1);
 
 /// Slots on the heap, whose number is chosen when they are made.
 ///
@@ -25,9 +29,9 @@ use std::mem::size_of;
 /// 0, and rises by the calls of `RingSlots` and by `slice_mut`, `put_copies` and `move_down` alone.
 pub struct HeapSlots<T> {
     ptr: *mut T,
-    // The number of slots less one, which is the mask of their places where that number is a power of two. It wraps
-    // where there are no slots.
+    // The number of slots less one, which is the mask of their places.
     mask: usize,
+    capacity: usize,
     owner: Owner<T>,
     deed: Deed<T>,
     alloc: Global,
@@ -35,15 +39,18 @@ pub struct HeapSlots<T> {
 }
 
 impl<T> Model for HeapSlots<T> {
-    ghost use Rattle.std.specs.Prelude.{◌≡◌, ◌+◌, ◌%◌, ◌^◌, length};
+    ghost use Rattle.std.specs.Prelude.{◌≡◌, ◌+◌, ◌^◌, ◌<◌, length};
+    ghost use Rattle.std.specs.Int.{IsNextPowerOfTwo};
     ghost use Rattle.ring_slots.specs.Slots.{Slots};
     ghost use Rattle.ring_slots.specs.block.Block.{IsDeedOf};
 
     ghost Value = { Slots T };
 
-    ghost view = { λ s. record { slots = s.owner.slots; changes = s.changes.count } };
+    ghost view = { λ s. record { slots = s.owner.slots; changes = s.changes.count; capacity = s.capacity } };
 
-    ghost invariant = { λ s. (length s.owner.slots ≡ (s.mask + 1) % 2 ^ 64)
+    ghost invariant = { λ s. (length s.owner.slots ≡ s.mask + 1)
+        × (s.mask + 1 < 2 ^ 64)
+        × IsNextPowerOfTwo s.capacity (length s.owner.slots)
         × IsDeedOf s.alloc s.ptr s.owner s.deed };
 }
 
@@ -51,24 +58,26 @@ unsafe impl<T: Send> Send for HeapSlots<T> {}
 
 unsafe impl<T: Sync> Sync for HeapSlots<T> {}
 
-impl<T: Drop> HeapSlots<T> {
+impl<T> HeapSlots<T> {
     ghost use Rattle.ring_slots.specs.heap.Lends.{lends_stretch};
 
-    /// Makes `size` empty slots. An error says that the memory for them was refused.
-    pub fn new(alloc: Global, size: usize) -> Result<HeapSlots<T>, AllocError>
-        ensures { IfOk result (λ s. s ≡ record { slots = replicate size None; changes = 0 }) }
+    /// Makes empty slots, as many as the least power of two that is at least the capacity. An error says that the memory
+    /// for them was refused.
+    pub fn new(alloc: Global, capacity: usize) -> Result<HeapSlots<T>, AllocError>
+        ensures empty { IfOk result (λ s. s.slots ≡ replicate (length s.slots) None) }
+        ensures counted { IfOk result (λ s. s.changes ≡ 0) }
+        ensures capacity { IfOk result (λ s. s.capacity ≡ capacity) }
+        ensures too_large { 2 ^ 63 < capacity → IsErr result }
     {
-        let (ptr, owner, deed) = if item_size::<T>() == 0 {
-            Owner::without_memory(alloc, size)
-        } else {
-            if !may_hold::<T>(size) {
-                return Err(AllocError);
-            }
-            Owner::allocate(alloc, size)?
-        };
+        if capacity > GREATEST_POWER_OF_TWO {
+            return Err(AllocError);
+        }
+        let size = capacity.next_power_of_two();
+        let (ptr, owner, deed) = empty_block(alloc, size)?;
         Ok(HeapSlots {
             ptr,
-            mask: size.wrapping_sub(1),
+            mask: size - 1,
+            capacity,
             owner,
             deed,
             alloc,
@@ -143,30 +152,30 @@ impl<T> HeapSlots<T> {
     // Returns the number of slots.
     #[inline]
     fn size(&self) -> usize
-        ensures { result ≡ length self.now.slots }
+        ensures value { result ≡ length self.now.slots }
+        ensures size { IsNextPowerOfTwo self.now.capacity result }
     {
-        self.mask.wrapping_add(1)
+        self.mask + 1
     }
 
-    /// Ends slots that are all empty, and gives their block back, if they have one.
-    pub fn free(self)
-        requires { self.slots ≡ replicate (length self.slots) None }
-    {
-        let size = HeapSlots::size(&self);
-        let HeapSlots {
-            ptr,
-            mask: _,
-            owner,
-            deed,
-            alloc,
-            changes: _,
-        } = self;
-        if item_size::<T>() == 0 {
-            Owner::let_go(owner, deed);
-        } else {
-            Owner::deallocate(alloc, ptr, size, owner, deed);
-        }
+    /// Returns the allocator that gave the slots' block.
+    #[inline]
+    pub fn allocator(&self) -> Global {
+        self.alloc
     }
+}
+
+// Makes `size` empty slots, with the right to give their memory back.
+fn empty_block<T>(alloc: Global, size: usize) -> Result<(*mut T, Owner<T>, Deed<T>), AllocError>
+    ensures { IfOk result (λ made. IsNewBlock alloc size made.0 made.1 made.2) }
+{
+    if item_size::<T>() == 0 {
+        return Ok(Owner::without_memory(alloc, size));
+    }
+    if !may_hold::<T>(size) {
+        return Err(AllocError);
+    }
+    Owner::allocate(alloc, size)
 }
 
 // Returns the size of an item in bytes, or the greatest word where it is larger.
@@ -186,10 +195,12 @@ fn may_hold<T>(size: usize) -> bool
     }
 }
 
-impl<T: Drop> RingSlots<T> for HeapSlots<T> {
+impl<T> RingSlots<T> for HeapSlots<T> {
     ghost seen = { λ s. s };
 
-    ghost is_size = { IsPowerOfTwo };
+    ghost is_size = { IsNextPowerOfTwo };
+
+    ghost limit = { λ capacity. capacity };
 
     ghost with_slot = { λ s place x. changed s place (Some x) };
 
@@ -198,6 +209,11 @@ impl<T: Drop> RingSlots<T> for HeapSlots<T> {
     #[inline]
     fn size(&self) -> usize {
         HeapSlots::size(self)
+    }
+
+    #[inline]
+    fn limit(&self) -> usize {
+        self.capacity
     }
 
     #[inline]
@@ -211,7 +227,10 @@ impl<T: Drop> RingSlots<T> for HeapSlots<T> {
     }
 
     #[inline]
-    fn put(&mut self, place: usize, item: T) {
+    fn put(&mut self, place: usize, item: T)
+    where
+        T: Drop,
+    {
         self.changes = self.changes.after(1);
         self.owner.put(self.ptr, place, item);
     }
@@ -232,5 +251,48 @@ impl<T: Drop> RingSlots<T> for HeapSlots<T> {
         self.changes = self.changes.after(1);
         let ptr = self.ptr;
         self.owner.get_mut(ptr, place)
+    }
+
+    #[inline]
+    fn row(&self, from: usize, len: usize) -> Option<&[T]> {
+        Some(self.slice(from, len))
+    }
+
+    #[inline]
+    fn pass_up(&mut self, from: usize, len: usize, item: T) -> T {
+        let changes = self.changes.after(len);
+        pass_up(self.slice_mut(from, len, changes), item)
+    }
+
+    #[inline]
+    fn pass_down(&mut self, from: usize, len: usize, item: T) -> T {
+        let changes = self.changes.after(len);
+        pass_down(self.slice_mut(from, len, changes), item)
+    }
+
+    #[inline]
+    fn goes_by_stretch() -> bool {
+        true
+    }
+
+    fn free(self)
+    where
+        T: Drop,
+    {
+        let size = HeapSlots::size(&self);
+        let HeapSlots {
+            ptr,
+            mask: _,
+            capacity: _,
+            owner,
+            deed,
+            alloc,
+            changes: _,
+        } = self;
+        if item_size::<T>() == 0 {
+            Owner::let_go(owner, deed);
+        } else {
+            Owner::deallocate(alloc, ptr, size, owner, deed);
+        }
     }
 }

@@ -5,6 +5,7 @@ mod array;
 mod block;
 mod change_count;
 mod heap;
+mod passing;
 mod place;
 mod slots;
 

@@ -3,7 +3,7 @@ use Rattle.ringbuffer.proofs.Words.{◌≡◌, MatchResult, ℕ, suc, ◌-◌, �
 use Rattle.std.proofs.lemmas.List.{map-id}
 use Rattle.std.proofs.lemmas.List.Elements.{All-head, All-tail}
 use Rattle.std.proofs.lemmas.Str.{encodes-chars, length-le-encodes}
-use Rattle.ring_fixed.specs.Somes.{somes}
+use Rattle.ringbuffer.specs.Somes.{somes}
 
 -- the items of a source that was taken to its end are the list that it yields
 pub items_drained : {S A : Type 0} {steps : S → Option A → S → Type 0} {s : S} (xs all : List A) → Drains steps s xs → YieldsList steps (λ x. x) s all → xs ≡ all

@@ -1,6 +1,24 @@
+pub mod Compared
 pub mod Conversions
-mod CopiedOut
+pub mod CopiedOut
+pub mod Copies
+pub mod EmptiedStretches
+pub mod LaysApart
+pub mod LaysOut
+pub mod LentItem
+pub mod Passed
 pub mod Poured
+pub mod PutFirst
+pub mod PutOver
+pub mod RepeatedSteps
+pub mod SlotsHold
+pub mod SomesTaken
+pub mod Sound
+pub mod Sources
+pub mod Straight
+pub mod Stretches
+pub mod Swapped
+pub mod Turns
 mod Words
 pub use Rattle.ring_core.proofs.Drained
 pub use Rattle.ring_core.proofs.Items

@@ -2,7 +2,7 @@
 use Rattle.std.specs.Prelude.{◌≡◌, ℕ, List, Some, length}
 use Rattle.std.specs.List.{AllZip}
 use Rattle.ring_core.specs.Contents.{keep_last}
-use Rattle.ring_fixed.specs.View.{View}
+use Rattle.ringbuffer.specs.View.{View}
 
 module _ {X : Type 0} where
   -- an array ring holds the last of the items, at most as many as its capacity

@@ -1,6 +1,10 @@
 pub mod Conversion
+pub mod Layout
+pub mod Somes
+pub mod Sources
+pub mod View
+pub mod contiguous
 pub mod grow
-pub mod heap
 pub use Rattle.ring_core.specs.Contents
 pub use Rattle.ring_core.specs.Extension
 pub use Rattle.ring_core.specs.Filtering
@@ -8,5 +12,3 @@ pub use Rattle.ring_core.specs.History
 pub use Rattle.ring_core.specs.Meaning
 pub use Rattle.ring_core.specs.Stream
 pub use Rattle.ring_core.specs.Walk
-pub use Rattle.ring_fixed.specs.Somes
-pub use Rattle.ring_fixed.specs.View

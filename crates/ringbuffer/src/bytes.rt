@@ -5,16 +5,17 @@ ghost use Rattle.ringbuffer.specs.contracts.grow.GrowableAllocRingBuffer.{the_ro
 ghost use Rattle.std.specs.Borrow.{sem, u8 as byte};
 ghost use Rattle.std.specs.Io.{ReadsAtMost, StartsWith, WritesAtMost};
 ghost use Rattle.std.specs.Io.BufRead.{DropsConsumable, FillKeeps, Rests, drop_through, take_through};
-ghost use Rattle.ringbuffer.specs.contracts.array.ConstGenericRingBuffer.{the_row as array_row};
 ghost use Rattle.std.specs.Io.KnownBytes.{Keeps, ReadConsumes, WriteAppends};
 ghost use Rattle.ring_core.specs.Contents.{IsWithin};
-ghost use Rattle.ring_fixed.specs.View.{after_extend_from_slice, after_keep_newest, after_takes};
-ghost use Rattle.ringbuffer.specs.contracts.heap.AllocRingBuffer.{the_row as heap_row};
+ghost use Rattle.ringbuffer.specs.View.{after_extend_from_slice, after_keep_newest, after_takes};
+ghost use Rattle.ringbuffer.specs.contracts.fixed.FixedRing.{the_row as fixed_row};
 
 use crate::array::ConstGenericRingBuffer;
+use crate::fixed::FixedRing;
 use crate::grow::GrowableAllocRingBuffer;
 use crate::heap::AllocRingBuffer;
 use ring_core::RingBuffer;
+use ring_slots::RingSlots;
 use std::io::{BufRead, ErrorKind, Read, Result, Write};
 use std::slice;
 
@@ -28,7 +29,7 @@ fn count_that_fits<R: RingBuffer<u8>>(ring: &R, buf: &[u8]) -> usize
 }
 
 /// A read takes out the oldest bytes, as many as `buf` has places. An empty ring has ended.
-impl<const CAP: usize> Read for ConstGenericRingBuffer<u8, CAP> {
+impl<S: RingSlots<u8>> Read for FixedRing<u8, S> {
     ghost remaining = { λ ring. Some ring.items };
 
     fn read(&mut self, buf: &mut [u8]) -> Result<usize>
@@ -42,19 +43,17 @@ impl<const CAP: usize> Read for ConstGenericRingBuffer<u8, CAP> {
     }
 }
 
-/// `fill_buf` lends the oldest byte alone, since each byte of an array ring lies in a slot of its own.
-impl<const CAP: usize> BufRead for ConstGenericRingBuffer<u8, CAP> {
+/// `fill_buf` lends the oldest bytes up to the last slot on the heap. In an array it lends the oldest byte alone, since each
+/// byte lies in a slot of its own there.
+impl<S: RingSlots<u8>> BufRead for FixedRing<u8, S> {
     fn fill_buf(&mut self) -> Result<&[u8]>
         ensures front { IfOk result (λ s. StartsWith self.old.items s.now) }
         ensures end { IfOk result (λ s. length s.now ≡ 0 → self.old.items ≡ []) }
-        ensures* after_borrow { sem 𝓛 (Rests (array_row byte CAP.row) self.entry (λ new.
+        ensures* after_borrow { sem 𝓛 (Rests (fixed_row byte S.row S.RingSlots) self.entry (λ new.
             FillKeeps (Some self.old.items) (Some new.items) None result)) }
         ensures ok { IsOk result }
     {
-        match self.front() {
-            Some(first) => Ok(slice::from_ref(first)),
-            None => Ok(&[]),
-        }
+        Ok(self.first_bytes())
     }
 
     fn consume(&mut self, amount: usize)
@@ -64,6 +63,22 @@ impl<const CAP: usize> BufRead for ConstGenericRingBuffer<u8, CAP> {
     {
         let kept = self.len().saturating_sub(amount);
         self.keep_newest(kept);
+    }
+}
+
+impl<S: RingSlots<u8>> FixedRing<u8, S> {
+    // Returns the oldest bytes that lie side by side.
+    fn first_bytes(&self) -> &[u8]
+        ensures front { StartsWith self.now.items result.now }
+        ensures end { length result.now ≡ 0 → self.now.items ≡ [] }
+    {
+        if let Some((first, _)) = self.rows() {
+            return first;
+        }
+        if self.is_empty() {
+            return &[];
+        }
+        slice::from_ref(self.at(0))
     }
 }
 
@@ -90,44 +105,6 @@ impl<const CAP: usize> Write for ConstGenericRingBuffer<u8, CAP> {
         ensures unchanged { self.new ≡ self.old }
     {
         Ok(())
-    }
-}
-
-/// A read takes out the oldest bytes, as many as `buf` has places. An empty ring has ended.
-impl Read for AllocRingBuffer<u8> {
-    ghost remaining = { λ ring. Some ring.items };
-
-    fn read(&mut self, buf: &mut [u8]) -> Result<usize>
-        ensures bound { ReadsAtMost result buf.new }
-        ensures bytes { ReadConsumes (Some self.old.items) (Some self.new.items) result buf.new }
-        ensures count { result ≡ Ok (min (length buf.old) (length self.old.items)) }
-        ensures rest { IfOk result (λ n. self.new ≡ after_takes n self.old) }
-        ensures others { IfOk result (λ n. drop n buf.new ≡ drop n buf.old) }
-    {
-        Ok(self.dequeue_into(buf))
-    }
-}
-
-/// `fill_buf` lends the oldest bytes, up to the last slot.
-impl BufRead for AllocRingBuffer<u8> {
-    fn fill_buf(&mut self) -> Result<&[u8]>
-        ensures front { IfOk result (λ s. StartsWith self.old.items s.now) }
-        ensures end { IfOk result (λ s. length s.now ≡ 0 → self.old.items ≡ []) }
-        ensures* after_borrow { sem 𝓛 (Rests (heap_row byte) self.entry (λ new.
-            FillKeeps (Some self.old.items) (Some new.items) None result)) }
-        ensures ok { IsOk result }
-    {
-        let (first, _) = self.as_slices();
-        Ok(first)
-    }
-
-    fn consume(&mut self, amount: usize)
-        ensures bytes { DropsConsumable (Some self.old.items) (Some self.new.items) None amount }
-        ensures rest { self.new.items ≡ drop amount self.old.items }
-        ensures after { self.new ≡ after_keep_newest (length self.old.items - amount) self.old }
-    {
-        let kept = self.len().saturating_sub(amount);
-        self.keep_newest(kept);
     }
 }
 

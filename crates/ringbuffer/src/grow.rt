@@ -6,6 +6,7 @@ ghost use Rattle.std.specs.Cmp.Lexicographic.{lists_per, pointwise};
 ghost use Rattle.std.specs.Iterator.{Drains, IsFinite, IsFiniteIterable, YieldsThen};
 ghost use Rattle.std.specs.List.{AllZip};
 ghost use Rattle.std.proofs.lemmas.Cmp.{lists_equiv};
+ghost use Rattle.ring_core.proofs.Limits.{counts_none};
 ghost use Rattle.ring_core.specs.Contents.{keep_last};
 ghost use Rattle.ring_core.specs.Extension.{Extends};
 ghost use Rattle.ring_core.specs.Walk.{DrainsInOrder, DrainsInReverse, ReadsInOrder, ReadsInReverse, StartsOver, UnpacksInOrder, UnpacksInReverse, into_iter_to_come, items_between, iterator_to_come};
@@ -13,12 +14,11 @@ ghost use Rattle.ring_core.specs.Walk.{DrainsInOrder, DrainsInReverse, ReadsInOr
 mod convert;
 mod order;
 
+use crate::position::{index_at, signed_index_at};
+use crate::two_slices::{clone_slices, copy_slices, same_in_slices, slices_to_vec};
 use ring_core::{
-    DoubleEndedRing, RingBuffer, RingBufferDrainingIterator, RingBufferIntoIterator,
-    RingBufferIterator, RingBufferMutIterator,
-};
-use ring_fixed::{
-    clone_slices, copy_slices, index_at, same_in_slices, signed_index_at, slices_to_vec,
+    DoubleEndedRing, RingBuffer, RingBufferExt, RingBufferIntoIterator, RingBufferIterator,
+    range_within,
 };
 use std::alloc::{AllocError, Global};
 use std::collections::VecDeque;
@@ -183,6 +183,8 @@ impl<T: Drop> RingBuffer<T> for GrowableAllocRingBuffer<T> {
 
     ghost keeps_limit = { λ _ _ _. refl };
 
+    ghost counts_write = { λ ring _ _. counts_none (λ _. None) ring refl };
+
     fn len(&self) -> usize {
         self.deque.len()
     }
@@ -286,6 +288,16 @@ impl<T: Drop> RingBuffer<T> for GrowableAllocRingBuffer<T> {
     }
 }
 
+/// As the ring's own `extend`: where memory was refused, the items that came before stay. The trait doesn't say that more
+/// would have come.
+impl<T: Drop> Extend<T> for GrowableAllocRingBuffer<T> {
+    ghost extend_gives = { λ ring items made. made ≡ ring ++ items };
+
+    fn extend<U: IntoIterator<Item = T>>(&mut self, items: U) -> Result<(), AllocError> {
+        GrowableAllocRingBuffer::extend(self, items)
+    }
+}
+
 impl<T: Drop> GrowableAllocRingBuffer<T> {
     /// Pushes the items of a source that ends, in order, as the trait's `extend` does. It stands here too, since each
     /// ring is std's `Extend` as well, and a call by a dot would find both.
@@ -348,6 +360,53 @@ impl<T: Drop> DoubleEndedRing<T> for GrowableAllocRingBuffer<T> {
 
     fn keep_newest(&mut self, len: usize) {
         GrowableAllocRingBuffer::keep_newest(self, len);
+    }
+
+    fn try_push(&mut self, item: T) -> Result<(), T> {
+        if let Err(item) = self.push(item) {
+            return Err(item);
+        }
+        Ok(())
+    }
+
+    fn insert(&mut self, index: usize, item: T) -> Result<(), T> {
+        if let Err(failed) = self.deque.insert(index, item) {
+            return Err(failed.value);
+        }
+        Ok(())
+    }
+
+    fn remove(&mut self, index: usize) -> Option<T> {
+        self.deque.remove(index)
+    }
+
+    fn remove_range<X: RangeBounds<usize>>(&mut self, range: X) {
+        let range = range_within(&range, self.deque.len());
+        self.deque.drain(range);
+    }
+
+    fn swap(&mut self, i: usize, j: usize) {
+        self.deque.swap(i, j);
+    }
+
+    fn rotate_left(&mut self, count: usize) {
+        self.deque.rotate_left(count);
+    }
+
+    fn rotate_right(&mut self, count: usize) {
+        self.deque.rotate_right(count);
+    }
+
+    fn clone_into(&self, other: &mut Self) -> Result<(), AllocError>
+    where
+        T: Clone,
+    {
+        other.deque.clear();
+        other.deque.reserve(self.deque.len())?;
+        for i in 0..self.deque.len() {
+            other.deque.push_back_reserved(self.deque[i].clone()?);
+        }
+        Ok(())
     }
 }
 
@@ -435,64 +494,6 @@ impl<T: Drop> GrowableAllocRingBuffer<T> {
         ensures value { result.now ≡ self.old }
     {
         self.deque.make_contiguous()
-    }
-
-    /// Returns a walk over the items, oldest first, from either end.
-    ///
-    /// ```rust
-    /// ring.iter().count()
-    /// ```
-    #[inline]
-    pub fn iter(&self) -> RingBufferIterator<'_, T, Self>
-        ensures left { iterator_to_come ⟦<GrowableAllocRingBuffer<T> as RingBuffer<T>>⟧.contents
-            result ≡ self.now }
-        ensures runs { ReadsInOrder ⟦<GrowableAllocRingBuffer<T> as RingBuffer<T>>⟧.contents }
-        ensures runs_back { ReadsInReverse ⟦<GrowableAllocRingBuffer<T> as RingBuffer<T>>⟧.contents }
-    {
-        RingBufferIterator::new(self)
-    }
-
-    /// Returns a walk over the items at the indexes in a range, as `2..5` or `3..`, without walking over those before it.
-    /// A bound past the length is cut to it, and a range that ends before it starts has no items.
-    #[inline]
-    pub fn range<X: RangeBounds<usize>>(&self, range: X) -> RingBufferIterator<'_, T, Self>
-        requires { X.has_bounds range }
-        ensures left { iterator_to_come ⟦<GrowableAllocRingBuffer<T> as RingBuffer<T>>⟧.contents result
-            ≡ items_between (X.start_bound range) (X.end_bound range) self.now }
-        ensures runs { ReadsInOrder ⟦<GrowableAllocRingBuffer<T> as RingBuffer<T>>⟧.contents }
-        ensures runs_back { ReadsInReverse ⟦<GrowableAllocRingBuffer<T> as RingBuffer<T>>⟧.contents }
-    {
-        RingBufferIterator::range(self, range)
-    }
-
-    /// Returns a cursor that lends the items for writing, one at a time, from either end.
-    #[inline]
-    pub fn iter_mut(&mut self) -> RingBufferMutIterator<'_, T, Self>
-        ensures same_reference { result.ring.ghost_name ≡ self.entry.ghost_name }
-        ensures ring { result.ring.now ≡ self.entry.now }
-        ensures starts { StartsOver ⟦<GrowableAllocRingBuffer<T> as RingBuffer<T>>⟧.contents
-            result }
-    {
-        RingBufferMutIterator::new(self)
-    }
-
-    /// Returns a walk that takes the items out, oldest first, from either end. Those that it didn't hand out stay.
-    ///
-    /// ```rust
-    /// ring.drain().collect(alloc)
-    /// ```
-    #[inline]
-    pub fn drain(&mut self) -> RingBufferDrainingIterator<'_, T, Self>
-        ensures same_reference { result.ring.ghost_name ≡ self.entry.ghost_name }
-        ensures ring { result.ring.now ≡ self.entry.now }
-        ensures runs { DrainsInOrder ⟦<GrowableAllocRingBuffer<T> as RingBuffer<T>>⟧.contents
-            ⟦<GrowableAllocRingBuffer<T> as RingBuffer<T>>⟧.limit
-            ⟦<GrowableAllocRingBuffer<T> as RingBuffer<T>>⟧.slot_changes }
-        ensures runs_back { DrainsInReverse ⟦<GrowableAllocRingBuffer<T> as RingBuffer<T>>⟧.contents
-            ⟦<GrowableAllocRingBuffer<T> as RingBuffer<T>>⟧.limit
-            ⟦<GrowableAllocRingBuffer<T> as RingBuffer<T>>⟧.slot_changes }
-    {
-        RingBufferDrainingIterator::new(self)
     }
 
     /// Turns the ring into a walk that owns it, oldest item first, from either end.

@@ -2,17 +2,31 @@
 //! `RingBuffer` and `DoubleEndedRing`.
 #![tactic(auto)]
 
+mod any_ring;
 mod array;
 mod bytes;
+mod clones;
+mod compare;
+mod contiguous;
+mod ends;
 mod extend;
+mod fill;
+mod fixed;
 mod grow;
 mod heap;
+mod index;
+mod position;
+mod slices;
+mod steps;
+mod two_slices;
+mod walks;
 
 pub use array::ConstGenericRingBuffer;
+pub use fixed::FixedRing;
 pub use grow::GrowableAllocRingBuffer;
 pub use heap::AllocRingBuffer;
 pub use ring_core::{
     Command, DoubleEndedRing, LastBytes, Refused, Reply, RingBuffer, RingBufferDrainingIterator,
-    RingBufferIntoIterator, RingBufferIterator, RingBufferMutIterator, RunFault, Stopped, apply,
-    binary_search, move_all, partition_point, retain, run, run_into, runs_join,
+    RingBufferExt, RingBufferIntoIterator, RingBufferIterator, RingBufferMutIterator, RunFault,
+    Stopped, apply, binary_search, move_all, partition_point, retain, run, run_into, runs_join,
 };

@@ -1,14 +1,13 @@
 //! Array rings made of other collections. Each function names its source, whose items keep their order.
 ghost use Rattle.std.specs.Prelude.{◌≡◌, ◌<◌, All, IfOk, IsOk, IsSome, List, [], chars, string_bytes};
 ghost use Rattle.std.specs.Iterator.{Drains, IsFiniteIterable};
-ghost use Rattle.ring_fixed.specs.Somes.{somes};
+ghost use Rattle.ringbuffer.specs.Somes.{somes};
 ghost use Rattle.ringbuffer.specs.Conversion.{ClonesMeet, HoldsLast};
 
+use crate::any_ring::{extend_cloned, extend_somes};
 use crate::array::ConstGenericRingBuffer;
 use crate::grow::GrowableAllocRingBuffer;
 use crate::heap::AllocRingBuffer;
-use ring_core::RingBuffer;
-use ring_fixed::{extend_cloned, extend_somes};
 use std::alloc::AllocError;
 use std::collections::{LinkedList, VecDeque};
 

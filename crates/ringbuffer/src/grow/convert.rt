@@ -2,13 +2,13 @@
 ghost use Rattle.std.specs.Prelude.{◌≡◌, [], All, IfOk, IsOk, IsSome, List, OnErr, Some, chars, string_bytes};
 ghost use Rattle.std.specs.Iterator.{Drains, IsFiniteIterable, YieldsThen};
 ghost use Rattle.std.specs.List.{AllZip};
-ghost use Rattle.ring_fixed.specs.Somes.{somes};
+ghost use Rattle.ringbuffer.specs.Somes.{somes};
 
+use crate::any_ring::{extend_cloned, extend_somes};
 use crate::array::ConstGenericRingBuffer;
 use crate::grow::GrowableAllocRingBuffer;
 use crate::heap::AllocRingBuffer;
 use ring_core::RingBuffer;
-use ring_fixed::{extend_cloned, extend_somes};
 use std::alloc::{AllocError, Global};
 use std::collections::{LinkedList, VecDeque};
 

@@ -2,14 +2,14 @@
 ghost use Rattle.std.specs.Prelude.{◌≡◌, ◌<◌, All, IfOk, IsSome, List, Some, chars, length, string_bytes};
 ghost use Rattle.std.specs.Iterator.{Drains, IsFiniteIterable};
 ghost use Rattle.ring_core.specs.Contents.{keep_last};
-ghost use Rattle.ring_fixed.specs.Somes.{somes};
+ghost use Rattle.ringbuffer.specs.Somes.{somes};
 ghost use Rattle.ringbuffer.specs.Conversion.{ClonesMeet, HoldsAll};
 
+use crate::any_ring::extend_somes;
 use crate::array::ConstGenericRingBuffer;
 use crate::grow::GrowableAllocRingBuffer;
 use crate::heap::AllocRingBuffer;
 use ring_core::RingBuffer;
-use ring_fixed::extend_somes;
 use std::alloc::{AllocError, Global};
 use std::collections::{LinkedList, VecDeque};
 
@@ -161,7 +161,9 @@ impl<T: Clone + Drop> AllocRingBuffer<T> {
         requires { 0 < length items.now }
         ensures { IfOk result (λ ring. ClonesMeet T.is_clone items.now (λ ys. HoldsAll ys ring)) }
     {
-        Self::of_clones(alloc, items.len(), (items, &[]))
+        let mut ring = Self::new(alloc, items.len())?;
+        ring.fill_from_slices(items, &[])?;
+        Ok(ring)
     }
 
     /// Does what `from_slice` does. The slice is as it was.

@@ -1,6 +1,0 @@
-use Rattle.ring_fixed.proofs.LaysOut.{LaysOut-put}
-use Rattle.ring_fixed.proofs.fixed.Fixed.put_at.Goals as goal
-
-pub returns : goal.returns
-returns g c =
-    LaysOut-put _ _ c.requires.laid_out _ _ _ _ c.requires.len c.requires.room c.requires.place c.put.ensures

@@ -1,8 +1,0 @@
-use Rattle.ring_fixed.proofs.Words.{arith}
-use Rattle.ring_fixed.proofs.LaysOut.{LaysOut-pop}
-use Rattle.ring_fixed.proofs.fixed.Fixed.take_last.Goals as goal
-
--- The slot of the last item is emptied, and the items before it stay.
-pub returns-clause-after : goal.returns-clause-after
-returns-clause-after g c =
-    LaysOut-pop _ _ c.requires.laid_out _ _ _ (omega (arith, c.requires.len, c.requires.some)) c.place-last.ensures c.take.ensures.after

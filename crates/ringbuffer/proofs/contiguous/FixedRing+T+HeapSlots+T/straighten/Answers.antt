@@ -1,0 +1,18 @@
+use Rattle.ringbuffer.proofs.Words.{◌≡◌, ◌+◌, ◌≤◌, ◌∙◌, ap, arith, beside, drop, items_from, length, sym, take_at, turned}
+use Rattle.ringbuffer.proofs.Turns.{length-turned, turned_back}
+use Rattle.ringbuffer.proofs.Stretches.{stretch_is}
+use Rattle.ringbuffer.proofs.Straight.{beside-refilled, beside-stretch, straight_fits}
+use Rattle.ringbuffer.proofs.contiguous.FixedRing+T+HeapSlots+T.straighten.Goals as goal
+
+-- The items that were turned are turned back.
+pub returns-clause-straight : goal.returns-clause-straight
+returns-clause-straight g c =
+    let s = c.args.slots.now in let start = c.args.span.start in let len = c.args.span.len in let size = length s.slots in let items = items_from s.slots start in
+    let after = c.gather-moved.ensures in let n = c.gather-moved.result.0 in let next = c.gather-moved.result.1 in let xs = turned n items in
+    let low : n ≤ length items = omega (arith, after.moved, c.requires.len) in
+    let long = length-turned n items low in let enough = c.requires.laid_out.fit in
+    let fit : next + length xs ≤ size = rw after.start (omega (arith, long, (straight_fits start len size c.requires.laid_out.start_within (omega (arith, c.requires.len))).1, c.requires.len)) in
+    let counted : c.args.span.len ≡ length xs = omega (arith, c.requires.len, long) in
+    let held = stretch_is _ next _ _ xs c.slice_mut.ensures.value (rw (after.straight, counted) (beside-stretch size next xs fit)) in
+    let back : c.rotate_right.new.self ≡ items = c.rotate_right.ensures.after ∙ turned_back n items _ low held in
+    rw (back, after.straight, counted) (beside-refilled size next xs fit items ∙ ap (beside size next) (take_at items (drop (length items) xs) (length xs) (sym long)))

@@ -1,0 +1,90 @@
+//! The items of a ring on the heap as slices.
+ghost use Rattle.std.specs.Prelude.{◌≡◌, ◌↔◌, ◌+◌, ◌*◌, ◌++◌, ◌<◌, ◌≤◌, length};
+ghost use Rattle.std.specs.Borrow.{Array, Lends, sem};
+
+use crate::fixed::{FixedRing, Span};
+use ring_slots::{HeapSlots, RingSlots};
+
+impl<T: Drop> FixedRing<T, HeapSlots<T>> {
+    ghost use Rattle.ringbuffer.specs.Layout.{IsLaidOut, view_from};
+    ghost use Rattle.ringbuffer.specs.contiguous.Straight.{beside, straight_start};
+    ghost use Rattle.ringbuffer.specs.View.{after_rewrite, turned};
+    ghost use Rattle.ringbuffer.specs.contracts.fixed.FixedRing.{the_row};
+    ghost use Rattle.ring_slots.specs.contracts.heap.HeapSlots.{the_row as heap_row};
+
+    /// Returns the items in two slices, oldest first: those up to the end of the block, and those that go on at its
+    /// beginning. The second is empty where the items don't reach the end.
+    #[inline]
+    pub fn as_slices(&self) -> (&[T], &[T])
+        ensures items { result.0.now ++ result.1.now ≡ self.now.items }
+        ensures first { (0 < length result.0.now) ↔ (0 < length self.now.items) }
+    {
+        let first = self.len.min(self.slots.size() - self.start);
+        (
+            self.slots.slice(self.start, first),
+            self.slots.slice(0, self.len - first),
+        )
+    }
+
+    /// Lends the items in one slice, oldest first, for writing. Where some go on at the beginning of the block, they
+    /// are moved first, without memory, in O(n). This counts as four changes an item, moved or not.
+    pub fn make_contiguous(&mut self) -> &mut [T]
+        ensures* writes_back { sem 𝓛
+            (Lends (the_row T.row (heap_row T.row) ⟦<HeapSlots<T> as RingSlots<T>>⟧) (Array T.row 0)
+            self.entry result (after_rewrite self.old)) }
+        ensures value { result.now ≡ self.old.items }
+    {
+        let span = Span {
+            start: self.start,
+            len: self.len,
+        };
+        let changes = self
+            .slots
+            .changes()
+            .after(span.len)
+            .after(span.len)
+            .after(span.len)
+            .after(span.len);
+        let start = Self::straighten(&mut self.slots, span);
+        self.start = start;
+        self.slots.slice_mut(start, span.len, changes)
+    }
+
+    // Moves the items side by side, where they go on at the first slot. Returns their next start.
+    fn straighten(slots: &mut HeapSlots<T>, span: Span) -> usize
+        requires laid_out { IsLaidOut slots.old span.start }
+        requires len { span.len ≡ length (view_from slots.old span.start).items }
+        ensures start { result ≡ straight_start (length slots.old.slots) span.start span.len }
+        ensures straight { slots.new.slots
+            ≡ beside (length slots.old.slots) result (view_from slots.old span.start).items }
+        ensures counted { slots.new.changes ≤ slots.old.changes + 3 * span.len }
+        ensures capacity { slots.new.capacity ≡ slots.old.capacity }
+    {
+        let (moved, start) = Self::gather(slots, span);
+        let changes = slots.changes().after(span.len);
+        slots
+            .slice_mut(start, span.len, changes)
+            .rotate_right(moved);
+        start
+    }
+
+    // Moves the items from the front that lie in the last slots down behind the last item, so that all lie side by side.
+    // Returns how many it moved, and the next start.
+    fn gather(slots: &mut HeapSlots<T>, span: Span) -> (usize, usize)
+        requires laid_out { IsLaidOut slots.old span.start }
+        requires len { span.len ≡ length (view_from slots.old span.start).items }
+        ensures start { result.1 ≡ straight_start (length slots.old.slots) span.start span.len }
+        ensures moved { result.0 ≤ span.len }
+        ensures straight { slots.new.slots ≡ beside (length slots.old.slots) result.1
+            (turned result.0 (view_from slots.old span.start).items) }
+        ensures counted { slots.new.changes ≡ slots.old.changes + 2 * result.0 }
+        ensures capacity { slots.new.capacity ≡ slots.old.capacity }
+    {
+        let first = slots.size() - span.start;
+        if span.len <= first {
+            return (0, span.start);
+        }
+        slots.move_down(span.start, span.len - first);
+        (first, 0)
+    }
+}
