@@ -5,7 +5,7 @@ ghost use Rattle.ringbuffer.specs.Contents.{keep_first, keep_last, past_limit};
 
 use ringbuffer::{
     AllocRingBuffer, ConstGenericRingBuffer, DoubleEndedRing, GrowableAllocRingBuffer, RingBuffer,
-    RingBufferDrainingIterator, RingBufferIntoIterator,
+    RingBufferDrainingIterator, RingBufferExt, RingBufferIntoIterator,
 };
 use std::alloc::{AllocError, Global};
 

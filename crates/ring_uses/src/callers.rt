@@ -7,7 +7,7 @@ ghost use Rattle.ringbuffer.specs.Extension.{MovesPart};
 
 use ringbuffer::{
     AllocRingBuffer, ConstGenericRingBuffer, GrowableAllocRingBuffer, RingBuffer,
-    RingBufferDrainingIterator, RingBufferIterator, RingBufferMutIterator, move_all,
+    RingBufferDrainingIterator, RingBufferExt, RingBufferIterator, RingBufferMutIterator, move_all,
 };
 use std::alloc::{AllocError, Global};
 

@@ -3,7 +3,7 @@
 ghost use Rattle.std.specs.Prelude.{◌≡◌, ◌<◌, ◌≤◌, ◌^◌, IfOk, drop, length, reverse, sum, take};
 
 use ringbuffer::{
-    AllocRingBuffer, ConstGenericRingBuffer, GrowableAllocRingBuffer, RingBuffer,
+    AllocRingBuffer, ConstGenericRingBuffer, GrowableAllocRingBuffer, RingBuffer, RingBufferExt,
     RingBufferIterator,
 };
 use std::alloc::{AllocError, Global};

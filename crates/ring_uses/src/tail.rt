@@ -4,7 +4,7 @@ ghost use Rattle.std.specs.Prelude.{◌≡◌, ◌<◌, [], ◌∷◌, ◌++◌,
 ghost use Rattle.ringbuffer.specs.Contents.{keep_last};
 ghost use Rattle.ringbuffer.specs.Walk.{ReadsInOrder, iterator_to_come};
 
-use ringbuffer::{AllocRingBuffer, RingBuffer, RingBufferIterator};
+use ringbuffer::{AllocRingBuffer, RingBuffer, RingBufferExt, RingBufferIterator};
 use std::alloc::{AllocError, Global};
 use std::marker::Model;
 

@@ -36,14 +36,9 @@ impl<T: Clone + Drop, S: RingSlots<T>> FixedRing<T, S> {
             (λ _. (length ys < length first.now + length second.now) × ((x : T) × ¬ (T.is_infallible x)))
             × (self.new ≡ after_fill self.old ys) }
     {
-        let span = Span {
-            start: self.start,
-            len: self.len,
-        };
-        Self::empty_slots(&mut self.slots, span);
-        self.start = 0;
+        Self::empty_slots(&mut self.slots, self.span);
         let (len, made) = Self::put_clones_of_both(&mut self.slots, first, second);
-        self.len = len;
+        self.span = Span { start: 0, len };
         made
     }
 
@@ -55,14 +50,9 @@ impl<T: Clone + Drop, S: RingSlots<T>> FixedRing<T, S> {
             (λ _. (length ys < length self.now.items) × ((x : T) × ¬ (T.is_infallible x)))
             × (other.new ≡ after_fill other.old ys) }
     {
-        let span = Span {
-            start: other.start,
-            len: other.len,
-        };
-        Self::empty_slots(&mut other.slots, span);
-        other.start = 0;
+        Self::empty_slots(&mut other.slots, other.span);
         let (len, made) = self.clone_into_slots(&mut other.slots);
-        other.len = len;
+        other.span = Span { start: 0, len };
         made
     }
 

@@ -19,10 +19,10 @@ impl<T: Drop> FixedRing<T, HeapSlots<T>> {
         ensures items { result.0.now ++ result.1.now ≡ self.now.items }
         ensures first { (0 < length result.0.now) ↔ (0 < length self.now.items) }
     {
-        let first = self.len.min(self.slots.size() - self.start);
+        let first = self.span.len.min(self.slots.size() - self.span.start);
         (
-            self.slots.slice(self.start, first),
-            self.slots.slice(0, self.len - first),
+            self.slots.slice(self.span.start, first),
+            self.slots.slice(0, self.span.len - first),
         )
     }
 
@@ -34,10 +34,7 @@ impl<T: Drop> FixedRing<T, HeapSlots<T>> {
             self.entry result (after_rewrite self.old)) }
         ensures value { result.now ≡ self.old.items }
     {
-        let span = Span {
-            start: self.start,
-            len: self.len,
-        };
+        let span = self.span;
         let changes = self
             .slots
             .changes()
@@ -46,7 +43,7 @@ impl<T: Drop> FixedRing<T, HeapSlots<T>> {
             .after(span.len)
             .after(span.len);
         let start = Self::straighten(&mut self.slots, span);
-        self.start = start;
+        self.span.start = start;
         self.slots.slice_mut(start, span.len, changes)
     }
 

@@ -44,13 +44,10 @@ impl<T: Drop, S: RingSlots<T>> FixedRing<T, S> {
         ensures value { result ≡ slice_get (item ∷ self.old.items) (S.limit self.old.capacity) }
         ensures after { self.new ≡ after_push_front (S.limit self.old.capacity) self.old item }
     {
-        let before = Span {
-            start: self.start,
-            len: self.len,
-        };
+        let before = self.span;
         if before.len == self.slots.limit() {
             let (start, old) = Self::put_under(&mut self.slots, before, item);
-            self.start = start;
+            self.span.start = start;
             return Some(old);
         }
         self.put_first(item);
@@ -64,15 +61,11 @@ impl<T: Drop, S: RingSlots<T>> FixedRing<T, S> {
         ensures value { result ≡ slice_get self.old.items (length self.old.items - 1) }
         ensures after { self.new ≡ after_pop self.old }
     {
-        let len = self.len;
-        if len == 0 {
+        let span = self.span;
+        if span.len == 0 {
             return None;
         }
-        let span = Span {
-            start: self.start,
-            len,
-        };
-        self.len = len - 1;
+        self.span.len -= 1;
         Some(Self::take_last(&mut self.slots, span))
     }
 
@@ -81,9 +74,9 @@ impl<T: Drop, S: RingSlots<T>> FixedRing<T, S> {
     pub fn truncate(&mut self, len: usize)
         ensures { self.new ≡ after_truncate len self.old }
     {
-        if len < self.len {
-            Self::drop_items(&mut self.slots, self.start, len, self.len);
-            self.len = len;
+        if len < self.span.len {
+            Self::drop_items(&mut self.slots, self.span.start, len, self.span.len);
+            self.span.len = len;
         }
     }
 
@@ -92,7 +85,7 @@ impl<T: Drop, S: RingSlots<T>> FixedRing<T, S> {
     pub fn keep_newest(&mut self, len: usize)
         ensures { self.new ≡ after_keep_newest len self.old }
     {
-        let others = self.len.saturating_sub(len);
+        let others = self.span.len.saturating_sub(len);
         self.drop_first(others);
     }
 
@@ -104,13 +97,10 @@ impl<T: Drop, S: RingSlots<T>> FixedRing<T, S> {
     {
         // For the proof: the number of slots fits a word.
         let _ = self.slots.size();
-        let span = Span {
-            start: self.start,
-            len: self.len,
-        };
+        let span = self.span;
         let end = self.slots.place(span.start, span.len);
         Self::put_at(&mut self.slots, span, end, item);
-        self.len += 1;
+        self.span.len += 1;
     }
 
     // Puts an item before the first, where there is room for one.
@@ -121,8 +111,8 @@ impl<T: Drop, S: RingSlots<T>> FixedRing<T, S> {
     {
         // For the proof: the number of slots fits a word.
         let _ = self.slots.size();
-        self.start = Self::put_before(&mut self.slots, self.start, item);
-        self.len += 1;
+        self.span.start = Self::put_before(&mut self.slots, self.span.start, item);
+        self.span.len += 1;
     }
 
     // Takes out the first item, if there is one.
@@ -131,13 +121,15 @@ impl<T: Drop, S: RingSlots<T>> FixedRing<T, S> {
         ensures value { result ≡ slice_get self.old.items 0 }
         ensures after { self.new ≡ after_take self.old }
     {
-        let len = self.len;
+        let Span { start, len } = self.span;
         if len == 0 {
             return None;
         }
-        let (start, item) = Self::take_from(&mut self.slots, self.start);
-        self.start = start;
-        self.len = len - 1;
+        let (start, item) = Self::take_from(&mut self.slots, start);
+        self.span = Span {
+            start,
+            len: len - 1,
+        };
         Some(item)
     }
 
@@ -146,10 +138,10 @@ impl<T: Drop, S: RingSlots<T>> FixedRing<T, S> {
         requires { count ≤ length self.old.items }
         ensures { self.new ≡ after_takes count self.old }
     {
-        let start = self.start;
+        let start = self.span.start;
         Self::drop_items(&mut self.slots, start, 0, count);
-        self.start = self.slots.place(start, count);
-        self.len -= count;
+        self.span.start = self.slots.place(start, count);
+        self.span.len -= count;
     }
 
     // Drops all items of a ring, which begins at the first slot then.

@@ -39,13 +39,9 @@ impl<T: Drop, S: RingSlots<T>> FixedRing<T, S> {
             × (self.new ≡ after_extend (S.limit self.old.capacity) self.old xs) }
     {
         let capacity = self.slots.limit();
-        let span = Span {
-            start: self.start,
-            len: self.len,
-        };
+        let span = self.span;
         let span = Self::push_each(&mut self.slots, span, items, capacity);
-        self.start = span.start;
-        self.len = span.len;
+        self.span = span;
     }
 
     // Pushes the items of a source that ends, in order. Returns where the items lie then.
@@ -88,13 +84,9 @@ impl<T: Drop, S: RingSlots<T>> FixedRing<T, S> {
             × (result.0 ≡ after_extend (S.limit self.capacity) self xs) }
     {
         let capacity = self.slots.limit();
-        let span = Span {
-            start: self.start,
-            len: self.len,
-        };
+        let span = self.span;
         let span = Self::push_all(&mut self.slots, span, items.into_iter(), capacity);
-        self.start = span.start;
-        self.len = span.len;
+        self.span = span;
         (self, ())
     }
 

@@ -19,14 +19,12 @@ impl<T: Drop, S: RingSlots<T>> FixedRing<T, S> {
             × (self.new ≡ after_fill self.old xs) }
     {
         let capacity = self.slots.limit();
-        let span = Span {
-            start: self.start,
-            len: self.len,
-        };
-        Self::empty_slots(&mut self.slots, span);
-        self.start = 0;
+        Self::empty_slots(&mut self.slots, self.span);
         Self::put_results(&mut self.slots, make, capacity);
-        self.len = capacity;
+        self.span = Span {
+            start: 0,
+            len: capacity,
+        };
     }
 
     // Drops all items, and pushes as many clones of `value` as the limit says. Where a clone is refused, those before it
@@ -40,14 +38,9 @@ impl<T: Drop, S: RingSlots<T>> FixedRing<T, S> {
             × (self.new ≡ after_fill self.old xs) }
     {
         let capacity = self.slots.limit();
-        let span = Span {
-            start: self.start,
-            len: self.len,
-        };
-        Self::empty_slots(&mut self.slots, span);
-        self.start = 0;
+        Self::empty_slots(&mut self.slots, self.span);
         let (len, made) = Self::put_clones_of(&mut self.slots, value, capacity);
-        self.len = len;
+        self.span = Span { start: 0, len };
         made
     }
 

@@ -34,8 +34,7 @@ pub(crate) struct Span {
 /// A contract sees its items, oldest first, how often its slots were changed, and its capacity.
 pub struct FixedRing<T, S: RingSlots<T>> {
     pub(crate) slots: S,
-    pub(crate) start: usize,
-    pub(crate) len: usize,
+    pub(crate) span: Span,
     pub(crate) item: PhantomData<T>,
 }
 
@@ -45,9 +44,9 @@ impl<T, S: RingSlots<T>> Model for FixedRing<T, S> {
 
     ghost Value = { View T };
 
-    ghost view = { λ r. view_from (S.seen r.slots) r.start };
+    ghost view = { λ r. view_from (S.seen r.slots) r.span.start };
 
-    ghost invariant = { λ r. IsSound S.limit (S.seen r.slots) r.start r.len };
+    ghost invariant = { λ r. IsSound S.limit (S.seen r.slots) r.span.start r.span.len };
 }
 
 impl<T: Drop, S: RingSlots<T>> Drop for FixedRing<T, S> {
@@ -55,11 +54,10 @@ impl<T: Drop, S: RingSlots<T>> Drop for FixedRing<T, S> {
     fn drop(self) {
         let FixedRing {
             mut slots,
-            start,
-            len,
+            span,
             item: _,
         } = self;
-        Self::empty_slots(&mut slots, Span { start, len });
+        Self::empty_slots(&mut slots, span);
         slots.free();
     }
 }
@@ -77,8 +75,7 @@ impl<T: Drop, S: RingSlots<T>> FixedRing<T, S> {
         let _ = slots.limit();
         FixedRing {
             slots,
-            start: 0,
-            len: 0,
+            span: Span { start: 0, len: 0 },
             item: PhantomData,
         }
     }
@@ -89,7 +86,7 @@ impl<T: Drop, S: RingSlots<T>> FixedRing<T, S> {
         requires { index < length self.now.items }
         ensures { slice_get self.now.items index ≡ Some result.now }
     {
-        self.slots.get(self.slots.place(self.start, index))
+        self.slots.get(self.slots.place(self.span.start, index))
     }
 
     // Returns the items in two slices, oldest first, if the slots can show them so.
@@ -98,9 +95,9 @@ impl<T: Drop, S: RingSlots<T>> FixedRing<T, S> {
         ensures first { IfSome result
             (λ rows. (0 < length rows.0.now) ↔ (0 < length self.now.items)) }
     {
-        let first = self.len.min(self.slots.size() - self.start);
-        let before = self.slots.row(self.start, first)?;
-        let behind = self.slots.row(0, self.len - first)?;
+        let first = self.span.len.min(self.slots.size() - self.span.start);
+        let before = self.slots.row(self.span.start, first)?;
+        let behind = self.slots.row(0, self.span.len - first)?;
         Some((before, behind))
     }
 
@@ -138,7 +135,7 @@ impl<T: Drop, S: RingSlots<T>> FixedRing<T, S> {
     fn item_count(&self) -> usize
         ensures { result ≡ length self.now.items }
     {
-        self.len
+        self.span.len
     }
 
     // Lends the item at an index below the length for writing.
@@ -150,7 +147,7 @@ impl<T: Drop, S: RingSlots<T>> FixedRing<T, S> {
             (after_write self.old index)) }
         ensures value { slice_get self.old.items index ≡ Some result.now }
     {
-        let place = self.slots.place(self.start, index);
+        let place = self.slots.place(self.span.start, index);
         self.slots.get_mut(place)
     }
 }
@@ -172,7 +169,7 @@ impl<T: Drop, S: RingSlots<T>> RingBuffer<T> for FixedRing<T, S> {
 
     #[inline]
     fn len(&self) -> usize {
-        self.len
+        self.span.len
     }
 
     #[inline]
@@ -203,15 +200,12 @@ impl<T: Drop, S: RingSlots<T>> RingBuffer<T> for FixedRing<T, S> {
             ≡ self.new.changes }
     {
         let capacity = self.slots.limit();
-        let before = Span {
-            start: self.start,
-            len: self.len,
-        };
+        let before = self.span;
         let (after, old) = Self::push_from(&mut self.slots, before, item, capacity);
-        self.start = after.start;
+        self.span.start = after.start;
         // A full ring keeps its length, and has one store less to make.
         if after.len != before.len {
-            self.len = after.len;
+            self.span.len = after.len;
         }
         Ok(old)
     }
@@ -234,13 +228,8 @@ impl<T: Drop, S: RingSlots<T>> RingBuffer<T> for FixedRing<T, S> {
     }
 
     fn clear(&mut self) {
-        let span = Span {
-            start: self.start,
-            len: self.len,
-        };
-        Self::empty_slots(&mut self.slots, span);
-        self.start = 0;
-        self.len = 0;
+        Self::empty_slots(&mut self.slots, self.span);
+        self.span = Span { start: 0, len: 0 };
     }
 
     fn fill_with<F: FnMut() -> T + Drop>(&mut self, make: F) -> Result<(), AllocError> {

@@ -49,7 +49,7 @@ impl<T: Drop, S: RingSlots<T>> FixedRing<T, S> {
         requires { count ≤ length self.old.items }
         ensures { self.new ≡ after_rotate count self.old }
     {
-        let others = self.len - count;
+        let others = self.span.len - count;
         if count <= others {
             self.turn_left(count);
         } else {
@@ -62,7 +62,7 @@ impl<T: Drop, S: RingSlots<T>> FixedRing<T, S> {
         requires { count ≤ length self.old.items }
         ensures { self.new ≡ after_rotate (length self.old.items - count) self.old }
     {
-        let others = self.len - count;
+        let others = self.span.len - count;
         self.rotate_left(others);
     }
 
@@ -75,8 +75,8 @@ impl<T: Drop, S: RingSlots<T>> FixedRing<T, S> {
         if i == j {
             return;
         }
-        let a = self.slots.place(self.start, i);
-        let b = self.slots.place(self.start, j);
+        let a = self.slots.place(self.span.start, i);
+        let b = self.slots.place(self.span.start, j);
         let first = self.slots.take(a);
         let second = mem::replace(self.slots.get_mut(b), first);
         self.slots.put(a, second);
@@ -94,7 +94,7 @@ impl<T: Drop, S: RingSlots<T>> FixedRing<T, S> {
         ensures { self.new ≡ after_remove_range (start_index (X.start_bound range))
             (end_index (X.end_bound range) (length self.old.items)) self.old }
     {
-        let range = range_within(&range, self.len);
+        let range = range_within(&range, self.span.len);
         if range.start < range.end {
             self.cut(range.start, range.end);
         }
@@ -106,16 +106,13 @@ impl<T: Drop, S: RingSlots<T>> FixedRing<T, S> {
         requires within { to ≤ length self.old.items }
         ensures { self.new ≡ after_cut from to (min from (length self.old.items - to)) self.old }
     {
-        let span = Span {
-            start: self.start,
-            len: self.len,
-        };
+        let span = self.span;
         if from <= span.len - to {
-            self.start = Self::cut_from_front(&mut self.slots, span, from, to);
+            self.span.start = Self::cut_from_front(&mut self.slots, span, from, to);
         } else {
             Self::cut_from_back(&mut self.slots, span, from, to);
         }
-        self.len -= to - from;
+        self.span.len -= to - from;
     }
 
     // Drops the items from an index up to another, and moves those before up, the last of them first. Returns the next
@@ -176,7 +173,7 @@ impl<T: Drop, S: RingSlots<T>> FixedRing<T, S> {
         ensures value { result ≡ slice_get self.old.items index }
         ensures after { self.new ≡ after_remove index self.old }
     {
-        let behind = self.len - 1 - index;
+        let behind = self.span.len - 1 - index;
         if index <= behind {
             let first = self.take_first()?;
             return Some(self.pass_up(0, index, first));
@@ -192,7 +189,7 @@ impl<T: Drop, S: RingSlots<T>> FixedRing<T, S> {
         requires room { length self.old.items < S.limit self.old.capacity }
         ensures { self.new ≡ after_insert index item self.old }
     {
-        let behind = self.len - index;
+        let behind = self.span.len - index;
         if index <= behind {
             let first = self.pass_down(0, index, item);
             self.put_first(first);
@@ -209,7 +206,7 @@ impl<T: Drop, S: RingSlots<T>> FixedRing<T, S> {
         ensures { (xs : List T) × passed_up item result (take count (drop index self.old.items)) xs
             × (self.new ≡ after_writes index xs self.old) }
     {
-        let (place, first) = Self::stretch(&self.slots, self.start, index, count);
+        let (place, first) = Self::stretch(&self.slots, self.span.start, index, count);
         let over = self.slots.pass_up(place, first, item);
         self.slots.pass_up(0, count - first, over)
     }
@@ -221,7 +218,7 @@ impl<T: Drop, S: RingSlots<T>> FixedRing<T, S> {
         ensures { (xs : List T) × passed_down item result (take count (drop index self.old.items)) xs
             × (self.new ≡ after_writes index xs self.old) }
     {
-        let (place, first) = Self::stretch(&self.slots, self.start, index, count);
+        let (place, first) = Self::stretch(&self.slots, self.span.start, index, count);
         let over = self.slots.pass_down(0, count - first, item);
         self.slots.pass_down(place, first, over)
     }
@@ -244,11 +241,8 @@ impl<T: Drop, S: RingSlots<T>> FixedRing<T, S> {
         requires { count ≤ length self.old.items }
         ensures { self.new ≡ after_turn_left count self.old }
     {
-        let span = Span {
-            start: self.start,
-            len: self.len,
-        };
-        self.start = Self::firsts_to_back(&mut self.slots, span, count);
+        let span = self.span;
+        self.span.start = Self::firsts_to_back(&mut self.slots, span, count);
     }
 
     // Moves the last items before the others, as many as `count` says.
@@ -256,11 +250,8 @@ impl<T: Drop, S: RingSlots<T>> FixedRing<T, S> {
         requires { count ≤ length self.old.items }
         ensures { self.new ≡ after_turn_right count self.old }
     {
-        let span = Span {
-            start: self.start,
-            len: self.len,
-        };
-        self.start = Self::lasts_to_front(&mut self.slots, span, count);
+        let span = self.span;
+        self.span.start = Self::lasts_to_front(&mut self.slots, span, count);
     }
 
     // Moves the first items behind the others, one by one, as many as `count` says. Returns the next start.

@@ -85,12 +85,9 @@ impl<T: Copy + Drop> FixedRing<T, HeapSlots<T>> {
     {
         // For the proof: the number of slots fits a word.
         let _ = self.slots.size();
-        let span = Span {
-            start: self.start,
-            len: self.len,
-        };
+        let span = self.span;
         Self::put_round(&mut self.slots, span, items);
-        self.len = span.len + items.len();
+        self.span.len = span.len + items.len();
     }
 
     // Puts copies of items behind the last, in two stretches of slots: up to the last slot, and on from the first.

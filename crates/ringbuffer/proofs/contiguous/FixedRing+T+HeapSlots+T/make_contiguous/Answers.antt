@@ -6,7 +6,7 @@ use Rattle.ringbuffer.proofs.contiguous.FixedRing+T+HeapSlots+T.make_contiguous.
 -- Items that are written side by side leave a sound ring of as many.
 pub invariant_of-self-lent : goal.invariant_of-self-lent
 invariant_of-self-lent g c =
-    let s = c.self.inside.slots in let at = c.self.inside.start in let len = c.self.inside.len in let items = items_from s.slots at in let size = length s.slots in
+    let s = c.self.inside.slots in let at = c.self.inside.span.start in let len = c.self.inside.span.len in let items = items_from s.slots at in let size = length s.slots in
     let after = c.straighten-start.ensures in let start = c.straighten-start.result in let sound = c.self.invariant in let enough = sound.laid_out.fit in
     let fit : start + length items ≤ size = rw (after.start, sym sound.counted) ((straight_fits at len size sound.laid_out.start_within (omega (arith, sound.counted))).1) in
     let count : c.after-changes.result.count ≡ s.changes + 4 * len = omega (arith, c.after-changes.ensures, c.after-3.ensures, c.after-2.ensures, c.after.ensures, c.changes.ensures) in
@@ -19,7 +19,7 @@ invariant_of-self-lent g c =
 -- The ring ends as the one with those items.
 pub returns : goal.returns
 returns g c =
-    let s = c.self.inside.slots in let at = c.self.inside.start in let len = c.self.inside.len in let items = items_from s.slots at in let size = length s.slots in
+    let s = c.self.inside.slots in let at = c.self.inside.span.start in let len = c.self.inside.span.len in let items = items_from s.slots at in let size = length s.slots in
     let after = c.straighten-start.ensures in let start = c.straighten-start.result in let sound = c.self.invariant in let enough = sound.laid_out.fit in
     let fit : start + length items ≤ size = rw (after.start, sym sound.counted) ((straight_fits at len size sound.laid_out.start_within (omega (arith, sound.counted))).1) in
     let count : c.after-changes.result.count ≡ s.changes + 4 * len = omega (arith, c.after-changes.ensures, c.after-3.ensures, c.after-2.ensures, c.after.ensures, c.changes.ensures) in

@@ -12,7 +12,7 @@ returns-else-contains-clause-cases g c =
     let none = sym c.contains.ensures.value ∙ c.if-contains.false in
     let both = list_any-append is first second ∙ ap (λ b. b || list_any is second) none in
     let value : c.contains-else-contains.result ≡ list_any is c.args.self.now.items =
-        c.contains-else-contains.ensures.value ∙ sym both ∙ ap (list_any is) c.in-Some.ensures.items in
+    c.contains-else-contains.ensures.value ∙ sym both ∙ ap (list_any is) c.in-Some.ensures.items in
     IsAnyAnswer-list_any is c.args.self.now.items c.contains-else-contains.result value
 
 pub returns-in-None-clause-cases : goal.returns-in-None-clause-cases
