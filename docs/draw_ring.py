@@ -11,8 +11,9 @@ import sys
 ROOT = pathlib.Path(__file__).resolve().parent.parent
 NAMES = {
     "crates/ring_slots/src/place.rt": ["masked", "mask"],
-    "crates/ring_fixed/src/fixed.rt": ["put_over", "start", "len"],
-    "crates/ringbuffer/src/heap.rt": ["as_slices", "capacity", "get_signed"],
+    "crates/ringbuffer/src/steps.rt": ["put_over", "start", "len"],
+    "crates/ringbuffer/src/contiguous.rt": ["as_slices"],
+    "crates/ringbuffer/src/fixed.rt": ["capacity", "get_signed"],
 }
 
 SIZE, CAPACITY, PUSHES = 8, 5, 10

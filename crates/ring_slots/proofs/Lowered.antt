@@ -1,13 +1,13 @@
--- What slots hold once the items of the last of them have moved down.
+-- What slots hold once the items of the last of them have moved down, or to the first of them.
 use Rattle.ring_slots.proofs.Words.{◌≡◌, ap, ◌∙◌, false, List, ℕ, ◌+◌, ◌<◌, ◌≤◌, arith, length, get_or, replicate, take, cut, Option, None, HoldsStretch}
 use Rattle.std.proofs.Common.{ext_get_or}
 use Rattle.std.proofs.lemmas.Grind.{common_steps}
 use Rattle.std.proofs.lemmas.Option.{slice_get-get_or, slice_get_cases}
-use Rattle.std.specs.Mem.Slots.{IsMoved, SameItemsOutside, SamePlaces, slots_filled, slots_items, slots_len}
+use Rattle.std.specs.Mem.Slots.{IsMoved, SameFilledBeside, SameItemsOutside, SamePlaces, slots_filled, slots_items, slots_len}
 use Rattle.std.specs.Mem.Slots.Ownership.{Filled, SameOutside}
 use Rattle.std.specs.Prelude.{◌-◌, min, max}
 use Rattle.core.specs.declared.slots.Slots.{Slots as Row}
-use Rattle.ring_slots.specs.Slots.{lowered}
+use Rattle.ring_slots.specs.Slots.{brought_first, lowered}
 use Rattle.ring_slots.specs.block.Row.{HoldsRow}
 use Rattle.ring_slots.proofs.Filled.{get_or-map_some}
 use Rattle.ring_slots.proofs.SlotsInMemory.{stretch_long}
@@ -51,3 +51,42 @@ module _ {X : Type 0} (old new : List (Option X)) (before after : Row X) (size f
         ext_get_or None new (lowered old from to) (omega (arith, length-lowered)) (λ i low.
         let k : ℕ = i - to in let held = λ (early : i < to + count). has.held i early in let was = had.held i (omega arith) in let was' = had.held (from + k) in
         grind (arith, held, has.behind i, was, was', outside i, items d i, moved k d, full (from + k), filled' i, read_early i, read_moved i, read_behind i, slice_get-get_or))
+
+-- slots that hold a row in which the last items were moved to the first slots, and those of the first `len` slots up behind them, have them there
+module _ {X : Type 0} (old new : List (Option X)) (before between after : Row X) (size from len : ℕ) (d : X) (all : size ≡ length old) (some : from < size) (room : size - from + len ≤ from)
+    (had : HoldsRow old before size) (has : HoldsRow new after (size - from + len)) (counts : slots_len before ≡ length (slots_items before))
+    (counts' : slots_len between ≡ length (slots_items between)) (counts'' : slots_len after ≡ length (slots_items after)) where
+  abbrev last : ℕ
+  last = size - from
+
+  length-brought : length (brought_first old from len) ≡ size
+  length-brought = grind (arith, common_steps)
+
+  read_last : (i : ℕ) → i < last → get_or (brought_first old from len) i None ≡ get_or old (from + i) None
+  read_last i low = grind (arith, common_steps)
+
+  read_first : (i : ℕ) → last ≤ i → i < last + len → get_or (brought_first old from len) i None ≡ get_or old (i - last) None
+  read_first i late low = grind (arith, common_steps)
+
+  read_empty : (i : ℕ) → last + len ≤ i → get_or (brought_first old from len) i None ≡ None
+  read_empty i late = grind (arith, common_steps)
+
+  module _ (full : Filled (slots_filled before) from (from + last)) (full' : Filled (slots_filled before) 0 (0 + len)) (moved : IsMoved before between 0 last len)
+      (items : SameItemsOutside before between last (last + len)) (filled : Filled (slots_filled between) last (last + len)) (places : SamePlaces before between)
+      (moved' : IsMoved between after from 0 last) (items' : SameItemsOutside between after 0 (0 + last)) (filled' : Filled (slots_filled after) 0 (0 + last))
+      (beside : SameFilledBeside between after from 0 last) (places' : SamePlaces between after) where
+    in_last : (i : ℕ) → i < last → get_or new i None ≡ get_or old (from + i) None
+    in_last i low =
+        let held = has.held i (omega arith) in let was = had.held (from + i) (omega arith) in let long = had.size in let count = places.count in let count' = places'.count in
+        grind (arith, held, was, full (from + i), filled' i, moved' i d, items d (from + i), slice_get-get_or)
+
+    in_first : (i : ℕ) → last ≤ i → i < last + len → get_or new i None ≡ get_or old (i - last) None
+    in_first i late low =
+        let held = has.held i low in let was = had.held (i - last) (omega arith) in let long = had.size in let count = places.count in let count' = places'.count in
+        let k : ℕ = i - last in let here : last + k ≡ i = omega arith in
+        grind (arith, held, was, full' k, filled i, beside i, moved k d, items' d i, slice_get-get_or)
+
+    pub brought : new ≡ brought_first old from len
+    brought =
+        let long = has.size in let long' = had.size in let count = places.count in let count' = places'.count in
+        ext_get_or None new (brought_first old from len) (omega (arith, length-brought)) (λ i low. grind (arith, has.behind i, in_last i, in_first i, read_last i, read_first i, read_empty i))

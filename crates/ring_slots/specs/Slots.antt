@@ -41,6 +41,10 @@ module _ {X : Type 0} where
   abbrev pub lowered : List (Option X) → ℕ → ℕ → List (Option X)
   lowered slots from to = take to slots ++ (drop from slots ++ replicate (from - to) None)
 
+  -- the slots, with those from a place on brought to the first, the first `len` behind them, and empty ones behind all
+  abbrev pub brought_first : List (Option X) → ℕ → ℕ → List (Option X)
+  brought_first slots from len = drop from slots ++ (take len slots ++ replicate (from - len) None)
+
   -- the slots, with these items in the `len` of them from a place on
   abbrev pub refilled : List (Option X) → ℕ → ℕ → List X → List (Option X)
   refilled slots from len xs = take from slots ++ (refill len (take len (drop from slots)) (map Some xs) ++ drop (from + len) slots)
@@ -68,3 +72,7 @@ module _ {X : Type 0} where
   -- the slots once the items from a place on have moved down to another, each by two changes
   abbrev pub with_lowered : Slots X → ℕ → ℕ → Slots X
   with_lowered s from to = record s { slots = lowered s.slots from to; changes = s.changes + 2 * (length s.slots - from) }
+
+  -- the slots once the items from a place on have gone to the first slots, and the first `len` behind them, each by two changes
+  abbrev pub with_brought_first : Slots X → ℕ → ℕ → Slots X
+  with_brought_first s from len = record s { slots = brought_first s.slots from len; changes = s.changes + 2 * (length s.slots - from + len) }

@@ -1,5 +1,5 @@
 //! A block of memory that slots lie in.
-ghost use Rattle.std.specs.Prelude.{◌≡◌, ◌-◌, ◌<◌, ◌≤◌, ℕ, [], List, Option, length, replicate, slice_index_or, None, Some, IsSome, IfOk};
+ghost use Rattle.std.specs.Prelude.{◌≡◌, ◌+◌, ◌-◌, ◌<◌, ◌≤◌, ℕ, [], List, Option, length, replicate, slice_index_or, None, Some, IsSome, IfOk};
 ghost use Rattle.std.specs.Borrow.{sem};
 ghost use Rattle.std.specs.Mem.{type_size};
 ghost use Rattle.std.specs.Mem.Slots.{slots_ptr};
@@ -56,7 +56,7 @@ unsafe impl<T> Sync for Deed<T> {}
 
 impl<T> Owner<T> {
     ghost use Rattle.ring_slots.specs.block.Block.{IsDeedOf, IsNewBlock};
-    ghost use Rattle.ring_slots.specs.block.Lends.{owner_lends_stretch, owner_lends, owner_with, owner_with_items, owner_with_lowered};
+    ghost use Rattle.ring_slots.specs.block.Lends.{owner_lends_stretch, owner_lends, owner_with, owner_with_items, owner_with_lowered, owner_with_brought_first};
     ghost use Rattle.ring_slots.specs.block.Row.{HoldsRow};
 
     /// Allocates a block of `size` empty slots.
@@ -204,6 +204,27 @@ impl<T> Owner<T> {
         let mut row = self.detach(ptr, size);
         row.move_within(from, to, count);
         self.attach(row, to + count);
+    }
+
+    /// Moves the items of all slots from the place `from` on to the first slots, and those of the first `len` slots up
+    /// behind them. The slots between must be empty, and at least as many as the items that go first. `size` is the
+    /// number of slots.
+    #[inline]
+    pub(crate) fn bring_first(&mut self, ptr: *mut T, size: usize, from: usize, len: usize)
+        requires at { ptr ≡ self.old.at }
+        requires size { size ≡ length self.old.slots }
+        requires some { from < size }
+        requires room { size - from + len ≤ from }
+        requires last { IsFullStretch self.old.slots from (size - from) }
+        requires first { IsFullStretch self.old.slots 0 len }
+        requires empty { IsEmptyStretch self.old.slots len (from - len) }
+        ensures { self.new ≡ owner_with_brought_first self.old from len }
+    {
+        let count = size - from;
+        let mut row = self.detach(ptr, size);
+        row.move_within(0, count, len);
+        row.move_over(from, 0, count);
+        self.attach(row, count + len);
     }
 
     // Takes the slots out as a row of core's, which `attach` puts back. An empty slot has a value in the logic, so `T`

@@ -5,7 +5,7 @@ ghost use Rattle.std.specs.Int.{IsNextPowerOfTwo};
 ghost use Rattle.std.specs.Mem.{type_size};
 ghost use Rattle.std.specs.Vec.Ownership.{FitsInBlock};
 ghost use Rattle.ring_slots.specs.block.Block.{IsNewBlock};
-ghost use Rattle.ring_slots.specs.Slots.{HoldsStretch, IsEmptyStretch, IsFullStretch, changed, with_items, with_lowered};
+ghost use Rattle.ring_slots.specs.Slots.{HoldsStretch, IsEmptyStretch, IsFullStretch, changed, with_brought_first, with_items, with_lowered};
 
 use crate::block::{Deed, Owner};
 use crate::change_count::ChangeCount;
@@ -26,7 +26,8 @@ const GREATEST_POWER_OF_TWO: usize = 1 << (usize::BITS - 1);
 /// They aren't dropped: slots end by `free`, which asks that all of them are empty, and in no other way.
 ///
 /// A contract sees what each slot holds, and how many changes the slots have had. That count takes no bytes, begins at
-/// 0, and rises by the calls of `RingSlots` and by `slice_mut`, `put_copies` and `move_down` alone.
+/// 0, and rises by the calls of `RingSlots` and by `slice_mut`, `put_copies`, `move_down` and `bring_first`
+/// alone.
 pub struct HeapSlots<T> {
     ptr: *mut T,
     // The number of slots less one, which is the mask of their places.
@@ -138,6 +139,24 @@ impl<T> HeapSlots<T> {
         let size = HeapSlots::size(self);
         self.changes = self.changes.after(size - from).after(size - from);
         self.owner.move_down(self.ptr, size, from, to);
+    }
+
+    /// Moves the items of all slots from the place `from` on to the first slots, and those of the first `len` slots up
+    /// behind them, each by two changes. The slots between must be empty, and at least as many as the items that go
+    /// first. Takes O(n) in the items.
+    #[inline]
+    pub fn bring_first(&mut self, from: usize, len: usize)
+        requires some { from < length self.old.slots }
+        requires room { length self.old.slots - from + len ≤ from }
+        requires last { IsFullStretch self.old.slots from (length self.old.slots - from) }
+        requires first { IsFullStretch self.old.slots 0 len }
+        requires empty { IsEmptyStretch self.old.slots len (from - len) }
+        ensures { self.new ≡ with_brought_first self.old from len }
+    {
+        let size = HeapSlots::size(self);
+        let count = size - from + len;
+        self.changes = self.changes.after(count).after(count);
+        self.owner.bring_first(self.ptr, size, from, len);
     }
 
     /// Returns the count of changes of the slots.

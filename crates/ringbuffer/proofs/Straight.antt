@@ -1,12 +1,12 @@
 -- Items that lie side by side in the slots of a ring.
-use Rattle.ringbuffer.proofs.Words.{◌≡◌, ℕ, ◌+◌, ◌-◌, ◌<◌, ◌≤◌, List, ◌++◌, length, map, take, drop, Option, None, Some, inl, inr, refl, sym, ap, ◌∙◌, arith, length-append, length-drop, append_assoc, map-append, min, take_all, turned, ◌%◌, IsFullStretch, IsLaidOut, replicate, nat_le, if◌then◌else◌, length_refill, refill, common_steps, drop-drop, drop-map, get_or_append_left, get_or-append_right, get_or-replicate, get_or_past, length-map, length-replicate, take-map, slice_get_cases, slice_get_past, Slots, HoldsStretch, refilled, after_rewrite, SlotsHold, items_from, LaysOut, view_from, IsSound, beside, straight_start, straightened}
+use Rattle.ringbuffer.proofs.Words.{◌≡◌, ℕ, ◌+◌, ◌-◌, ◌<◌, ◌≤◌, List, ◌++◌, length, map, take, drop, Option, None, Some, inl, inr, refl, sym, ap, ◌∙◌, arith, length-append, length-drop, append_assoc, map-append, min, take_all, take-append-drop, turned, ◌%◌, IsFullStretch, IsLaidOut, replicate, nat_le, if◌then◌else◌, length_refill, refill, common_steps, drop-drop, drop-map, get_or_append_left, get_or-append_right, get_or-replicate, get_or_past, length-map, length-replicate, take-map, slice_get_cases, slice_get_past, Slots, HoldsStretch, refilled, after_rewrite, SlotsHold, items_from, LaysOut, view_from, IsSound, beside, straight_start, straightened}
 use Rattle.ringbuffer.proofs.Sound.{IsSound-after}
 use Rattle.ringbuffer.proofs.LaysOut.{LaysOut-items}
-use Rattle.ring_slots.specs.Slots.{IsEmptyStretch, lowered}
+use Rattle.ring_slots.specs.Slots.{IsEmptyStretch, brought_first, lowered}
 use Rattle.ring_slots.proofs.Filled.{get_or-map_some}
 use Rattle.ringbuffer.proofs.Copies.{empty_behind}
 use Rattle.ringbuffer.proofs.Turns.{length-turned}
-use Rattle.ringbuffer.proofs.Stretches.{first_held, first_stretch, second_held}
+use Rattle.ringbuffer.proofs.Stretches.{first_held, first_stretch, second_held, second_stretch}
 use Rattle.ringbuffer.proofs.SlotsHold.{SlotsHold-same, wrap}
 
 module _ {X : Type 0} (size start : ℕ) (xs : List X) (fit : start + length xs ≤ size) where
@@ -74,6 +74,19 @@ module _ {X : Type 0} (s : Slots X) (start : ℕ) (laid_out : IsLaidOut s start)
       let long : length (turned first items) ≡ len = length-turned first items (omega arith) ∙ sym counted in
       let left : start - (len - first) ≡ size - (0 + length (turned first items)) = omega arith in
       rw (low, high, left) (sym (append_assoc (map Some (drop first items)) (map Some (take first items)) _) ∙ ap (λ l. l ++ replicate (size - (0 + length (turned first items))) None) (sym (map-append Some (drop first items) (take first items))))
+
+  -- the others are full slots, too
+  pub first_full : IsFullStretch s.slots 0 (len - first)
+  first_full = second_stretch s start laid_out len first counted least
+
+  -- where there is room for all between, they lie side by side once those in the last slots are brought to the first
+  pub brought_straight : len ≤ start → brought_first s.slots start (len - first) ≡ beside (length s.slots) 0 items
+  brought_straight room =
+      let fit = laid_out.fit in let size = length s.slots in
+      let low : take (len - first) s.slots ≡ map Some (drop first items) = second_held s start laid_out len first counted least in
+      let high : drop start s.slots ≡ map Some (take first items) = sym (take_all first (drop start s.slots) (omega (arith, length-drop start s.slots))) ∙ first_held s start laid_out len first counted least in
+      let left : start - (len - first) ≡ size - (0 + length items) = omega arith in
+      rw (low, high, left) (sym (append_assoc (map Some (take first items)) (map Some (drop first items)) _) ∙ ap (λ l. l ++ replicate (size - (0 + length items)) None) (sym (map-append Some (take first items) (drop first items)) ∙ ap (λ l. map Some l) (take-append-drop first items)))
 
 -- the items begin with one of the slots, and end with the last at most
 pub straight_fits : (start len size : ℕ) → start < size → len ≤ size → let at = if nat_le (start + len) size then start else 0 in (at < size) × (at + len ≤ size)

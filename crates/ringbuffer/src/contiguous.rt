@@ -47,7 +47,8 @@ impl<T: Drop> FixedRing<T, HeapSlots<T>> {
         self.slots.slice_mut(start, span.len, changes)
     }
 
-    // Moves the items side by side, where they go on at the first slot. Returns their next start.
+    // Moves the items side by side, where they go on at the first slot. Returns their next start. Where the free slots are
+    // at least as many as the items in the last slots, each item moves once.
     fn straighten(slots: &mut HeapSlots<T>, span: Span) -> usize
         requires laid_out { IsLaidOut slots.old span.start }
         requires len { span.len ≡ length (view_from slots.old span.start).items }
@@ -57,6 +58,11 @@ impl<T: Drop> FixedRing<T, HeapSlots<T>> {
         ensures counted { slots.new.changes ≤ slots.old.changes + 3 * span.len }
         ensures capacity { slots.new.capacity ≡ slots.old.capacity }
     {
+        let first = slots.size() - span.start;
+        if first < span.len && span.len <= span.start {
+            slots.bring_first(span.start, span.len - first);
+            return 0;
+        }
         let (moved, start) = Self::gather(slots, span);
         let changes = slots.changes().after(span.len);
         slots

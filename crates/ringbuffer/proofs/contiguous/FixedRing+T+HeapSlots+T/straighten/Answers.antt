@@ -1,8 +1,29 @@
-use Rattle.ringbuffer.proofs.Words.{◌≡◌, ◌+◌, ◌≤◌, ◌∙◌, ap, arith, beside, drop, items_from, length, sym, take_at, turned}
+use Rattle.ringbuffer.proofs.Words.{Slots, ◌≡◌, ◌+◌, ◌-◌, ◌≤◌, ◌∙◌, ap, arith, beside, drop, items_from, length, sym, take_at, turned}
 use Rattle.ringbuffer.proofs.Turns.{length-turned, turned_back}
 use Rattle.ringbuffer.proofs.Stretches.{stretch_is}
-use Rattle.ringbuffer.proofs.Straight.{beside-refilled, beside-stretch, straight_fits}
+use Rattle.ringbuffer.proofs.Straight.{beside-refilled, beside-stretch, between_empty, brought_straight, first_full, last_full, straight_fits}
 use Rattle.ringbuffer.proofs.contiguous.FixedRing+T+HeapSlots+T.straighten.Goals as goal
+
+pub bring_first-requires-clause-last : goal.bring_first-requires-clause-last
+bring_first-requires-clause-last g c =
+    let s = c.args.slots.now in let start = c.args.span.start in let len = c.args.span.len in let within = c.requires.laid_out.start_within in
+    last_full s start c.requires.laid_out len (c.size.result - start) c.requires.len (omega (arith, c.size.ensures.value)) c.if-first-span.true
+
+pub bring_first-requires-clause-first : goal.bring_first-requires-clause-first
+bring_first-requires-clause-first g c =
+    let s = c.args.slots.now in let start = c.args.span.start in let len = c.args.span.len in let within = c.requires.laid_out.start_within in
+    first_full s start c.requires.laid_out len (c.size.result - start) c.requires.len (omega (arith, c.size.ensures.value)) c.if-first-span.true
+
+pub bring_first-requires-clause-empty : goal.bring_first-requires-clause-empty
+bring_first-requires-clause-empty g c =
+    let s = c.args.slots.now in let start = c.args.span.start in let len = c.args.span.len in let within = c.requires.laid_out.start_within in
+    between_empty s start c.requires.laid_out len (c.size.result - start) c.requires.len (omega (arith, c.size.ensures.value)) c.if-first-span.true
+
+-- Each item moved once.
+pub returns-then-span-clause-straight : goal.returns-then-span-clause-straight
+returns-then-span-clause-straight g c =
+    let s = c.args.slots.now in let start = c.args.span.start in let len = c.args.span.len in let within = c.requires.laid_out.start_within in
+    ap (λ (s : Slots _). s.slots) c.bring_first.ensures ∙ brought_straight s start c.requires.laid_out len (c.size.result - start) c.requires.len (omega (arith, c.size.ensures.value)) c.if-first-span.true c.if-span.true
 
 -- The items that were turned are turned back.
 pub returns-clause-straight : goal.returns-clause-straight
