@@ -1,11 +1,12 @@
 //! Callers of the ring types in the lines that a user writes first, proved from the public contracts alone.
 
-ghost use Rattle.std.specs.Prelude.{◌≡◌, ◌+◌, ◌<◌, ◌≤◌, ◌^◌, [], ◌∷◌, ◌++◌, IfErr, IfOk, IsOk, IsSome, IsTrue, OnErr, OnOk, Some, drop, length, map, slice_get, string_bytes, sum, take};
+ghost use Rattle.std.specs.Prelude.{◌≡◌, ◌+◌, ◌<◌, ◌≤◌, ◌^◌, [], ◌∷◌, ◌++◌, IfErr, IfOk, IsOk, IsSome, IsTrue, OnErr, OnOk, Some, drop, length, map, slice_get, string_bytes, sum, swap, take};
 ghost use Rattle.std.specs.Io.BufRead.{drop_through, take_through};
 ghost use Rattle.ringbuffer.specs.Contents.{AppendsCut, keep_last};
 
 use ringbuffer::{
-    AllocRingBuffer, ConstGenericRingBuffer, GrowableAllocRingBuffer, RingBuffer, RingBufferExt,
+    AllocRingBuffer, ConstGenericRingBuffer, DoubleEndedRing, GrowableAllocRingBuffer, RingBuffer,
+    RingBufferExt,
 };
 use std::alloc::{AllocError, Global};
 use std::io::{self, BufRead};
@@ -211,6 +212,38 @@ pub fn cancel(queue: &mut ConstGenericRingBuffer<u32, 4>, index: usize) -> Optio
 /// Puts a job before all others, if the queue has room.
 pub fn put_urgent(queue: &mut AllocRingBuffer<u32>, job: u32) -> Result<(), u32>
     ensures taken { OnOk result (queue.new.items ≡ job ∷ queue.old.items) }
+    ensures refused { IfErr result (λ back. (back ≡ job) × (queue.new ≡ queue.old)) }
+{
+    queue.insert(0, job)
+}
+
+/// Drops three jobs behind the first two.
+pub fn cancel_three(ring: &mut AllocRingBuffer<u32>)
+    requires { 5 ≤ length ring.old.items }
+    ensures { ring.new.items ≡ take 2 ring.old.items ++ drop 5 ring.old.items }
+{
+    ring.remove_range(2..5);
+}
+
+/// Drops the newest jobs of a queue of any type, from an index on.
+pub fn cancel_from<R: DoubleEndedRing<u32>>(queue: &mut R, index: usize)
+    ensures others { R.contents queue.new ≡ take index (R.contents queue.old) }
+    ensures limit { R.limit queue.new ≡ R.limit queue.old }
+{
+    queue.truncate(index);
+}
+
+/// Exchanges the two oldest jobs of a queue without a limit.
+pub fn put_off(queue: &mut GrowableAllocRingBuffer<u32>)
+    requires { 2 ≤ length queue.old }
+    ensures { queue.new ≡ swap queue.old 0 1 }
+{
+    queue.swap(0, 1);
+}
+
+/// Puts a job before all others of a queue without a limit, unless memory is refused.
+pub fn put_before(queue: &mut GrowableAllocRingBuffer<u32>, job: u32) -> Result<(), u32>
+    ensures taken { OnOk result (queue.new ≡ job ∷ queue.old) }
     ensures refused { IfErr result (λ back. (back ≡ job) × (queue.new ≡ queue.old)) }
 {
     queue.insert(0, job)
