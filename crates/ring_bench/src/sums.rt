@@ -3,7 +3,7 @@
 ghost use Rattle.std.specs.Prelude.{◌≡◌, ◌<◌, [], ◌∷◌, ◌++◌, IfOk, IsSome};
 ghost use Rattle.ring_bench.specs.Series.{sums_of_last};
 ghost use Rattle.ringbuffer.specs.Contents.{keep_last};
-ghost use Rattle.window.specs.Window.{total};
+ghost use Rattle.window.specs.Sums.{total};
 
 use ringbuffer::{AllocRingBuffer, RingBuffer};
 use std::alloc::{AllocError, Global};

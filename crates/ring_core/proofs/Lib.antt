@@ -1,5 +1,6 @@
 pub mod Answered
 pub mod BothMeanings
+pub mod Callers
 pub mod CommandLoop
 pub mod Drained
 pub mod Filling

@@ -2,7 +2,7 @@
 
 ghost use Rattle.std.specs.Prelude.{◌≡◌, ◌<◌, ◌↔◌, [], ◌∷◌, ◌++◌, IfSome, IsNone, Some, int_div, length, pos};
 ghost use Rattle.ringbuffer.specs.Contents.{keep_last};
-ghost use Rattle.window.specs.Window.{total};
+ghost use Rattle.window.specs.Sums.{total};
 
 use ringbuffer::ConstGenericRingBuffer;
 use std::marker::Model;

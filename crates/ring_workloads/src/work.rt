@@ -5,7 +5,7 @@
 
 use ringbuffer::{RingBuffer, RingBufferIterator};
 use std::alloc::Global;
-use window::{Kept, Matrix, Rung, WindowFold, WindowMin, WindowSum};
+use window::{Kept, Matrix, Candidate, WindowFold, WindowMin, WindowSum};
 
 /// The number of items of one extension.
 pub const EXTENSION: u64 = 4096;
@@ -335,7 +335,7 @@ impl Series {
 
 /// Pushes the first `items` numbers of a series onto a window, and adds up the least ones that it has after each.
 #[inline(never)]
-pub fn slide_least<R: RingBuffer<Rung<i64>> + Drop>(
+pub fn slide_least<R: RingBuffer<Candidate<i64>> + Drop>(
     window: &mut WindowMin<i64, R>,
     items: usize,
     series: Series,

@@ -20,6 +20,7 @@ pub mod Stretches
 pub mod Swapped
 pub mod Turns
 mod Words
+pub use Rattle.ring_core.proofs.Callers
 pub use Rattle.ring_core.proofs.Drained
 pub use Rattle.ring_core.proofs.Items
 pub use Rattle.ring_core.proofs.Limits

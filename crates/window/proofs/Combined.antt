@@ -7,7 +7,7 @@ use Rattle.std.specs.Option.{option_map}
 use Rattle.ringbuffer.specs.Contents.{keep_last, overwritten}
 use Rattle.ringbuffer.proofs.Limits.{map-keep_last}
 use Rattle.window.specs.Laws.{MonoidLaws, combined}
-use Rattle.window.specs.Folds.{AreFolded, HoldsFolds, LetsGo, items, item_of}
+use Rattle.window.specs.Folds.{AreFolded, HoldsFolds, Removes, items, item_of}
 use Rattle.window.specs.declared.fold_window.Kept.{Kept}
 
 module _ {M : Type 0} {valid : M → Type 0} {neutral : M} {op : M → M → M} (laws : MonoidLaws valid neutral op) where
@@ -67,7 +67,7 @@ module _ {M : Type 0} {valid : M → Type 0} {neutral : M} {op : M → M → M} 
 
   -- An item that leaves, if one does, was the oldest of the older ones.
   pub left_by : (old : Option (Kept M)) (ks : List (Kept M)) {n m : ℕ} {older newer older' : M}
-      → HoldsFolds valid neutral op (option_to_list old ++ ks) n older newer → LetsGo old n older m older' → HoldsFolds valid neutral op ks m older' newer
+      → HoldsFolds valid neutral op (option_to_list old ++ ks) n older newer → Removes old n older m older' → HoldsFolds valid neutral op ks m older' newer
   left_by None ks is goes = rw (goes.0, goes.1) is
   left_by (Some k) ks is goes = rw goes.1 (one_fewer is goes.0)
 

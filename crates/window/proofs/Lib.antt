@@ -1,5 +1,5 @@
 pub mod Combined
-pub mod Ladders
+pub mod MonotonicQueues
 pub mod Orders
 pub mod Pushed
 pub mod Squares

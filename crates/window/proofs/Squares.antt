@@ -7,7 +7,7 @@ use Rattle.std.proofs.lemmas.Int.{ints}
 use Rattle.std.proofs.lemmas.List.Elements.{All-head, All-push, All-tail}
 use Rattle.std.proofs.lemmas.List.Sums.{fold_push}
 use Rattle.window.proofs.Sums.{total-cons}
-use Rattle.window.specs.Window.{total}
+use Rattle.window.specs.Sums.{total}
 use Rattle.window.specs.Moments.{AreMomentsOf, square, sum_of_squares}
 
 abs-small : (x : ℤ) → FitsSigned w32 x → unsigned_abs x ≤ 2147483648

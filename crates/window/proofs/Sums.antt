@@ -5,7 +5,7 @@ use Rattle.std.specs.Int.{w64, w128}
 use Rattle.std.proofs.lemmas.Int.{ints}
 use Rattle.std.proofs.lemmas.List.Elements.{All-head, All-push, All-tail}
 use Rattle.std.proofs.lemmas.List.Sums.{fold_push}
-use Rattle.window.specs.Window.{IsSumOf, total}
+use Rattle.window.specs.Sums.{IsSumOf, total}
 
 -- By induction on the list: a sum that begins at a number is that much more.
 fold-from : (a : ℤ) (xs : List ℤ) → fold ◌+ℤ◌ a xs ≡ a +ℤ total xs

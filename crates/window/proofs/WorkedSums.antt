@@ -1,6 +1,6 @@
 -- The sums of a few lists, computed.
 use Rattle.std.proofs.Common.{◌≡◌, pos, negsuc, [], ◌∷◌, refl}
-use Rattle.window.specs.Window.{total}
+use Rattle.window.specs.Sums.{total}
 
 pub of_three : total (pos 5 ∷ pos 7 ∷ pos 9 ∷ []) ≡ pos 21
 of_three = refl

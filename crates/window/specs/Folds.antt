@@ -24,6 +24,6 @@ pub record HoldsFolds {M : Type 0} (valid : M → Type 0) (neutral : M) (op : M 
   pub newer_is : newer ≡ combined neutral op (items (drop folded ks))
 
 -- without the oldest item, if one leaves, one fewer is folded, and their fold is what stood beside it
-abbrev pub LetsGo : {M : Type 0} → Option (Kept M) → ℕ → M → ℕ → M → Type 0
-LetsGo None folded older folded' older' = (folded' ≡ folded) × (older' ≡ older)
-LetsGo (Some k) folded older folded' older' = (folded' + 1 ≡ folded) × (older' ≡ k.after)
+abbrev pub Removes : {M : Type 0} → Option (Kept M) → ℕ → M → ℕ → M → Type 0
+Removes None folded older folded' older' = (folded' ≡ folded) × (older' ≡ older)
+Removes (Some k) folded older folded' older' = (folded' + 1 ≡ folded) × (older' ≡ k.after)

@@ -1,7 +1,7 @@
 -- What whole numbers and their squares add up to.
 use Rattle.std.specs.Prelude.{◌≡◌, ℕ, ◌+◌, ◌*◌, ℤ, List, [], ◌∷◌, All, FitsSigned, unsigned_abs}
 use Rattle.std.specs.Int.{w32}
-use Rattle.window.specs.Window.{total}
+use Rattle.window.specs.Sums.{total}
 
 -- a number times itself
 abbrev pub square : ℤ → ℕ

@@ -2,12 +2,12 @@
 use Rattle.std.specs.Prelude.{ℕ, List, Option}
 
 -- the items that a window holds, oldest first, the most that it can hold, if there is such a number,
--- and how often its tally took an item in and let one go
+-- and how often an item was added to its tally and removed from it
 pub record TalliedItems (T : Type 0) : Type 0 where
   pub contents : List T
   pub limit : Option ℕ
-  pub taken_in : ℕ
-  pub let_go : ℕ
+  pub added : ℕ
+  pub removed : ℕ
 
 -- the items that a window holds, oldest first, the most that it can hold, if there is such a number, how often it combined two values,
 -- and for how many of its items it has yet to do so once more
@@ -18,7 +18,7 @@ pub record FoldedItems (T : Type 0) : Type 0 where
   pub unfolded : ℕ
 
 -- the items that a window holds, oldest first, the most that it can hold, if there is such a number,
--- how many items it has taken in, and how often it compared two
+-- how many items were pushed onto it, and how often it compared two
 pub record RankedItems (T : Type 0) : Type 0 where
   pub contents : List T
   pub limit : Option ℕ

@@ -1,5 +1,5 @@
-//! Calls that are counted: nothing else in the crate takes an item into a tally, lets one go, combines two values or compares
-//! two items.
+//! Calls that are counted: nothing else in the crate adds an item to a tally, removes one, combines two values while a window
+//! changes, or compares two items.
 
 ghost use Rattle.std.specs.Prelude.{◌≡◌, ◌+◌, ◌<◌, ◌^◌, [], ◌∷◌, ◌++◌, List, length, option_to_list};
 ghost use Rattle.std.specs.Ordering.{is_gt};
@@ -9,12 +9,12 @@ use crate::monoid::Monoid;
 use crate::order::Order;
 use crate::tally::Tally;
 
-/// A tally, and how often it took an item in and let one go.
+/// A tally, and how often an item was added to it and removed.
 #[derive(Drop)]
 pub struct CountedTally<S> {
     tally: S,
-    taken_in: GhostCount,
-    let_go: GhostCount,
+    added: GhostCount,
+    removed: GhostCount,
 }
 
 impl<S> CountedTally<S> {
@@ -23,47 +23,47 @@ impl<S> CountedTally<S> {
     where
         S: Tally<T>,
         ensures tells { S.tells result.tally [] }
-        ensures taken_in { result.taken_in ≡ 0 }
-        ensures let_go { result.let_go ≡ 0 }
+        ensures added { result.added ≡ 0 }
+        ensures removed { result.removed ≡ 0 }
     {
         CountedTally {
             tally: S::none(),
-            taken_in: GhostCount::zero(),
-            let_go: GhostCount::zero(),
+            added: GhostCount::zero(),
+            removed: GhostCount::zero(),
         }
     }
 
-    /// Takes in `newest`, and counts it.
+    /// Adds `newest`, and counts it.
     #[inline]
-    pub(crate) fn take_in<T>(&mut self, newest: &T)
+    pub(crate) fn add<T>(&mut self, newest: &T)
     where
         S: Tally<T>,
         requires { (xs : List T) × S.tells self.old.tally xs × (length xs + 1 < 2 ^ 64) }
         ensures tells { (xs : List T) → S.tells self.old.tally xs
             → S.tells self.new.tally (xs ++ newest.now ∷ []) }
-        ensures taken_in { self.new.taken_in ≡ self.old.taken_in + 1 }
-        ensures let_go { self.new.let_go ≡ self.old.let_go }
+        ensures added { self.new.added ≡ self.old.added + 1 }
+        ensures removed { self.new.removed ≡ self.old.removed }
     {
-        self.taken_in.add_one();
-        self.tally.take_in(newest);
+        self.added.add_one();
+        self.tally.add(newest);
     }
 
-    /// Lets go of `oldest`, and counts it.
+    /// Removes `oldest`, and counts it.
     #[inline]
-    pub(crate) fn let_go<T>(&mut self, oldest: &T)
+    pub(crate) fn remove<T>(&mut self, oldest: &T)
     where
         S: Tally<T>,
         requires { (xs : List T) × S.tells self.old.tally (oldest.now ∷ xs) × (length xs + 1 < 2 ^ 64) }
         ensures tells { (xs : List T) → S.tells self.old.tally (oldest.now ∷ xs)
             → S.tells self.new.tally xs }
-        ensures taken_in { self.new.taken_in ≡ self.old.taken_in }
-        ensures let_go { self.new.let_go ≡ self.old.let_go + 1 }
+        ensures added { self.new.added ≡ self.old.added }
+        ensures removed { self.new.removed ≡ self.old.removed + 1 }
     {
-        self.let_go.add_one();
-        self.tally.let_go(oldest);
+        self.removed.add_one();
+        self.tally.remove(oldest);
     }
 
-    /// Lets `oldest`, if there is one, go, takes in `newest`, and counts both.
+    /// Removes `oldest`, if there is one, adds `newest`, and counts both.
     #[inline]
     pub(crate) fn slide<T>(&mut self, oldest: &Option<T>, newest: &T)
     where
@@ -72,13 +72,13 @@ impl<S> CountedTally<S> {
             × (length xs + 1 < 2 ^ 64) }
         ensures tells { (xs : List T) → S.tells self.old.tally (option_to_list oldest.now ++ xs)
             → S.tells self.new.tally (xs ++ newest.now ∷ []) }
-        ensures taken_in { self.new.taken_in ≡ self.old.taken_in + 1 }
-        ensures let_go { self.new.let_go ≡ self.old.let_go + length (option_to_list oldest.now) }
+        ensures added { self.new.added ≡ self.old.added + 1 }
+        ensures removed { self.new.removed ≡ self.old.removed + length (option_to_list oldest.now) }
     {
-        self.taken_in.add_one();
+        self.added.add_one();
         self.tally.slide(oldest, newest);
         if oldest.is_some() {
-            self.let_go.add_one();
+            self.removed.add_one();
         }
     }
 
@@ -87,8 +87,8 @@ impl<S> CountedTally<S> {
     where
         S: Tally<T>,
         ensures tells { S.tells self.new.tally [] }
-        ensures taken_in { self.new.taken_in ≡ self.old.taken_in }
-        ensures let_go { self.new.let_go ≡ self.old.let_go }
+        ensures added { self.new.added ≡ self.old.added }
+        ensures removed { self.new.removed ≡ self.old.removed }
     {
         self.tally = S::none();
     }

@@ -1,10 +1,10 @@
 //! A window over a ring, with what its items combine to.
 
-ghost use Rattle.std.specs.Prelude.{◌≡◌, ◌+◌, ◌-◌, ◌<◌, ◌≤◌, [], ◌∷◌, ◌++◌, All, IfErr, IfOk, IfSome, IsOk, IsSome, OnOk, drop, length, slice_get};
+ghost use Rattle.std.specs.Prelude.{◌≡◌, ◌+◌, ◌-◌, ◌<◌, ◌≤◌, ◌↔◌, [], ◌∷◌, ◌++◌, All, IfErr, IfOk, IfSome, IsOk, IsSome, IsTrue, OnOk, drop, length, slice_get};
 ghost use Rattle.std.specs.Option.{option_map};
 ghost use Rattle.ringbuffer.specs.Contents.{IsWithin, keep_last, overwritten};
 ghost use Rattle.window.specs.Laws.{combined as combined_of};
-ghost use Rattle.window.specs.Folds.{AreFolded, HoldsFolds, LetsGo, items, item_of};
+ghost use Rattle.window.specs.Folds.{AreFolded, HoldsFolds, Removes, items, item_of};
 
 use crate::counted::combined;
 use crate::ghost_count::GhostCount;
@@ -42,7 +42,7 @@ impl<M: Monoid> Kept<M> {
 // How many of the oldest items are folded among themselves, what these and what the others combine to, and how often two
 // values were combined.
 #[derive(Drop)]
-struct Parts<M> {
+struct Folds<M> {
     folded: usize,
     older: M,
     newer: M,
@@ -53,13 +53,13 @@ struct Parts<M> {
 /// average.
 ///
 /// A contract sees a window as its items and the limit of its ring, the number of calls of `combine` and that of the items
-/// which have yet to be folded with those after them. The two numbers together rise by 2 at a push and at no other call. A
-/// push onto a full window, and a `dequeue`, folds all items where none is folded, so the worst call takes as many calls of
+/// which have yet to be folded with those after them. The two numbers together rise by 2 at a push, by 1 at a push that is
+/// refused, and at no other call. A push onto a full window, and a `dequeue`, folds all items where none is folded, so the worst call takes as many calls of
 /// `combine` as there are items.
 #[derive(Drop)]
 pub struct WindowFold<M: Monoid, R: RingBuffer<Kept<M>>> {
     ring: R,
-    parts: Parts<M>,
+    folds: Folds<M>,
 }
 
 impl<M: Monoid, R: RingBuffer<Kept<M>>> Model for WindowFold<M, R> {
@@ -69,9 +69,9 @@ impl<M: Monoid, R: RingBuffer<Kept<M>>> Model for WindowFold<M, R> {
 
     ghost Value = { FoldedItems M };
 
-    ghost view = { λ w. record { contents = items (R.contents w.ring); limit = R.limit w.ring; calls = w.parts.calls; unfolded = length (R.contents w.ring) - w.parts.folded } };
+    ghost view = { λ w. record { contents = items (R.contents w.ring); limit = R.limit w.ring; calls = w.folds.calls; unfolded = length (R.contents w.ring) - w.folds.folded } };
 
-    ghost invariant = { λ w. HoldsFolds M.valid M.neutral M.op (R.contents w.ring) w.parts.folded w.parts.older w.parts.newer };
+    ghost invariant = { λ w. HoldsFolds M.valid M.neutral M.op (R.contents w.ring) w.folds.folded w.folds.older w.folds.newer };
 }
 
 impl<M: Monoid, R: RingBuffer<Kept<M>>> WindowFold<M, R> {
@@ -83,20 +83,21 @@ impl<M: Monoid, R: RingBuffer<Kept<M>>> WindowFold<M, R> {
     {
         let mut calls = GhostCount::zero();
         let older = fold_all(&mut ring, &mut calls);
-        let parts = Parts {
+        let folds = Folds {
             folded: ring.len(),
             older,
             newer: M::neutral(),
             calls,
         };
-        WindowFold { ring, parts }
+        WindowFold { ring, folds }
     }
 
-    /// Takes in `item`. A window at its limit hands back its oldest item, which gave way for it.
+    /// Puts `item` last. A window at its limit hands back its oldest item, which gave way for it.
     ///
     /// # Errors
     ///
-    /// Hands `item` back where the ring was refused memory, which no ring with a limit meets. The items are as they were.
+    /// Hands `item` back where the ring was refused memory, which no ring with a limit meets. The items are as they were, and
+    /// so is what they combine to; `combine` was called once, and if no item was folded, it may have been for each item too.
     pub fn push(&mut self, item: M) -> Result<Option<M>, M>
         ensures overwrites { IfOk result
             (λ old. old ≡ overwritten self.old.limit self.old.contents) }
@@ -110,12 +111,12 @@ impl<M: Monoid, R: RingBuffer<Kept<M>>> WindowFold<M, R> {
         ensures calls_refused { IfErr result (λ _. self.new.calls + self.new.unfolded
             ≡ self.old.calls + self.old.unfolded + 1) }
     {
-        before_push(&mut self.ring, &mut self.parts);
-        let newer = combined(&mut self.parts.calls, &self.parts.newer, &item);
+        before_push(&mut self.ring, &mut self.folds);
+        let newer = combined(&mut self.folds.calls, &self.folds.newer, &item);
         match self.ring.push(Kept::new(item)) {
             Ok(overwritten) => {
-                self.parts.newer = newer;
-                Ok(let_go(&mut self.parts, overwritten))
+                self.folds.newer = newer;
+                Ok(remove_oldest(&mut self.folds, overwritten))
             }
             Err(kept) => Err(kept.item),
         }
@@ -128,9 +129,9 @@ impl<M: Monoid, R: RingBuffer<Kept<M>>> WindowFold<M, R> {
         ensures limit { self.new.limit ≡ self.old.limit }
         ensures calls { self.new.calls + self.new.unfolded ≡ self.old.calls + self.old.unfolded }
     {
-        before_dequeue(&mut self.ring, &mut self.parts);
+        before_dequeue(&mut self.ring, &mut self.folds);
         let oldest = self.ring.dequeue();
-        let_go(&mut self.parts, oldest)
+        remove_oldest(&mut self.folds, oldest)
     }
 
     /// Drops all items.
@@ -141,16 +142,16 @@ impl<M: Monoid, R: RingBuffer<Kept<M>>> WindowFold<M, R> {
         ensures unfolded { self.new.unfolded ≡ 0 }
     {
         self.ring.clear();
-        self.parts.folded = 0;
-        self.parts.older = M::neutral();
-        self.parts.newer = M::neutral();
+        self.folds.folded = 0;
+        self.folds.older = M::neutral();
+        self.folds.newer = M::neutral();
     }
 
     /// Returns what the items combine to.
     pub fn fold(&self) -> M
         ensures { result ≡ combined_of M.neutral M.op self.now.contents }
     {
-        self.parts.older.combine(&self.parts.newer)
+        self.folds.older.combine(&self.folds.newer)
     }
 
     /// Returns how many items the window holds.
@@ -159,6 +160,13 @@ impl<M: Monoid, R: RingBuffer<Kept<M>>> WindowFold<M, R> {
         ensures within { IsWithin self.now.contents self.now.limit }
     {
         self.ring.len()
+    }
+
+    /// Returns whether the window holds no item.
+    pub fn is_empty(&self) -> bool
+        ensures { IsTrue result ↔ (self.now.contents ≡ []) }
+    {
+        self.ring.is_empty()
     }
 
     /// Returns the ring, which holds the items.
@@ -200,69 +208,69 @@ fn fold_all<M: Monoid, R: RingBuffer<Kept<M>>>(ring: &mut R, calls: &mut GhostCo
     after
 }
 
-// Sees to it that the oldest item is folded if a push is to overwrite it.
-fn before_push<M: Monoid, R: RingBuffer<Kept<M>>>(ring: &mut R, parts: &mut Parts<M>)
-    requires { HoldsFolds M.valid M.neutral M.op (R.contents ring.old) parts.old.folded
-        parts.old.older parts.old.newer }
-    ensures holds { HoldsFolds M.valid M.neutral M.op (R.contents ring.new) parts.new.folded
-        parts.new.older parts.new.newer }
+// Folds all items if none is folded and a push is to overwrite the oldest.
+fn before_push<M: Monoid, R: RingBuffer<Kept<M>>>(ring: &mut R, folds: &mut Folds<M>)
+    requires { HoldsFolds M.valid M.neutral M.op (R.contents ring.old) folds.old.folded
+        folds.old.older folds.old.newer }
+    ensures holds { HoldsFolds M.valid M.neutral M.op (R.contents ring.new) folds.new.folded
+        folds.new.older folds.new.newer }
     ensures items { items (R.contents ring.new) ≡ items (R.contents ring.old) }
     ensures limit { R.limit ring.new ≡ R.limit ring.old }
     ensures within { IsWithin (R.contents ring.new) (R.limit ring.new) }
-    ensures calls { parts.new.calls + (length (R.contents ring.new) - parts.new.folded)
-        ≡ parts.old.calls + (length (R.contents ring.old) - parts.old.folded) }
+    ensures calls { folds.new.calls + (length (R.contents ring.new) - folds.new.folded)
+        ≡ folds.old.calls + (length (R.contents ring.old) - folds.old.folded) }
     ensures folded { IfSome (R.limit ring.new)
-        (λ n. length (R.contents ring.new) ≡ n → 0 < parts.new.folded) }
+        (λ n. length (R.contents ring.new) ≡ n → 0 < folds.new.folded) }
 {
-    if parts.folded == 0 && ring.is_full() {
-        fold_parts(ring, parts);
+    if folds.folded == 0 && ring.is_full() {
+        fold_both(ring, folds);
     }
     // For the proof: the contents are within the limit.
     let _ = ring.len();
 }
 
-// Sees to it that the oldest item is folded.
-fn before_dequeue<M: Monoid, R: RingBuffer<Kept<M>>>(ring: &mut R, parts: &mut Parts<M>)
-    requires { HoldsFolds M.valid M.neutral M.op (R.contents ring.old) parts.old.folded
-        parts.old.older parts.old.newer }
-    ensures holds { HoldsFolds M.valid M.neutral M.op (R.contents ring.new) parts.new.folded
-        parts.new.older parts.new.newer }
+// Folds all items if none is folded.
+fn before_dequeue<M: Monoid, R: RingBuffer<Kept<M>>>(ring: &mut R, folds: &mut Folds<M>)
+    requires { HoldsFolds M.valid M.neutral M.op (R.contents ring.old) folds.old.folded
+        folds.old.older folds.old.newer }
+    ensures holds { HoldsFolds M.valid M.neutral M.op (R.contents ring.new) folds.new.folded
+        folds.new.older folds.new.newer }
     ensures items { items (R.contents ring.new) ≡ items (R.contents ring.old) }
     ensures limit { R.limit ring.new ≡ R.limit ring.old }
-    ensures calls { parts.new.calls + (length (R.contents ring.new) - parts.new.folded)
-        ≡ parts.old.calls + (length (R.contents ring.old) - parts.old.folded) }
-    ensures folded { 0 < length (R.contents ring.new) → 0 < parts.new.folded }
+    ensures calls { folds.new.calls + (length (R.contents ring.new) - folds.new.folded)
+        ≡ folds.old.calls + (length (R.contents ring.old) - folds.old.folded) }
+    ensures folded { 0 < length (R.contents ring.new) → 0 < folds.new.folded }
 {
-    if parts.folded == 0 {
-        fold_parts(ring, parts);
+    if folds.folded == 0 {
+        fold_both(ring, folds);
     }
 }
 
 // Folds all items of `ring`.
-fn fold_parts<M: Monoid, R: RingBuffer<Kept<M>>>(ring: &mut R, parts: &mut Parts<M>)
-    ensures holds { HoldsFolds M.valid M.neutral M.op (R.contents ring.new) parts.new.folded
-        parts.new.older parts.new.newer }
+fn fold_both<M: Monoid, R: RingBuffer<Kept<M>>>(ring: &mut R, folds: &mut Folds<M>)
+    ensures holds { HoldsFolds M.valid M.neutral M.op (R.contents ring.new) folds.new.folded
+        folds.new.older folds.new.newer }
     ensures items { items (R.contents ring.new) ≡ items (R.contents ring.old) }
     ensures limit { R.limit ring.new ≡ R.limit ring.old }
-    ensures folded { parts.new.folded ≡ length (R.contents ring.new) }
-    ensures calls { parts.new.calls ≡ parts.old.calls + length (R.contents ring.old) }
+    ensures folded { folds.new.folded ≡ length (R.contents ring.new) }
+    ensures calls { folds.new.calls ≡ folds.old.calls + length (R.contents ring.old) }
 {
-    parts.older = fold_all(ring, &mut parts.calls);
-    parts.newer = M::neutral();
-    parts.folded = ring.len();
+    folds.older = fold_all(ring, &mut folds.calls);
+    folds.newer = M::neutral();
+    folds.folded = ring.len();
 }
 
-// Lets `oldest`, if an item left, go from the items that are folded. Returns it.
-fn let_go<M: Monoid>(parts: &mut Parts<M>, oldest: Option<Kept<M>>) -> Option<M>
-    requires { IsSome oldest → 0 < parts.old.folded }
+// Removes `oldest`, if an item left, from the items that are folded. Returns it.
+fn remove_oldest<M: Monoid>(folds: &mut Folds<M>, oldest: Option<Kept<M>>) -> Option<M>
+    requires { IsSome oldest → 0 < folds.old.folded }
     ensures value { result ≡ option_map item_of oldest }
-    ensures parts { LetsGo oldest parts.old.folded parts.old.older parts.new.folded
-        parts.new.older }
-    ensures newer { parts.new.newer ≡ parts.old.newer }
-    ensures calls { parts.new.calls ≡ parts.old.calls }
+    ensures folds { Removes oldest folds.old.folded folds.old.older folds.new.folded
+        folds.new.older }
+    ensures newer { folds.new.newer ≡ folds.old.newer }
+    ensures calls { folds.new.calls ≡ folds.old.calls }
 {
     let kept = oldest?;
-    parts.folded -= 1;
-    parts.older = kept.after;
+    folds.folded -= 1;
+    folds.older = kept.after;
     Some(kept.item)
 }

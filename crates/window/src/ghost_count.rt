@@ -20,7 +20,7 @@ pub struct GhostCount {
 
 impl Model for GhostCount {
     ghost use Rattle.std.specs.Prelude.{ℕ};
-    ghost use Rattle.window.specs.Counts.{number};
+    ghost use Rattle.window.specs.GhostCount.{number};
 
     ghost Value = { ℕ };
 

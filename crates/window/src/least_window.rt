@@ -1,11 +1,11 @@
 //! A window over a ring, with the least of its items in some order.
 
-ghost use Rattle.std.specs.Prelude.{◌≡◌, ℕ, ◌+◌, ◌*◌, ◌-◌, ◌<◌, ◌≤◌, ◌↔◌, [], ◌∷◌, ◌++◌, IfErr, IfOk, IfSome, IsNone, IsOk, IsSome, List, OnErr, OnOk, Some, drop, length, option_to_list, slice_get, slice_set};
+ghost use Rattle.std.specs.Prelude.{◌≡◌, ℕ, ◌+◌, ◌*◌, ◌-◌, ◌<◌, ◌≤◌, ◌↔◌, [], ◌∷◌, ◌++◌, IfErr, IfOk, IfSome, IsNone, IsOk, IsSome, IsTrue, List, OnErr, OnOk, Some, drop, length, option_to_list, slice_get, slice_set};
 ghost use Rattle.std.specs.Option.{option_copied, option_map};
 ghost use Rattle.std.specs.Ordering.{is_gt};
 ghost use Rattle.ringbuffer.specs.Contents.{IsWithin, keep_last, overwritten};
-ghost use Rattle.window.specs.declared.least_window.Rung.{Rung};
-ghost use Rattle.window.specs.Ladder.{HeldBehind, HoldsLadder, IsRanked, Stops, item_on, items_on};
+ghost use Rattle.window.specs.declared.least_window.Candidate.{Candidate};
+ghost use Rattle.window.specs.MonotonicQueue.{HeldBehind, HoldsMonotonicQueue, IsRanked, Stops, item_on, items_on};
 ghost use Rattle.window.specs.Least.{IsFirstGreatest, IsFirstLeast};
 
 use crate::counted::is_above;
@@ -16,18 +16,18 @@ use std::marker::{Model, PhantomData};
 
 /// An item in the ring of a window that knows its least, and what the window keeps with it.
 #[derive(Drop)]
-pub struct Rung<T> {
+pub struct Candidate<T> {
     item: T,
     behind: usize,
     ahead: usize,
 }
 
-impl<T> Rung<T> {
+impl<T> Candidate<T> {
     /// Returns `item` as one that no window has ranked.
     pub fn new(item: T) -> Self
         ensures { result.item ≡ item }
     {
-        Rung {
+        Candidate {
             item,
             behind: 1,
             ahead: 0,
@@ -42,9 +42,9 @@ impl<T> Rung<T> {
     }
 }
 
-// How many items a window has taken in, and how often it compared two by this order.
+// How many items were pushed onto a window, and how often it compared two by this order.
 #[derive(Drop)]
-struct Counts<O> {
+struct PushCounts<O> {
     pushed: GhostCount,
     compared: GhostCount,
     order: PhantomData<O>,
@@ -53,36 +53,36 @@ struct Counts<O> {
 /// A ring of items, of which the least in the order `O` is known: to read it takes no comparison, and a push takes two at
 /// most on average.
 ///
-/// The window names some of its items: the least, the least of those after it, and so on up to the newest. Each of these
-/// says how far the next one is ahead and the one before it is behind, in the ring's own slots. A push takes the newest of
-/// them that are above its item off this list, one comparison each, so the worst push makes as many comparisons as there are
-/// items.
+/// The window keeps a monotonic queue of candidates: the least item, the least of those after it, and so on up to the newest.
+/// Each says how far the next one is ahead and the one before it is behind, in the ring's own slots. A push takes the newest
+/// candidates that are above its item off the queue, one comparison each, so the worst push makes as many comparisons as
+/// there are items.
 ///
-/// A contract sees a window as its items and the limit of its ring, how many items it has taken in, and how often it
-/// compared two.
+/// A contract sees a window as its items and the limit of its ring, how many items were pushed onto it, and how often
+/// it compared two.
 #[derive(Drop)]
-pub struct WindowLeast<T: Drop, O: Order<T>, R: RingBuffer<Rung<T>>> {
+pub struct WindowLeast<T: Drop, O: Order<T>, R: RingBuffer<Candidate<T>>> {
     ring: R,
     // How many items go up to the least one and with it; 0 where there is none.
     first: usize,
-    counts: Counts<O>,
+    counts: PushCounts<O>,
     items: PhantomData<T>,
 }
 
-impl<T: Drop, O: Order<T>, R: RingBuffer<Rung<T>>> Model for WindowLeast<T, O, R> {
+impl<T: Drop, O: Order<T>, R: RingBuffer<Candidate<T>>> Model for WindowLeast<T, O, R> {
     ghost use Rattle.std.specs.Prelude.{◌*◌};
     ghost use Rattle.window.specs.Views.{RankedItems};
-    ghost use Rattle.window.specs.Ladder.{HoldsLadder, items_on};
+    ghost use Rattle.window.specs.MonotonicQueue.{HoldsMonotonicQueue, items_on};
 
     ghost Value = { RankedItems T };
 
     ghost view = { λ w. record { contents = items_on (R.contents w.ring); limit = R.limit w.ring; pushed = w.counts.pushed; compared = w.counts.compared } };
 
-    ghost invariant = { λ w. HoldsLadder O.cmp (R.contents w.ring) w.first w.counts.compared (2 * w.counts.pushed) };
+    ghost invariant = { λ w. HoldsMonotonicQueue O.cmp (R.contents w.ring) w.first w.counts.compared (2 * w.counts.pushed) };
 }
 
-impl<T: Drop, O: Order<T>, R: RingBuffer<Rung<T>>> WindowLeast<T, O, R> {
-    /// Returns a window over what `ring` holds, which counts as taken in.
+impl<T: Drop, O: Order<T>, R: RingBuffer<Candidate<T>>> WindowLeast<T, O, R> {
+    /// Returns a window over what `ring` holds, whose items count as pushed.
     pub fn new(mut ring: R) -> Self
         ensures contents { result.contents ≡ items_on (R.contents ring) }
         ensures limit { result.limit ≡ R.limit ring }
@@ -98,7 +98,7 @@ impl<T: Drop, O: Order<T>, R: RingBuffer<Rung<T>>> WindowLeast<T, O, R> {
         }
     }
 
-    /// Takes in `item`. A window at its limit hands back its oldest item, which gave way for it.
+    /// Puts `item` last. A window at its limit hands back its oldest item, which gave way for it.
     ///
     /// # Errors
     ///
@@ -117,13 +117,13 @@ impl<T: Drop, O: Order<T>, R: RingBuffer<Rung<T>>> WindowLeast<T, O, R> {
     {
         // For the proof: the contents are within the limit.
         let _ = self.ring.len();
-        match self.ring.push(Rung::new(item)) {
+        match self.ring.push(Candidate::new(item)) {
             Ok(overwritten) => {
                 let oldest = forget(&mut self.first, overwritten, &self.counts);
                 rank_newest(&mut self.ring, &mut self.first, &mut self.counts);
                 Ok(oldest)
             }
-            Err(rung) => Err(rung.item),
+            Err(candidate) => Err(candidate.item),
         }
     }
 
@@ -158,8 +158,8 @@ impl<T: Drop, O: Order<T>, R: RingBuffer<Rung<T>>> WindowLeast<T, O, R> {
         if self.first == 0 {
             return None;
         }
-        let rung = self.ring.get(self.first - 1)?;
-        Some(&rung.item)
+        let candidate = self.ring.get(self.first - 1)?;
+        Some(&candidate.item)
     }
 
     /// Returns how many items the window holds.
@@ -168,6 +168,13 @@ impl<T: Drop, O: Order<T>, R: RingBuffer<Rung<T>>> WindowLeast<T, O, R> {
         ensures within { IsWithin self.now.contents self.now.limit }
     {
         self.ring.len()
+    }
+
+    /// Returns whether the window holds no item.
+    pub fn is_empty(&self) -> bool
+        ensures { IsTrue result ↔ (self.now.contents ≡ []) }
+    {
+        self.ring.is_empty()
     }
 
     /// Returns the ring, which holds the items.
@@ -190,7 +197,7 @@ impl<T: Drop, O: Order<T>, R: RingBuffer<Rung<T>>> WindowLeast<T, O, R> {
 /// A window over a ring, with its least item.
 pub type WindowMin<T, R> = WindowLeast<T, Ascending, R>;
 
-impl<T: Ord + Drop, R: RingBuffer<Rung<T>>> WindowLeast<T, Ascending, R> {
+impl<T: Ord + Drop, R: RingBuffer<Candidate<T>>> WindowLeast<T, Ascending, R> {
     /// Returns the least item, the oldest of those that are equal as `Iterator::min` does, or `None` if there is none.
     pub fn min(&self) -> Option<&T>
         ensures none { IsNone result ↔ (self.now.contents ≡ []) }
@@ -203,7 +210,7 @@ impl<T: Ord + Drop, R: RingBuffer<Rung<T>>> WindowLeast<T, Ascending, R> {
 /// A window over a ring, with its greatest item.
 pub type WindowMax<T, R> = WindowLeast<T, Descending, R>;
 
-impl<T: Ord + Drop, R: RingBuffer<Rung<T>>> WindowLeast<T, Descending, R> {
+impl<T: Ord + Drop, R: RingBuffer<Candidate<T>>> WindowLeast<T, Descending, R> {
     /// Returns the greatest item, or `None` if there is none. Of those that are equal it is the oldest, where
     /// `Iterator::max` returns the newest.
     pub fn max(&self) -> Option<&T>
@@ -214,15 +221,17 @@ impl<T: Ord + Drop, R: RingBuffer<Rung<T>>> WindowLeast<T, Descending, R> {
     }
 }
 
-// Ranks all items of `ring`, from the newest on. Returns the first place of the ladder, and the counts.
-fn rank_all<T: Drop, O: Order<T>, R: RingBuffer<Rung<T>>>(ring: &mut R) -> (usize, Counts<O>)
-    ensures holds { HoldsLadder O.cmp (R.contents ring.new) result.0 result.1.compared
+// Ranks all items of `ring`, from the newest on. Returns the first place of the queue, and the counts.
+fn rank_all<T: Drop, O: Order<T>, R: RingBuffer<Candidate<T>>>(
+    ring: &mut R,
+) -> (usize, PushCounts<O>)
+    ensures holds { HoldsMonotonicQueue O.cmp (R.contents ring.new) result.0 result.1.compared
         (2 * result.1.pushed) }
     ensures pushed { result.1.pushed ≡ length (R.contents ring.old) }
     ensures items { items_on (R.contents ring.new) ≡ items_on (R.contents ring.old) }
     ensures limit { R.limit ring.new ≡ R.limit ring.old }
 {
-    let mut counts = Counts {
+    let mut counts = PushCounts {
         pushed: GhostCount::zero(),
         compared: GhostCount::zero(),
         order: PhantomData,
@@ -238,11 +247,11 @@ fn rank_all<T: Drop, O: Order<T>, R: RingBuffer<Rung<T>>>(ring: &mut R) -> (usiz
 
 // Ranks the item at the place `at`, which comes before those that are ranked. The first of these is `first` places ahead, and
 // there is none at 0. Returns the first place with it, counted from 1.
-fn rank_before<T: Drop, O: Order<T>, R: RingBuffer<Rung<T>>>(
+fn rank_before<T: Drop, O: Order<T>, R: RingBuffer<Candidate<T>>>(
     ring: &mut R,
     at: usize,
     first: usize,
-    counts: &mut Counts<O>,
+    counts: &mut PushCounts<O>,
 ) -> usize
     requires at { at < length (R.contents ring.old) }
     requires ranked { IsRanked O.cmp (drop (at + 1) (R.contents ring.old)) first
@@ -268,24 +277,24 @@ fn rank_before<T: Drop, O: Order<T>, R: RingBuffer<Rung<T>>>(
     1
 }
 
-// Lets `oldest`, if an item left, go from the ladder. Returns its item.
+// Removes `oldest`, if an item left, from the queue. Returns its item.
 fn forget<T: Drop, O: Order<T>>(
     first: &mut usize,
-    oldest: Option<Rung<T>>,
-    counts: &Counts<O>,
+    oldest: Option<Candidate<T>>,
+    counts: &PushCounts<O>,
 ) -> Option<T>
-    requires { (rs : List (Rung T)) × (compared most : ℕ) × HeldBehind O.cmp oldest rs first.old compared most }
+    requires { (rs : List (Candidate T)) × (compared most : ℕ) × HeldBehind O.cmp oldest rs first.old compared most }
     ensures value { result ≡ option_map item_on oldest }
-    ensures holds { (rs : List (Rung T)) (compared most : ℕ)
+    ensures holds { (rs : List (Candidate T)) (compared most : ℕ)
         → HeldBehind O.cmp oldest rs first.old compared most
-        → HoldsLadder O.cmp rs first.new compared most }
+        → HoldsMonotonicQueue O.cmp rs first.new compared most }
 {
-    let rung = oldest?;
-    *first = first_after(*first, rung.ahead);
-    Some(rung.item)
+    let candidate = oldest?;
+    *first = first_after(*first, candidate.ahead);
+    Some(candidate.item)
 }
 
-// Returns the first place without the oldest item, from which the next one named is `ahead`.
+// Returns the first place without the oldest item, from which the next candidate is `ahead`.
 #[inline]
 fn first_after(first: usize, ahead: usize) -> usize
     ensures one { first ≡ 1 → result ≡ ahead }
@@ -295,14 +304,14 @@ fn first_after(first: usize, ahead: usize) -> usize
 }
 
 // Ranks the newest item of `ring`.
-fn rank_newest<T: Drop, O: Order<T>, R: RingBuffer<Rung<T>>>(
+fn rank_newest<T: Drop, O: Order<T>, R: RingBuffer<Candidate<T>>>(
     ring: &mut R,
     first: &mut usize,
-    counts: &mut Counts<O>,
+    counts: &mut PushCounts<O>,
 )
-    requires { (rs : List (Rung T)) × (r : Rung T) × (R.contents ring.old ≡ rs ++ r ∷ [])
-        × HoldsLadder O.cmp rs first.old counts.old.compared (2 * counts.old.pushed) }
-    ensures holds { HoldsLadder O.cmp (R.contents ring.new) first.new counts.new.compared
+    requires { (rs : List (Candidate T)) × (r : Candidate T) × (R.contents ring.old ≡ rs ++ r ∷ [])
+        × HoldsMonotonicQueue O.cmp rs first.old counts.old.compared (2 * counts.old.pushed) }
+    ensures holds { HoldsMonotonicQueue O.cmp (R.contents ring.new) first.new counts.new.compared
         (2 * counts.new.pushed) }
     ensures pushed { counts.new.pushed ≡ counts.old.pushed + 1 }
     ensures rises { counts.old.compared ≤ counts.new.compared }
@@ -310,7 +319,7 @@ fn rank_newest<T: Drop, O: Order<T>, R: RingBuffer<Rung<T>>>(
     ensures limit { R.limit ring.new ≡ R.limit ring.old }
 {
     let len = ring.len();
-    let left = climb(ring, *first, counts);
+    let left = find_kept(ring, *first, counts);
     counts.pushed.add_one();
     set_links(ring, len - 1, len - left, 0);
     if left == 0 {
@@ -320,14 +329,14 @@ fn rank_newest<T: Drop, O: Order<T>, R: RingBuffer<Rung<T>>>(
     }
 }
 
-// Returns how many items go up to the last one named that isn't above the newest, and with it; 0 where there is none.
-fn climb<T: Drop, O: Order<T>, R: RingBuffer<Rung<T>>>(
+// Returns how many items go up to the last candidate that isn't above the newest, and with it; 0 where there is none.
+fn find_kept<T: Drop, O: Order<T>, R: RingBuffer<Candidate<T>>>(
     ring: &R,
     first: usize,
-    counts: &mut Counts<O>,
+    counts: &mut PushCounts<O>,
 ) -> usize
-    requires { (rs : List (Rung T)) × (r : Rung T) × (R.contents ring.now ≡ rs ++ r ∷ [])
-        × HoldsLadder O.cmp rs first counts.old.compared (2 * counts.old.pushed) }
+    requires { (rs : List (Candidate T)) × (r : Candidate T) × (R.contents ring.now ≡ rs ++ r ∷ [])
+        × HoldsMonotonicQueue O.cmp rs first counts.old.compared (2 * counts.old.pushed) }
     ensures stops { Stops O.cmp (R.contents ring.now) first result counts.new.compared
         (2 * counts.new.pushed + 1) }
     ensures pushed { counts.new.pushed ≡ counts.old.pushed }
@@ -337,67 +346,72 @@ fn climb<T: Drop, O: Order<T>, R: RingBuffer<Rung<T>>>(
     let newest = ring.get(len - 1).unwrap();
     let mut left = len - 1;
     while left > 0 {
-        let rung = ring.get(left - 1).unwrap();
-        if !is_above::<T, O>(&mut counts.compared, &rung.item, &newest.item) {
+        let candidate = ring.get(left - 1).unwrap();
+        if !is_above::<T, O>(&mut counts.compared, &candidate.item, &newest.item) {
             return left;
         }
         if left == first {
             return 0;
         }
-        left -= rung.behind;
+        left -= candidate.behind;
     }
     left
 }
 
-// Writes how far the item at the place `at` is behind the one named before it, and the next one ahead.
+// Writes how far the item at the place `at` is behind the candidate before it, and the next one ahead.
 #[inline]
-fn set_links<T: Drop, R: RingBuffer<Rung<T>>>(ring: &mut R, at: usize, behind: usize, ahead: usize)
+fn set_links<T: Drop, R: RingBuffer<Candidate<T>>>(
+    ring: &mut R,
+    at: usize,
+    behind: usize,
+    ahead: usize,
+)
     requires { at < length (R.contents ring.old) }
-    ensures contents { (x : Rung T) → slice_get (R.contents ring.old) at ≡ Some x
+    ensures contents { (x : Candidate T) → slice_get (R.contents ring.old) at ≡ Some x
         → R.contents ring.new ≡ slice_set (R.contents ring.old) at (record x { behind = behind; ahead = ahead }) }
     ensures limit { R.limit ring.new ≡ R.limit ring.old }
 {
-    if let Some(rung) = ring.get_mut(at) {
-        rung.behind = behind;
-        rung.ahead = ahead;
+    if let Some(candidate) = ring.get_mut(at) {
+        candidate.behind = behind;
+        candidate.ahead = ahead;
     }
 }
 
-// Writes how far the item at the place `at` is behind the one named before it.
-fn set_behind<T: Drop, R: RingBuffer<Rung<T>>>(ring: &mut R, at: usize, behind: usize)
+// Writes how far the item at the place `at` is behind the candidate before it.
+fn set_behind<T: Drop, R: RingBuffer<Candidate<T>>>(ring: &mut R, at: usize, behind: usize)
     requires { at < length (R.contents ring.old) }
-    ensures contents { (x : Rung T) → slice_get (R.contents ring.old) at ≡ Some x
+    ensures contents { (x : Candidate T) → slice_get (R.contents ring.old) at ≡ Some x
         → R.contents ring.new ≡ slice_set (R.contents ring.old) at (record x { behind = behind }) }
     ensures limit { R.limit ring.new ≡ R.limit ring.old }
 {
-    if let Some(rung) = ring.get_mut(at) {
-        rung.behind = behind;
+    if let Some(candidate) = ring.get_mut(at) {
+        candidate.behind = behind;
     }
 }
 
-// Writes how far ahead of the item at the place `at` the next one named is.
+// Writes how far ahead of the item at the place `at` the next candidate is.
 #[inline]
-fn set_ahead<T: Drop, R: RingBuffer<Rung<T>>>(ring: &mut R, at: usize, ahead: usize)
+fn set_ahead<T: Drop, R: RingBuffer<Candidate<T>>>(ring: &mut R, at: usize, ahead: usize)
     requires { at < length (R.contents ring.old) }
-    ensures contents { (x : Rung T) → slice_get (R.contents ring.old) at ≡ Some x
+    ensures contents { (x : Candidate T) → slice_get (R.contents ring.old) at ≡ Some x
         → R.contents ring.new ≡ slice_set (R.contents ring.old) at (record x { ahead = ahead }) }
     ensures limit { R.limit ring.new ≡ R.limit ring.old }
 {
-    if let Some(rung) = ring.get_mut(at) {
-        rung.ahead = ahead;
+    if let Some(candidate) = ring.get_mut(at) {
+        candidate.ahead = ahead;
     }
 }
 
 // Returns whether the item at the place `at` is above that at the place `other`, and counts the comparison.
 #[inline]
-fn is_above_at<T: Drop, O: Order<T>, R: RingBuffer<Rung<T>>>(
+fn is_above_at<T: Drop, O: Order<T>, R: RingBuffer<Candidate<T>>>(
     ring: &R,
     at: usize,
     other: usize,
-    counts: &mut Counts<O>,
+    counts: &mut PushCounts<O>,
 ) -> bool
     requires { (at < length (R.contents ring.now)) × (other < length (R.contents ring.now)) }
-    ensures value { (x y : Rung T) → slice_get (R.contents ring.now) at ≡ Some x
+    ensures value { (x y : Candidate T) → slice_get (R.contents ring.now) at ≡ Some x
         → slice_get (R.contents ring.now) other ≡ Some y → result ≡ is_gt (O.cmp x.item y.item) }
     ensures compared { counts.new.compared ≡ counts.old.compared + 1 }
     ensures pushed { counts.new.pushed ≡ counts.old.pushed }

@@ -1,6 +1,7 @@
 //! Windows over the items of a ring buffer, with what the items add up to or combine to, or with the least of them.
 #![tactic(auto)]
 
+mod count_if;
 mod counted;
 mod extremes;
 mod fold_window;
@@ -9,7 +10,6 @@ mod gcd;
 mod ghost_count;
 mod least_window;
 mod makers;
-mod matching;
 mod matrix;
 mod moments;
 mod monoid;
@@ -20,16 +20,19 @@ mod summed;
 mod tally;
 mod tally_window;
 
+pub use count_if::{CountIf, Predicate};
 pub use extremes::{BoundingBox, Corners, Greatest, Least};
 pub use fold_window::{Kept, WindowFold};
 pub use fraction::Fraction;
 pub use gcd::Gcd;
-pub use least_window::{Rung, WindowLeast, WindowMax, WindowMin};
+pub use least_window::{Candidate, WindowLeast, WindowMax, WindowMin};
 pub use makers::{
-    AllocWindowFold, AllocWindowMax, AllocWindowMin, ConstGenericWindowFold, ConstGenericWindowMax,
-    ConstGenericWindowMin, GrowableAllocWindowFold, GrowableAllocWindowMax, GrowableAllocWindowMin,
+    AllocWindowFold, AllocWindowMax, AllocWindowMin, AllocWindowMoments, AllocWindowSum,
+    ConstGenericWindowFold, ConstGenericWindowMax, ConstGenericWindowMin,
+    ConstGenericWindowMoments, ConstGenericWindowSum, GrowableAllocWindowFold,
+    GrowableAllocWindowMax, GrowableAllocWindowMin, GrowableAllocWindowMoments,
+    GrowableAllocWindowSum,
 };
-pub use matching::{Matching, Test};
 pub use matrix::Matrix;
 pub use moments::{Moments, WindowMoments};
 pub use monoid::Monoid;

@@ -1,11 +1,15 @@
 //! Windows over each type of ring, made without a word of what a window keeps beside its items.
 
-ghost use Rattle.std.specs.Prelude.{◌≡◌, ◌<◌, ◌^◌, [], None, Some, IfOk, IsErr};
+ghost use Rattle.std.specs.Prelude.{◌≡◌, ◌+◌, ◌<◌, ◌^◌, [], None, Some, IfOk, IsErr};
 
 use crate::fold_window::{Kept, WindowFold};
-use crate::least_window::{Rung, WindowLeast, WindowMax, WindowMin};
+use crate::least_window::{Candidate, WindowLeast, WindowMax, WindowMin};
+use crate::moments::WindowMoments;
 use crate::monoid::Monoid;
 use crate::order::Order;
+use crate::sum::WindowSum;
+use crate::tally::Tally;
+use crate::tally_window::WindowTally;
 use ringbuffer::{AllocRingBuffer, ConstGenericRingBuffer, GrowableAllocRingBuffer};
 use std::alloc::{AllocError, Global};
 
@@ -22,28 +26,48 @@ pub type ConstGenericWindowFold<M, const CAP: usize> = WindowFold<
 pub type GrowableAllocWindowFold<M> = WindowFold<M, GrowableAllocRingBuffer<Kept<M>>>;
 
 /// A `WindowMin` over a heap ring.
-pub type AllocWindowMin<T> = WindowMin<T, AllocRingBuffer<Rung<T>>>;
+pub type AllocWindowMin<T> = WindowMin<T, AllocRingBuffer<Candidate<T>>>;
 
 /// A `WindowMin` over an array ring.
 pub type ConstGenericWindowMin<T, const CAP: usize> = WindowMin<
     T,
-    ConstGenericRingBuffer<Rung<T>, CAP>,
+    ConstGenericRingBuffer<Candidate<T>, CAP>,
 >;
 
 /// A `WindowMin` over a growable ring.
-pub type GrowableAllocWindowMin<T> = WindowMin<T, GrowableAllocRingBuffer<Rung<T>>>;
+pub type GrowableAllocWindowMin<T> = WindowMin<T, GrowableAllocRingBuffer<Candidate<T>>>;
 
 /// A `WindowMax` over a heap ring.
-pub type AllocWindowMax<T> = WindowMax<T, AllocRingBuffer<Rung<T>>>;
+pub type AllocWindowMax<T> = WindowMax<T, AllocRingBuffer<Candidate<T>>>;
 
 /// A `WindowMax` over an array ring.
 pub type ConstGenericWindowMax<T, const CAP: usize> = WindowMax<
     T,
-    ConstGenericRingBuffer<Rung<T>, CAP>,
+    ConstGenericRingBuffer<Candidate<T>, CAP>,
 >;
 
 /// A `WindowMax` over a growable ring.
-pub type GrowableAllocWindowMax<T> = WindowMax<T, GrowableAllocRingBuffer<Rung<T>>>;
+pub type GrowableAllocWindowMax<T> = WindowMax<T, GrowableAllocRingBuffer<Candidate<T>>>;
+
+/// A `WindowSum` over a heap ring.
+pub type AllocWindowSum = WindowSum<AllocRingBuffer<i64>>;
+
+/// A `WindowSum` over an array ring.
+pub type ConstGenericWindowSum<const CAP: usize> = WindowSum<ConstGenericRingBuffer<i64, CAP>>;
+
+/// A `WindowSum` over a growable ring.
+pub type GrowableAllocWindowSum = WindowSum<GrowableAllocRingBuffer<i64>>;
+
+/// A `WindowMoments` over a heap ring.
+pub type AllocWindowMoments = WindowMoments<AllocRingBuffer<i32>>;
+
+/// A `WindowMoments` over an array ring.
+pub type ConstGenericWindowMoments<const CAP: usize> = WindowMoments<
+    ConstGenericRingBuffer<i32, CAP>,
+>;
+
+/// A `WindowMoments` over a growable ring.
+pub type GrowableAllocWindowMoments = WindowMoments<GrowableAllocRingBuffer<i32>>;
 
 impl<M: Monoid> WindowFold<M, AllocRingBuffer<Kept<M>>> {
     /// Returns an empty window over a heap ring of this capacity.
@@ -55,6 +79,7 @@ impl<M: Monoid> WindowFold<M, AllocRingBuffer<Kept<M>>> {
         requires { 0 < capacity }
         ensures contents { IfOk result (λ w. w.contents ≡ []) }
         ensures limit { IfOk result (λ w. w.limit ≡ Some capacity) }
+        ensures calls { IfOk result (λ w. w.calls + w.unfolded ≡ 0) }
         ensures too_large { 2 ^ 63 < capacity → IsErr result }
     {
         let ring = AllocRingBuffer::new(alloc, capacity)?;
@@ -68,6 +93,7 @@ impl<M: Monoid, const CAP: usize> WindowFold<M, ConstGenericRingBuffer<Kept<M>, 
         requires { 0 < CAP }
         ensures contents { result.contents ≡ [] }
         ensures limit { result.limit ≡ Some CAP }
+        ensures calls { result.calls + result.unfolded ≡ 0 }
     {
         WindowFold::new(ConstGenericRingBuffer::new())
     }
@@ -78,12 +104,13 @@ impl<M: Monoid> WindowFold<M, GrowableAllocRingBuffer<Kept<M>>> {
     pub fn growable(alloc: Global) -> Self
         ensures contents { result.contents ≡ [] }
         ensures limit { result.limit ≡ None }
+        ensures calls { result.calls + result.unfolded ≡ 0 }
     {
         WindowFold::new(GrowableAllocRingBuffer::new(alloc))
     }
 }
 
-impl<T: Drop, O: Order<T>> WindowLeast<T, O, AllocRingBuffer<Rung<T>>> {
+impl<T: Drop, O: Order<T>> WindowLeast<T, O, AllocRingBuffer<Candidate<T>>> {
     /// Returns an empty window over a heap ring of this capacity.
     ///
     /// # Errors
@@ -93,6 +120,8 @@ impl<T: Drop, O: Order<T>> WindowLeast<T, O, AllocRingBuffer<Rung<T>>> {
         requires { 0 < capacity }
         ensures contents { IfOk result (λ w. w.contents ≡ []) }
         ensures limit { IfOk result (λ w. w.limit ≡ Some capacity) }
+        ensures pushed { IfOk result (λ w. w.pushed ≡ 0) }
+        ensures compared { IfOk result (λ w. w.compared ≡ 0) }
         ensures too_large { 2 ^ 63 < capacity → IsErr result }
     {
         let ring = AllocRingBuffer::new(alloc, capacity)?;
@@ -103,24 +132,72 @@ impl<T: Drop, O: Order<T>> WindowLeast<T, O, AllocRingBuffer<Rung<T>>> {
 impl<T: Drop, O: Order<T>, const CAP: usize> WindowLeast<
     T,
     O,
-    ConstGenericRingBuffer<Rung<T>, CAP>,
+    ConstGenericRingBuffer<Candidate<T>, CAP>,
 > {
     /// Returns an empty window over an array ring of this capacity.
     pub fn in_array() -> Self
         requires { 0 < CAP }
         ensures contents { result.contents ≡ [] }
         ensures limit { result.limit ≡ Some CAP }
+        ensures pushed { result.pushed ≡ 0 }
+        ensures compared { result.compared ≡ 0 }
     {
         WindowLeast::new(ConstGenericRingBuffer::new())
     }
 }
 
-impl<T: Drop, O: Order<T>> WindowLeast<T, O, GrowableAllocRingBuffer<Rung<T>>> {
+impl<T: Drop, O: Order<T>> WindowLeast<T, O, GrowableAllocRingBuffer<Candidate<T>>> {
     /// Returns an empty window over a growable ring.
     pub fn growable(alloc: Global) -> Self
         ensures contents { result.contents ≡ [] }
         ensures limit { result.limit ≡ None }
+        ensures pushed { result.pushed ≡ 0 }
+        ensures compared { result.compared ≡ 0 }
     {
         WindowLeast::new(GrowableAllocRingBuffer::new(alloc))
+    }
+}
+
+impl<T: Copy, S: Tally<T>> WindowTally<T, S, AllocRingBuffer<T>> {
+    /// Returns an empty window over a heap ring of this capacity.
+    ///
+    /// # Errors
+    ///
+    /// As `AllocRingBuffer::new`.
+    pub fn on_heap(alloc: Global, capacity: usize) -> Result<Self, AllocError>
+        requires { 0 < capacity }
+        ensures contents { IfOk result (λ w. w.contents ≡ []) }
+        ensures limit { IfOk result (λ w. w.limit ≡ Some capacity) }
+        ensures added { IfOk result (λ w. w.added ≡ 0) }
+        ensures removed { IfOk result (λ w. w.removed ≡ 0) }
+        ensures too_large { 2 ^ 63 < capacity → IsErr result }
+    {
+        let ring = AllocRingBuffer::new(alloc, capacity)?;
+        Ok(WindowTally::new(ring))
+    }
+}
+
+impl<T: Copy, S: Tally<T>, const CAP: usize> WindowTally<T, S, ConstGenericRingBuffer<T, CAP>> {
+    /// Returns an empty window over an array ring of this capacity.
+    pub fn in_array() -> Self
+        requires { 0 < CAP }
+        ensures contents { result.contents ≡ [] }
+        ensures limit { result.limit ≡ Some CAP }
+        ensures added { result.added ≡ 0 }
+        ensures removed { result.removed ≡ 0 }
+    {
+        WindowTally::new(ConstGenericRingBuffer::new())
+    }
+}
+
+impl<T: Copy, S: Tally<T>> WindowTally<T, S, GrowableAllocRingBuffer<T>> {
+    /// Returns an empty window over a growable ring.
+    pub fn growable(alloc: Global) -> Self
+        ensures contents { result.contents ≡ [] }
+        ensures limit { result.limit ≡ None }
+        ensures added { result.added ≡ 0 }
+        ensures removed { result.removed ≡ 0 }
+    {
+        WindowTally::new(GrowableAllocRingBuffer::new(alloc))
     }
 }

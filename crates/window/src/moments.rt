@@ -2,7 +2,7 @@
 
 ghost use Rattle.std.specs.Prelude.{◌≡◌, ◌*◌, ◌-ℤ◌, ◌<◌, ◌≤◌, ◌^◌, ◌↔◌, [], pos, IfSome, IsNone, IsTrue, length};
 ghost use Rattle.window.specs.Moments.{square, sum_of_squares};
-ghost use Rattle.window.specs.Window.{total};
+ghost use Rattle.window.specs.Sums.{total};
 
 use crate::fraction::Fraction;
 use crate::summed::Summed;
@@ -35,13 +35,13 @@ impl Tally<i32> for Moments {
         Moments { sum: 0, squares: 0 }
     }
 
-    fn take_in(&mut self, newest: &i32) {
+    fn add(&mut self, newest: &i32) {
         let x = *newest;
         self.sum += i128::from(x);
         self.squares += squared(x);
     }
 
-    fn let_go(&mut self, oldest: &i32) {
+    fn remove(&mut self, oldest: &i32) {
         let x = *oldest;
         self.sum -= i128::from(x);
         self.squares -= squared(x);
@@ -49,7 +49,7 @@ impl Tally<i32> for Moments {
 }
 
 impl Summed<i32> for Moments {
-    ghost use Rattle.window.specs.Window.{total};
+    ghost use Rattle.window.specs.Sums.{total};
 
     ghost sum_of = { total };
 

@@ -1,7 +1,7 @@
 //! Sums of whole numbers, exactly.
 
 ghost use Rattle.std.specs.Prelude.{◌≡◌, ◌+◌, ◌-ℤ◌, drop, length, option_to_list, slice_get};
-ghost use Rattle.window.specs.Window.{total};
+ghost use Rattle.window.specs.Sums.{total};
 
 use crate::summed::Summed;
 use crate::tally::Tally;
@@ -15,7 +15,7 @@ pub struct Sum {
 }
 
 impl Tally<i64> for Sum {
-    ghost use Rattle.window.specs.Window.{IsSumOf};
+    ghost use Rattle.window.specs.Sums.{IsSumOf};
 
     ghost tells = { λ s xs. IsSumOf xs s.sum };
 
@@ -23,11 +23,11 @@ impl Tally<i64> for Sum {
         Sum { sum: 0 }
     }
 
-    fn take_in(&mut self, newest: &i64) {
+    fn add(&mut self, newest: &i64) {
         self.sum += i128::from(*newest);
     }
 
-    fn let_go(&mut self, oldest: &i64) {
+    fn remove(&mut self, oldest: &i64) {
         self.sum -= i128::from(*oldest);
     }
 
@@ -37,7 +37,7 @@ impl Tally<i64> for Sum {
 }
 
 impl Summed<i64> for Sum {
-    ghost use Rattle.window.specs.Window.{total};
+    ghost use Rattle.window.specs.Sums.{total};
 
     ghost sum_of = { total };
 
@@ -64,8 +64,8 @@ impl<R: RingBuffer<i64>> WindowTally<i64, Sum, R> {
         ensures value { result ≡ slice_get self.old.contents 0 }
         ensures rest { self.new.contents ≡ drop 1 self.old.contents }
         ensures limit { self.new.limit ≡ self.old.limit }
-        ensures taken_in { self.new.taken_in ≡ self.old.taken_in }
-        ensures let_go { self.new.let_go ≡ self.old.let_go + length (option_to_list result) }
+        ensures added { self.new.added ≡ self.old.added }
+        ensures removed { self.new.removed ≡ self.old.removed + length (option_to_list result) }
     {
         self.dequeue()
     }

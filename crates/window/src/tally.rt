@@ -1,4 +1,4 @@
-//! What a window can tell of its items when it takes in one and lets go of one at a time.
+//! What a window can tell of its items when one is added and one removed at a time.
 
 ghost use Rattle.std.specs.Prelude.{◌+◌, ◌<◌, ◌^◌, [], ◌∷◌, ◌++◌, List, length, option_to_list};
 
@@ -12,17 +12,17 @@ pub trait Tally<T>: Drop + Sized {
     fn none() -> Self
         ensures { tells result [] };
 
-    /// Takes in `newest`, which comes last of fewer than 2^64 items.
-    fn take_in(&mut self, newest: &T)
+    /// Adds `newest`, which comes last of fewer than 2^64 items.
+    fn add(&mut self, newest: &T)
         requires { (xs : List T) × tells self.old xs × (length xs + 1 < 2 ^ 64) }
         ensures { (xs : List T) → tells self.old xs → tells self.new (xs ++ newest.now ∷ []) };
 
-    /// Lets go of `oldest`, the first of fewer than 2^64 items.
-    fn let_go(&mut self, oldest: &T)
+    /// Removes `oldest`, the first of fewer than 2^64 items.
+    fn remove(&mut self, oldest: &T)
         requires { (xs : List T) × tells self.old (oldest.now ∷ xs) × (length xs + 1 < 2 ^ 64) }
         ensures { (xs : List T) → tells self.old (oldest.now ∷ xs) → tells self.new xs };
 
-    /// Lets `oldest`, if there is one, go, which is the first of fewer than 2^64 items, and takes in `newest`, which then comes
+    /// Removes `oldest`, if there is one, which is the first of fewer than 2^64 items, and adds `newest`, which then comes
     /// last.
     #[inline]
     fn slide(&mut self, oldest: &Option<T>, newest: &T)
@@ -33,10 +33,10 @@ pub trait Tally<T>: Drop + Sized {
     {
         match oldest {
             Some(item) => {
-                self.let_go(item);
-                self.take_in(newest);
+                self.remove(item);
+                self.add(newest);
             }
-            None => self.take_in(newest),
+            None => self.add(newest),
         }
     }
 }

@@ -1,6 +1,6 @@
 //! A window over a ring, with a tally of its items.
 
-ghost use Rattle.std.specs.Prelude.{◌≡◌, ◌+◌, ◌<◌, ◌^◌, [], ◌∷◌, ◌++◌, IfErr, IfOk, IsOk, IsSome, List, OnErr, OnOk, drop, length, option_to_list, slice_get};
+ghost use Rattle.std.specs.Prelude.{◌≡◌, ◌+◌, ◌<◌, ◌^◌, ◌↔◌, [], ◌∷◌, ◌++◌, IfErr, IfOk, IsOk, IsSome, IsTrue, List, OnErr, OnOk, drop, length, option_to_list, slice_get};
 ghost use Rattle.ringbuffer.specs.Contents.{IsWithin, keep_last, overwritten};
 
 use crate::counted::CountedTally;
@@ -10,8 +10,8 @@ use std::marker::{Model, PhantomData};
 
 /// A ring of items, and their tally, which is kept: to read it takes no walk over the ring.
 ///
-/// A contract sees a window as the contents and the limit of its ring, and how often the tally took an item in and let one
-/// go.
+/// A contract sees a window as the contents and the limit of its ring, and how often an item was added to the tally and
+/// removed from it.
 #[derive(Drop)]
 pub struct WindowTally<T: Copy, S: Tally<T>, R: RingBuffer<T>> {
     ring: R,
@@ -24,7 +24,7 @@ impl<T: Copy, S: Tally<T>, R: RingBuffer<T>> Model for WindowTally<T, S, R> {
 
     ghost Value = { TalliedItems T };
 
-    ghost view = { λ w. record { contents = R.contents w.ring; limit = R.limit w.ring; taken_in = w.counted.taken_in; let_go = w.counted.let_go } };
+    ghost view = { λ w. record { contents = R.contents w.ring; limit = R.limit w.ring; added = w.counted.added; removed = w.counted.removed } };
 
     ghost invariant = { λ w. S.tells w.counted.tally (R.contents w.ring) };
 }
@@ -34,8 +34,8 @@ impl<T: Copy, S: Tally<T>, R: RingBuffer<T>> WindowTally<T, S, R> {
     pub fn new(ring: R) -> Self
         ensures contents { result.contents ≡ R.contents ring }
         ensures limit { result.limit ≡ R.limit ring }
-        ensures taken_in { result.taken_in ≡ length (R.contents ring) }
-        ensures let_go { result.let_go ≡ 0 }
+        ensures added { result.added ≡ length (R.contents ring) }
+        ensures removed { result.removed ≡ 0 }
     {
         let counted = tally_of(&ring);
         WindowTally {
@@ -45,7 +45,7 @@ impl<T: Copy, S: Tally<T>, R: RingBuffer<T>> WindowTally<T, S, R> {
         }
     }
 
-    /// Takes in `item`. A window at its limit hands back its oldest item, which gave way for it.
+    /// Adds `item` last. A window at its limit hands back its oldest item, which gave way for it.
     ///
     /// # Errors
     ///
@@ -59,9 +59,9 @@ impl<T: Copy, S: Tally<T>, R: RingBuffer<T>> WindowTally<T, S, R> {
         ensures err { IfErr result (λ back. (back ≡ item) × (self.new ≡ self.old)) }
         ensures limit { self.new.limit ≡ self.old.limit }
         ensures succeeds { IsSome self.old.limit → IsOk result }
-        ensures taken_in { OnOk result (self.new.taken_in ≡ self.old.taken_in + 1) }
-        ensures let_go { IfOk result
-            (λ old. self.new.let_go ≡ self.old.let_go + length (option_to_list old)) }
+        ensures added { OnOk result (self.new.added ≡ self.old.added + 1) }
+        ensures removed { IfOk result
+            (λ old. self.new.removed ≡ self.old.removed + length (option_to_list old)) }
     {
         // For the proof: the contents are within the limit.
         let _ = self.ring.len();
@@ -77,13 +77,13 @@ impl<T: Copy, S: Tally<T>, R: RingBuffer<T>> WindowTally<T, S, R> {
         ensures value { result ≡ slice_get self.old.contents 0 }
         ensures rest { self.new.contents ≡ drop 1 self.old.contents }
         ensures limit { self.new.limit ≡ self.old.limit }
-        ensures taken_in { self.new.taken_in ≡ self.old.taken_in }
-        ensures let_go { self.new.let_go ≡ self.old.let_go + length (option_to_list result) }
+        ensures added { self.new.added ≡ self.old.added }
+        ensures removed { self.new.removed ≡ self.old.removed + length (option_to_list result) }
     {
         // For the proof: the contents are within the limit.
         let _ = self.ring.len();
         let oldest = self.ring.dequeue();
-        let_go_of(&mut self.counted, &oldest);
+        remove_if_some(&mut self.counted, &oldest);
         oldest
     }
 
@@ -91,8 +91,8 @@ impl<T: Copy, S: Tally<T>, R: RingBuffer<T>> WindowTally<T, S, R> {
     pub fn clear(&mut self)
         ensures contents { self.new.contents ≡ [] }
         ensures limit { self.new.limit ≡ self.old.limit }
-        ensures taken_in { self.new.taken_in ≡ self.old.taken_in }
-        ensures let_go { self.new.let_go ≡ self.old.let_go }
+        ensures added { self.new.added ≡ self.old.added }
+        ensures removed { self.new.removed ≡ self.old.removed }
     {
         self.ring.clear();
         self.counted.clear();
@@ -111,6 +111,13 @@ impl<T: Copy, S: Tally<T>, R: RingBuffer<T>> WindowTally<T, S, R> {
         ensures within { IsWithin self.now.contents self.now.limit }
     {
         self.ring.len()
+    }
+
+    /// Returns whether the window holds no item.
+    pub fn is_empty(&self) -> bool
+        ensures { IsTrue result ↔ (self.now.contents ≡ []) }
+    {
+        self.ring.is_empty()
     }
 
     /// Returns the ring, which holds the items.
@@ -133,29 +140,29 @@ impl<T: Copy, S: Tally<T>, R: RingBuffer<T>> WindowTally<T, S, R> {
 // Returns the tally of what `ring` holds, by a walk.
 fn tally_of<T: Copy, S: Tally<T>, R: RingBuffer<T>>(ring: &R) -> CountedTally<S>
     ensures tells { S.tells result.tally (R.contents ring.now) }
-    ensures taken_in { result.taken_in ≡ length (R.contents ring.now) }
-    ensures let_go { result.let_go ≡ 0 }
+    ensures added { result.added ≡ length (R.contents ring.now) }
+    ensures removed { result.removed ≡ 0 }
 {
     // For the proof: the contents are within the limit.
     let _ = ring.len();
     let mut counted = CountedTally::none();
     for item in RingBufferIterator::new(ring) {
-        counted.take_in(item);
+        counted.add(item);
     }
     counted
 }
 
-// Lets `oldest`, if an item left, go from the tally.
-fn let_go_of<T: Copy, S: Tally<T>>(counted: &mut CountedTally<S>, oldest: &Option<T>)
+// Removes `oldest`, if an item left, from the tally.
+fn remove_if_some<T: Copy, S: Tally<T>>(counted: &mut CountedTally<S>, oldest: &Option<T>)
     requires { (xs : List T) × S.tells counted.old.tally (option_to_list oldest.now ++ xs)
         × (length (option_to_list oldest.now ++ xs) < 2 ^ 64) }
     ensures tells { (xs : List T) → S.tells counted.old.tally (option_to_list oldest.now ++ xs)
         → S.tells counted.new.tally xs }
-    ensures taken_in { counted.new.taken_in ≡ counted.old.taken_in }
-    ensures let_go { counted.new.let_go
-        ≡ counted.old.let_go + length (option_to_list oldest.now) }
+    ensures added { counted.new.added ≡ counted.old.added }
+    ensures removed { counted.new.removed
+        ≡ counted.old.removed + length (option_to_list oldest.now) }
 {
     if let Some(item) = oldest {
-        counted.let_go(item);
+        counted.remove(item);
     }
 }

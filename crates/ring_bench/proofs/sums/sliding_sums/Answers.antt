@@ -6,7 +6,7 @@ use Rattle.std.proofs.lemmas.Int.{ints, to_z-of_z}
 use Rattle.std.proofs.lemmas.List.FromFn.{map-range_with_len_more}
 use Rattle.ringbuffer.specs.Contents.{keep_last}
 use Rattle.ringbuffer.proofs.Limits.{keep_last-keep_last}
-use Rattle.window.specs.Window.{total}
+use Rattle.window.specs.Sums.{total}
 use Rattle.ring_bench.proofs.sums.sliding_sums.Goals as goal
 
 -- The window held the last n of the samples so far; one more leaves the last n of those and it.

@@ -1,7 +1,7 @@
 use Rattle.std.proofs.Common.{◌≡◌, ◌+◌, Some, map, take}
 use Rattle.std.specs.List.{range_with_len}
 use Rattle.ringbuffer.specs.Contents.{keep_last}
-use Rattle.window.specs.Window.{total}
+use Rattle.window.specs.Sums.{total}
 use Rattle.ring_bench.proofs.sums.sliding_sums.Given as goal
 
 -- the window holds the last samples so far, and there is a sum for each

@@ -1,5 +1,5 @@
 use Rattle.std.proofs.Common.{◌≡◌, ◌+◌, ◌*◌, ◌≤◌, length, drop}
-use Rattle.window.specs.Ladder.{IsRanked, items_on}
+use Rattle.window.specs.MonotonicQueue.{IsRanked, items_on}
 use Rattle.window.proofs.least_window.rank_all.Given as goal
 
 -- the items from the place on are ranked

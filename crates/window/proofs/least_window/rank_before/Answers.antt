@@ -1,6 +1,6 @@
 use Rattle.std.proofs.Common.{◌+◌, ◌<◌, ◌∙◌, length, refl, sym, arith}
 use Rattle.std.proofs.lemmas.Option.{slice_get_within}
-use Rattle.window.proofs.Ladders.{first_read, items_on-set, ranked_behind, ranked_first}
+use Rattle.window.proofs.MonotonicQueues.{first_read, items_on-set, ranked_behind, ranked_first}
 use Rattle.window.proofs.Pushed.{some_read}
 use Rattle.window.proofs.least_window.rank_before.Goals as goal
 

@@ -3,8 +3,8 @@ use Rattle.ringbuffer.specs.Walk.{iterator_to_come}
 use Rattle.window.proofs.tally_window.tally_of.Goals as goal
 
 -- The items so far and this one are the ring's first, whose number is a usize.
-pub take_in-requires : goal.take_in-requires
-take_in-requires g c =
+pub add-requires : goal.add-requires
+add-requires g c =
     let (before, parts, tells, taken, gone) = c.loop-item.invariant in
     let x = c.in-Some.item.now in
     let left = iterator_to_come g.R.RingBuffer.contents c.next.new.self in
@@ -17,4 +17,4 @@ loop-item-preserved g c =
     let (before, parts, tells, taken, gone) = c.loop-item.invariant in
     let x = c.in-Some.item.now in
     let all : before ++ x ∷ iterator_to_come g.R.RingBuffer.contents c.next.new.self ≡ g.R.RingBuffer.contents c.args.ring.now = rw c.in-Some.ensures.steps at parts in
-    (before ++ x ∷ [], rw append_assoc all, c.take_in.ensures.tells before tells, omega (arith, taken, c.take_in.ensures.taken_in, length-append before (x ∷ [])), omega (arith, gone, c.take_in.ensures.let_go))
+    (before ++ x ∷ [], rw append_assoc all, c.add.ensures.tells before tells, omega (arith, taken, c.add.ensures.added, length-append before (x ∷ [])), omega (arith, gone, c.add.ensures.removed))

@@ -6,4 +6,4 @@ use Rattle.window.proofs.tally_window.tally_of.Given as goal
 abbrev pub invariant-loop-item : goal.invariant-loop-item
 invariant-loop-item g l =
     (before : List g.row.T.Denot) × (before ++ iterator_to_come g.R.RingBuffer.contents l.item-iterator ≡ g.R.RingBuffer.contents l.ring)
-    × g.S.Tally.tells l.counted.tally before × (l.counted.taken_in ≡ length before) × (l.counted.let_go ≡ 0)
+    × g.S.Tally.tells l.counted.tally before × (l.counted.added ≡ length before) × (l.counted.removed ≡ 0)

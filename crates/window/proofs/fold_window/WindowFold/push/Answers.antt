@@ -11,12 +11,12 @@ invariant_of-self g c =
     let k = c.new.result in
     let more = one_more g.met.M.Monoid.laws k (rw c.new.ensures c.combined-newer.ensures.later) c.before_push.ensures.holds in
     let all : option_to_list c.in-Ok.overwritten ++ keep_last limit (ks ++ k ∷ []) ≡ ks ++ k ∷ [] = rw c.in-Ok.ensures.overwrites (overwritten-keep_last limit ks k c.before_push.ensures.within) in
-    rw (c.in-Ok.ensures.ok, c.let_go.ensures.newer, c.combined-newer.ensures.value, ← c.new.ensures)
-    (left_by c.in-Ok.overwritten (keep_last limit (ks ++ k ∷ [])) (rw all more) c.let_go.ensures.parts)
+    rw (c.in-Ok.ensures.ok, c.remove_oldest.ensures.newer, c.combined-newer.ensures.value, ← c.new.ensures)
+    (left_by c.in-Ok.overwritten (keep_last limit (ks ++ k ∷ [])) (rw all more) c.remove_oldest.ensures.folds)
 
 pub returns-in-Ok-clause-overwrites : goal.returns-in-Ok-clause-overwrites
 returns-in-Ok-clause-overwrites g c =
-    rw (← c.self.view_is, ← c.before_push.ensures.items, ← c.before_push.ensures.limit, c.let_go.ensures.value, c.in-Ok.ensures.overwrites)
+    rw (← c.self.view_is, ← c.before_push.ensures.items, ← c.before_push.ensures.limit, c.remove_oldest.ensures.value, c.in-Ok.ensures.overwrites)
     (items-overwritten (g.R.RingBuffer.limit c.before_push.new.ring) (g.R.RingBuffer.contents c.before_push.new.ring))
 
 pub returns-in-Ok-clause-ok : goal.returns-in-Ok-clause-ok

@@ -1,5 +1,5 @@
 use Rattle.std.proofs.Common.{◌*◌, ◌∙◌, refl}
-use Rattle.window.proofs.Ladders.{items_on-keep_last, items_on-overwritten}
+use Rattle.window.proofs.MonotonicQueues.{items_on-keep_last, items_on-overwritten}
 use Rattle.window.proofs.Pushed.{stay, stay_behind, stay_pushed}
 use Rattle.window.proofs.least_window.WindowLeast.push.Goals as goal
 

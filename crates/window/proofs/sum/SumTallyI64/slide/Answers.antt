@@ -2,7 +2,7 @@ use Rattle.std.proofs.Common.{◌≤◌, ◌^◌, ◌++◌, ◌∷◌, [], refl,
 use Rattle.std.specs.Prelude.{FitsSigned, ◌+ℤ◌, ◌-ℤ◌}
 use Rattle.std.specs.Int.{w64, w128}
 use Rattle.std.proofs.lemmas.Int.{ints}
-use Rattle.window.specs.Window.{total}
+use Rattle.window.specs.Sums.{total}
 use Rattle.window.proofs.Sums.{IsSumOf-append, IsSumOf-behind, IsSumOf-fits}
 use Rattle.window.proofs.sum.SumTallyI64.slide.Goals as goal
 

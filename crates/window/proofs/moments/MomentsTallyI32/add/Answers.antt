@@ -3,7 +3,7 @@ use Rattle.std.specs.Prelude.{FitsSigned}
 use Rattle.std.specs.Int.{w32}
 use Rattle.std.proofs.lemmas.Int.{ints, to_z-of_z}
 use Rattle.window.proofs.Squares.{moments_fit, moments_push}
-use Rattle.window.proofs.moments.MomentsTallyI32.take_in.Goals as goal
+use Rattle.window.proofs.moments.MomentsTallyI32.add.Goals as goal
 
 pub overflow_add-self : goal.overflow_add-self
 overflow_add-self c =

@@ -3,7 +3,7 @@ use Rattle.std.specs.Prelude.{FitsSigned, ◌+ℤ◌}
 use Rattle.std.specs.Int.{w64, w128}
 use Rattle.std.proofs.lemmas.Int.{ints}
 use Rattle.window.proofs.Sums.{IsSumOf-append, IsSumOf-fits}
-use Rattle.window.proofs.sum.SumTallyI64.take_in.Goals as goal
+use Rattle.window.proofs.sum.SumTallyI64.add.Goals as goal
 
 pub overflow_add-self : goal.overflow_add-self
 overflow_add-self c =

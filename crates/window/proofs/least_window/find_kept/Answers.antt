@@ -1,7 +1,7 @@
 use Rattle.std.proofs.Common.{[], ◌∷◌, ap, arith, length, length-append, refl, sym, ◌∙◌}
-use Rattle.window.proofs.Ladders.{climbed, reaches, seen}
+use Rattle.window.proofs.MonotonicQueues.{popped_all, reaches, seen}
 use Rattle.window.proofs.Pushed.{read_is}
-use Rattle.window.proofs.least_window.climb.Goals as goal
+use Rattle.window.proofs.least_window.find_kept.Goals as goal
 
 pub loop-left-init : goal.loop-left-init
 loop-left-init g c =
@@ -19,7 +19,7 @@ returns-then-not-is_above-clause-stops g c =
     let so = c.loop-left.invariant.reaches in
     let e = c.len-len.ensures.value in
     let s = seen o all c.args.first c.loop-left.left c.len-len.result _ _ so e c.loop-left-test.true in
-    let last_is = read_is all _ _ c.unwrap-rung.result s.last c.get-in-loop-left.ensures c.unwrap-rung.ensures s.read in
+    let last_is = read_is all _ _ c.unwrap-candidate.result s.last c.get-in-loop-left.ensures c.unwrap-candidate.ensures s.read in
     let newest_is = read_is all _ _ c.unwrap-newest.result so.r c.get.ensures c.unwrap-newest.ensures s.read_newest in
     let answer = rw (last_is, newest_is) at c.is_above.ensures.value in
     rw c.is_above.ensures.compared (s.stops (sym answer ∙ c.if-not-is_above.true))
@@ -31,7 +31,7 @@ returns-then-left-first-clause-stops g c =
     let so = c.loop-left.invariant.reaches in
     let e = c.len-len.ensures.value in
     let s = seen o all c.args.first c.loop-left.left c.len-len.result _ _ so e c.loop-left-test.true in
-    let last_is = read_is all _ _ c.unwrap-rung.result s.last c.get-in-loop-left.ensures c.unwrap-rung.ensures s.read in
+    let last_is = read_is all _ _ c.unwrap-candidate.result s.last c.get-in-loop-left.ensures c.unwrap-candidate.ensures s.read in
     let newest_is = read_is all _ _ c.unwrap-newest.result so.r c.get.ensures c.unwrap-newest.ensures s.read_newest in
     let answer = rw (last_is, newest_is) at c.is_above.ensures.value in
     rw c.is_above.ensures.compared (s.ends_at c.if-left-first.true (sym answer ∙ c.if-not-is_above.false))
@@ -43,7 +43,7 @@ overflow_sub-left-in-loop-left-2 g c =
     let so = c.loop-left.invariant.reaches in
     let e = c.len-len.ensures.value in
     let s = seen o all c.args.first c.loop-left.left c.len-len.result _ _ so e c.loop-left-test.true in
-    let last_is = read_is all _ _ c.unwrap-rung.result s.last c.get-in-loop-left.ensures c.unwrap-rung.ensures s.read in
+    let last_is = read_is all _ _ c.unwrap-candidate.result s.last c.get-in-loop-left.ensures c.unwrap-candidate.ensures s.read in
     let newest_is = read_is all _ _ c.unwrap-newest.result so.r c.get.ensures c.unwrap-newest.ensures s.read_newest in
     let answer = rw (last_is, newest_is) at c.is_above.ensures.value in
     let (fits, some, next) = s.goes c.if-left-first.false (sym answer ∙ c.if-not-is_above.false) in
@@ -56,7 +56,7 @@ loop-left-preserved g c =
     let so = c.loop-left.invariant.reaches in
     let e = c.len-len.ensures.value in
     let s = seen o all c.args.first c.loop-left.left c.len-len.result _ _ so e c.loop-left-test.true in
-    let last_is = read_is all _ _ c.unwrap-rung.result s.last c.get-in-loop-left.ensures c.unwrap-rung.ensures s.read in
+    let last_is = read_is all _ _ c.unwrap-candidate.result s.last c.get-in-loop-left.ensures c.unwrap-candidate.ensures s.read in
     let newest_is = read_is all _ _ c.unwrap-newest.result so.r c.get.ensures c.unwrap-newest.ensures s.read_newest in
     let answer = rw (last_is, newest_is) at c.is_above.ensures.value in
     let (fits, some, next) = s.goes c.if-left-first.false (sym answer ∙ c.if-not-is_above.false) in
@@ -73,7 +73,7 @@ loop-left-smaller g c =
     let so = c.loop-left.invariant.reaches in
     let e = c.len-len.ensures.value in
     let s = seen o all c.args.first c.loop-left.left c.len-len.result _ _ so e c.loop-left-test.true in
-    let last_is = read_is all _ _ c.unwrap-rung.result s.last c.get-in-loop-left.ensures c.unwrap-rung.ensures s.read in
+    let last_is = read_is all _ _ c.unwrap-candidate.result s.last c.get-in-loop-left.ensures c.unwrap-candidate.ensures s.read in
     let newest_is = read_is all _ _ c.unwrap-newest.result so.r c.get.ensures c.unwrap-newest.ensures s.read_newest in
     let answer = rw (last_is, newest_is) at c.is_above.ensures.value in
     let (fits, some, next) = s.goes c.if-left-first.false (sym answer ∙ c.if-not-is_above.false) in
@@ -81,4 +81,4 @@ loop-left-smaller g c =
 
 pub returns-clause-stops : goal.returns-clause-stops
 returns-clause-stops g c =
-    climbed g.met.O.Order.total (g.R.RingBuffer.contents c.args.ring.now) c.args.first c.loop-left.left _ _ c.loop-left.invariant.reaches (omega (arith, c.loop-left-test.false))
+    popped_all g.met.O.Order.total (g.R.RingBuffer.contents c.args.ring.now) c.args.first c.loop-left.left _ _ c.loop-left.invariant.reaches (omega (arith, c.loop-left-test.false))

@@ -4,7 +4,7 @@ use Rattle.std.specs.Int.{w32}
 use Rattle.std.proofs.lemmas.Int.{ints, to_z-of_z}
 use Rattle.window.proofs.Squares.{moments_fit, moments_rest, square_within}
 use Rattle.window.specs.Moments.{square}
-use Rattle.window.proofs.moments.MomentsTallyI32.let_go.Goals as goal
+use Rattle.window.proofs.moments.MomentsTallyI32.remove.Goals as goal
 
 pub overflow_sub-self : goal.overflow_sub-self
 overflow_sub-self c =

@@ -1,6 +1,6 @@
 use Rattle.std.proofs.Common.{◌≡◌, ◌*◌, ◌≤◌}
-use Rattle.window.specs.Ladder.{Reaches}
-use Rattle.window.proofs.least_window.climb.Given as goal
+use Rattle.window.specs.MonotonicQueue.{Reaches}
+use Rattle.window.proofs.least_window.find_kept.Given as goal
 
 -- none of the items that the loop went past is still named, and each was compared once
 abbrev pub invariant-loop-left : goal.invariant-loop-left

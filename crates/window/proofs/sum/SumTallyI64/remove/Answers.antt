@@ -3,7 +3,7 @@ use Rattle.std.specs.Prelude.{FitsSigned, ◌-ℤ◌}
 use Rattle.std.specs.Int.{w128}
 use Rattle.std.proofs.lemmas.Int.{ints}
 use Rattle.window.proofs.Sums.{IsSumOf-fits, IsSumOf-rest}
-use Rattle.window.proofs.sum.SumTallyI64.let_go.Goals as goal
+use Rattle.window.proofs.sum.SumTallyI64.remove.Goals as goal
 
 pub overflow_sub-self : goal.overflow_sub-self
 overflow_sub-self c =

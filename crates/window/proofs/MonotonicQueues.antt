@@ -1,4 +1,4 @@
--- How a ladder changes as an item leaves and one comes.
+-- How a queue changes as an item leaves and one comes.
 use Rattle.std.proofs.Common.{◌≡◌, ◌≢◌, ◌⊎◌, ℕ, zero, suc, ◌+◌, ◌-◌, ◌<◌, ◌≤◌, List, [], ◌∷◌, ◌++◌, length, take, drop, All, Option, None, Some, inl, inr, refl, ap, sym, ◌∙◌, add-one, arith, length-append, length-drop, slice_get, slice_set}
 use Rattle.std.proofs.lemmas.List.{length-map, length-set, map-append, drop-append-le, drop-set-add, drop_all, set-append_left, take-append-le, take_all}
 use Rattle.std.proofs.lemmas.List.Elements.{All-cons, All-head, All-nil, All-push, All-tail, All-weaker}
@@ -10,19 +10,19 @@ use Rattle.std.specs.declared.cmp.Ordering.{Ordering}
 use Rattle.ringbuffer.specs.Contents.{keep_last, overwritten}
 use Rattle.ringbuffer.proofs.Limits.{map-keep_last}
 use Rattle.ringbuffer.proofs.Items.{slice_get-append_left, slice_get-at, slice_get-drop}
-use Rattle.window.specs.Ladder.{Climbs, HoldsLadder, IsLadder, IsRanked, LeadsTo, Reaches, Stops, item_on, items_on, next}
+use Rattle.window.specs.MonotonicQueue.{IsPopped, HoldsMonotonicQueue, IsMonotonicQueue, IsRanked, LeadsTo, Reaches, Stops, item_on, items_on, next}
 use Rattle.window.specs.Least.{AtMost, IsBelow, IsFirstLeast, IsLeastFrom}
-use Rattle.window.specs.declared.least_window.Rung.{Rung}
+use Rattle.window.specs.declared.least_window.Candidate.{Candidate}
 use Rattle.window.proofs.Orders.{AtMost-below, AtMost-same, AtMost-trans, IsBelow-trans}
 
 -- By induction on the list: what holds of all items holds of that at a place.
-pub All-at : {T : Type 0} (P : T → Type 0) (rs : List (Rung T)) (i : ℕ) (r : Rung T) → slice_get rs i ≡ Some r → All P (items_on rs) → P r.item
+pub All-at : {T : Type 0} (P : T → Type 0) (rs : List (Candidate T)) (i : ℕ) (r : Candidate T) → slice_get rs i ≡ Some r → All P (items_on rs) → P r.item
 All-at P [] i r at all = absurd (let none : None ≡ Some r = at in cc)
 All-at P (q ∷ rs) zero r at all = let same : q ≡ r = let is : Some q ≡ Some r = at in cc in rw same at (All-head P q.item (items_on rs) all)
 All-at P (q ∷ rs) (suc i) r at all = All-at P rs i r at (All-tail P q.item (items_on rs) all)
 
--- By induction: a rung with the same item changes no item.
-pub items_on-set : {T : Type 0} (rs : List (Rung T)) (i : ℕ) (r new : Rung T) → slice_get rs i ≡ Some r → new.item ≡ r.item → items_on (slice_set rs i new) ≡ items_on rs
+-- By induction: a candidate with the same item changes no item.
+pub items_on-set : {T : Type 0} (rs : List (Candidate T)) (i : ℕ) (r new : Candidate T) → slice_get rs i ≡ Some r → new.item ≡ r.item → items_on (slice_set rs i new) ≡ items_on rs
 items_on-set [] i r new at same = refl
 items_on-set (q ∷ rs) zero r new at same = let is : q ≡ r = let both : Some q ≡ Some r = at in cc in rw (is, same) refl
 items_on-set (q ∷ rs) (suc i) r new at same = ap (λ xs. q.item ∷ xs) (items_on-set rs i r new at same)
@@ -60,14 +60,14 @@ drop_from (z ∷ xs) zero x at = let same : z ≡ x = let both : Some z ≡ Some
 drop_from (z ∷ xs) (suc i) x at = drop_from xs i x at
 
 -- What a push hands back and leaves, without what is kept beside the items.
-pub items_on-keep_last : {T : Type 0} (limit : Option ℕ) (rs : List (Rung T)) (r : Rung T) → items_on (keep_last limit (rs ++ r ∷ [])) ≡ keep_last limit (items_on rs ++ r.item ∷ [])
+pub items_on-keep_last : {T : Type 0} (limit : Option ℕ) (rs : List (Candidate T)) (r : Candidate T) → items_on (keep_last limit (rs ++ r ∷ [])) ≡ keep_last limit (items_on rs ++ r.item ∷ [])
 items_on-keep_last None rs r = map-append item_on rs (r ∷ [])
 items_on-keep_last (Some n) rs r = map-keep_last item_on n (rs ++ r ∷ []) ∙ ap (keep_last (Some n)) (map-append item_on rs (r ∷ []))
 
-pub items_on-overwritten : {T : Type 0} (limit : Option ℕ) (rs : List (Rung T)) → option_map item_on (overwritten limit rs) ≡ overwritten limit (items_on rs)
+pub items_on-overwritten : {T : Type 0} (limit : Option ℕ) (rs : List (Candidate T)) → option_map item_on (overwritten limit rs) ≡ overwritten limit (items_on rs)
 items_on-overwritten None rs = refl
 items_on-overwritten (Some n) rs = rw length-map (first (length rs + 1 - n) rs) where
-  first : {T : Type 0} (m : ℕ) (rs : List (Rung T)) → option_map item_on (slice_get (take m rs) 0) ≡ slice_get (take m (items_on rs)) 0
+  first : {T : Type 0} (m : ℕ) (rs : List (Candidate T)) → option_map item_on (slice_get (take m rs) 0) ≡ slice_get (take m (items_on rs)) 0
   first zero rs = refl
   first (suc m) [] = refl
   first (suc m) (r ∷ rs) = refl
@@ -91,15 +91,15 @@ abbrev Behind : List ℕ → ℕ → ℕ → Type 0
 Behind [] d p = p ≡ d
 Behind (e ∷ es) d p = e < p
 
-leads_on : {T : Type 0} (r : Rung T) (ds : List ℕ) → r.ahead ≡ next ds → LeadsTo r ds
+leads_on : {T : Type 0} (r : Candidate T) (ds : List ℕ) → r.ahead ≡ next ds → LeadsTo r ds
 leads_on r [] ahead = tt
 leads_on r (d ∷ ds) ahead = ahead
 
-leads_before : {T : Type 0} (r : Rung T) (pre : List ℕ) (d : ℕ) → LeadsTo r (pre ++ d ∷ []) → LeadsTo r pre
+leads_before : {T : Type 0} (r : Candidate T) (pre : List ℕ) (d : ℕ) → LeadsTo r (pre ++ d ∷ []) → LeadsTo r pre
 leads_before r [] d leads = tt
 leads_before r (e ∷ es) d leads = leads
 
-leads_next : {T : Type 0} (r : Rung T) (pre : List ℕ) (d k : ℕ) → LeadsTo r (pre ++ d ∷ []) → r.ahead ≡ next (pre ++ d ∷ k ∷ [])
+leads_next : {T : Type 0} (r : Candidate T) (pre : List ℕ) (d k : ℕ) → LeadsTo r (pre ++ d ∷ []) → r.ahead ≡ next (pre ++ d ∷ k ∷ [])
 leads_next r [] d k leads = leads
 leads_next r (e ∷ es) d k leads = leads
 
@@ -120,20 +120,20 @@ module _ {T : Type 0} {cmp : T → T → Ordering} (o : IsTotalOrder cmp) where
   }
 
   -- What stands at the place of one that is named is within the list.
-  named_within : (rs : List (Rung T)) (d : ℕ) (r : Rung T) → slice_get rs d ≡ Some r → d ≤ length (items_on rs)
-  named_within rs d r at = rw (length-map {A = Rung T}) (omega (arith, slice_get_within rs d r at))
+  named_within : (rs : List (Candidate T)) (d : ℕ) (r : Candidate T) → slice_get rs d ≡ Some r → d ≤ length (items_on rs)
+  named_within rs d r at = rw (length-map {A = Candidate T}) (omega (arith, slice_get_within rs d r at))
 
-  -- a ladder that none has climbed yet
-  begins : (x : T) (more : ℕ) (ds : List ℕ) (rs : List (Rung T)) → IsLadder cmp more ds rs → Climbs cmp x 0 more ds rs
+  -- a queue that none has popped_all yet
+  begins : (x : T) (more : ℕ) (ds : List ℕ) (rs : List (Candidate T)) → IsMonotonicQueue cmp more ds rs → IsPopped cmp x 0 more ds rs
   begins x more [] rs is = rw is (refl, All-nil (IsBelow cmp x))
   begins x more (d ∷ ds) rs is =
       let (r, at, behind, ahead, least, rest) = is in
       (r, at, behind, leads_on r ds ahead, least, begins x 0 ds (drop (suc d) rs) rest)
 
-  -- the newest is alone on its ladder's end
-  top : (k : ℕ) (rs : List (Rung T)) (n : Rung T) → length rs ≡ k → All (IsBelow cmp n.item) (items_on rs) → n.behind ≡ suc k → n.ahead ≡ 0 → IsLadder cmp 0 (k ∷ []) (rs ++ n ∷ [])
+  -- the newest is alone on its queue's end
+  top : (k : ℕ) (rs : List (Candidate T)) (n : Candidate T) → length rs ≡ k → All (IsBelow cmp n.item) (items_on rs) → n.behind ≡ suc k → n.ahead ≡ 0 → IsMonotonicQueue cmp 0 (k ∷ []) (rs ++ n ∷ [])
   top k rs n long all behind ahead =
-      let items_long : length (items_on rs) ≡ k = rw (length-map {A = Rung T}) long in
+      let items_long : length (items_on rs) ≡ k = rw (length-map {A = Candidate T}) long in
       let all_below : All (IsBelow cmp n.item) (take k (items_on rs)) = rw (take_all k (items_on rs) (omega (arith, items_long))) all in
       let least : IsLeastFrom cmp n.item k (items_on rs) = record { below = all_below; at_most = All-weaker (IsBelow cmp n.item) (AtMost cmp n.item) (λ y. AtMost-below o n.item y) (items_on rs) all } in (
         n,
@@ -145,19 +145,19 @@ module _ {T : Type 0} {cmp : T → T → Ordering} (o : IsTotalOrder cmp) where
       )
 
   -- what is known of the last that is named
-  record LastNamed (x : T) (k more : ℕ) (pre : List ℕ) (d : ℕ) (rs : List (Rung T)) : Type 0 where
+  record LastNamed (x : T) (k more : ℕ) (pre : List ℕ) (d : ℕ) (rs : List (Candidate T)) : Type 0 where
     p : ℕ
-    last : Rung T
+    last : Candidate T
     at : slice_get rs p ≡ Some last
     from_end : p + 1 + k ≡ length rs
     says : last.behind ≡ suc d + slack more pre
     place : Behind pre d p
-    popped : IsBelow cmp x last.item → Climbs cmp x (k + suc d) more pre rs
-    stopped : (n : Rung T) → n.item ≡ x → n.behind ≡ suc k → n.ahead ≡ 0 → AtMost cmp last.item x
-        → IsLadder cmp more (pre ++ d ∷ k ∷ []) (slice_set rs p (record last { ahead = suc k }) ++ n ∷ [])
+    popped : IsBelow cmp x last.item → IsPopped cmp x (k + suc d) more pre rs
+    stopped : (n : Candidate T) → n.item ≡ x → n.behind ≡ suc k → n.ahead ≡ 0 → AtMost cmp last.item x
+        → IsMonotonicQueue cmp more (pre ++ d ∷ k ∷ []) (slice_set rs p (record last { ahead = suc k }) ++ n ∷ [])
 
   -- By induction on those named before it.
-  the_last : (x : T) (k more : ℕ) (pre : List ℕ) (d : ℕ) (rs : List (Rung T)) → Climbs cmp x k more (pre ++ d ∷ []) rs → LastNamed x k more pre d rs
+  the_last : (x : T) (k more : ℕ) (pre : List ℕ) (d : ℕ) (rs : List (Candidate T)) → IsPopped cmp x k more (pre ++ d ∷ []) rs → LastNamed x k more pre d rs
   the_last x k more [] d rs c =
       let (r, at, behind, leads, least, (long, above)) = c in
       let within : d < length rs = slice_get_within rs d r at in
@@ -171,7 +171,7 @@ module _ {T : Type 0} {cmp : T → T → Ordering} (o : IsTotalOrder cmp) where
         place = refl;
         popped = λ below. (omega (arith, within, count), All-weaker (AtMost cmp r.item) (IsBelow cmp x) (λ y. IsBelow-trans o x r.item y below) (items_on rs) least.at_most);
         stopped = λ n is behind_n ahead_n over.
-            let r' : Rung T = record r { ahead = suc k } in
+            let r' : Candidate T = record r { ahead = suc k } in
             let set_long : length (slice_set rs d r') ≡ length rs = length-set rs d r' in
             let past : drop (suc d) (slice_set rs d r' ++ n ∷ []) ≡ drop (suc d) rs ++ n ∷ [] =
             drop-append-le (suc d) (slice_set rs d r') (n ∷ []) (omega (arith, within, set_long)) ∙ ap (λ ys. ys ++ n ∷ []) (drop_past_set rs d r') in
@@ -198,7 +198,7 @@ module _ {T : Type 0} {cmp : T → T → Ordering} (o : IsTotalOrder cmp) where
         place = omega arith;
         popped = λ below. (r, at, behind, leads_before r pre d leads, least, ih.popped below);
         stopped = λ n is behind_n ahead_n over.
-            let r' : Rung T = record ih.last { ahead = suc k } in
+            let r' : Candidate T = record ih.last { ahead = suc k } in
             let i : ℕ = suc e + ih.p in
             let set_long : length (slice_set rs i r') ≡ length rs = length-set rs i r' in
             let past : drop (suc e) (slice_set rs i r' ++ n ∷ []) ≡ slice_set (drop (suc e) rs) ih.p r' ++ n ∷ [] =
@@ -215,53 +215,53 @@ module _ {T : Type 0} {cmp : T → T → Ordering} (o : IsTotalOrder cmp) where
       }
 
   -- The oldest leaves.
-  pub forgets : (q : Rung T) (rs : List (Rung T)) (first after compared most : ℕ) → HoldsLadder cmp (q ∷ rs) first compared most → (first ≡ 1 → after ≡ q.ahead) → (1 < first → after ≡ first - 1) → HoldsLadder cmp rs after compared most
-  forgets q rs first after compared most is at_one else_ = go is.places is.more is.is_ladder is.first_is is.counted where
-    go : (ds : List ℕ) (more : ℕ) → IsLadder cmp more ds (q ∷ rs) → first ≡ next ds → compared + length ds ≤ most → HoldsLadder cmp rs after compared most
-    go [] more ladder first_is counted = absurd (let some : q ∷ rs ≡ [] = ladder in cc)
-    go (zero ∷ ds) more ladder first_is counted =
-        let (r, at, behind, ahead, least, rest) = ladder in
-        let same_rung : q ≡ r = let e : Some q ≡ Some r = at in cc in
-        record { places = ds; more = 0; is_ladder = rest; first_is = at_one first_is ∙ (rw same_rung ahead); counted = omega (arith, counted) }
-    go (suc d ∷ ds) more ladder first_is counted =
-        let (r, at, behind, ahead, least, rest) = ladder in
+  pub forgets : (q : Candidate T) (rs : List (Candidate T)) (first after compared most : ℕ) → HoldsMonotonicQueue cmp (q ∷ rs) first compared most → (first ≡ 1 → after ≡ q.ahead) → (1 < first → after ≡ first - 1) → HoldsMonotonicQueue cmp rs after compared most
+  forgets q rs first after compared most is at_one else_ = go is.places is.more is.is_queue is.first_is is.counted where
+    go : (ds : List ℕ) (more : ℕ) → IsMonotonicQueue cmp more ds (q ∷ rs) → first ≡ next ds → compared + length ds ≤ most → HoldsMonotonicQueue cmp rs after compared most
+    go [] more queue first_is counted = absurd (let some : q ∷ rs ≡ [] = queue in cc)
+    go (zero ∷ ds) more queue first_is counted =
+        let (r, at, behind, ahead, least, rest) = queue in
+        let same_candidate : q ≡ r = let e : Some q ≡ Some r = at in cc in
+        record { places = ds; more = 0; is_queue = rest; first_is = at_one first_is ∙ (rw same_candidate ahead); counted = omega (arith, counted) }
+    go (suc d ∷ ds) more queue first_is counted =
+        let (r, at, behind, ahead, least, rest) = queue in
         let least' : IsLeastFrom cmp r.item d (items_on rs) = record { below = All-tail (IsBelow cmp r.item) q.item (take d (items_on rs)) least.below; at_most = All-tail (AtMost cmp r.item) q.item (items_on rs) least.at_most } in
         record {
           places = d ∷ ds;
           more = suc more;
-          is_ladder = (r, at, omega (arith, behind), ahead, least', rest);
+          is_queue = (r, at, omega (arith, behind), ahead, least', rest);
           first_is = else_ (omega (arith, first_is)) ∙ omega (arith, first_is);
           counted = counted;
         }
 
   -- What is read at the first place is the least, and the first of those that equal it.
-  pub least_read : (rs : List (Rung T)) (first compared most : ℕ) → HoldsLadder cmp rs first compared most → (first ≡ 0 → ⊥)
-      → (rs ≡ [] → ⊥) × (first - 1 < length rs) × ((r : Rung T) → slice_get rs (first - 1) ≡ Some r → IsFirstLeast cmp (items_on rs) r.item)
-  least_read rs first compared most is some = go is.places is.more is.is_ladder is.first_is where
-    go : (ds : List ℕ) (more : ℕ) → IsLadder cmp more ds rs → first ≡ next ds
-        → (rs ≡ [] → ⊥) × (first - 1 < length rs) × ((r : Rung T) → slice_get rs (first - 1) ≡ Some r → IsFirstLeast cmp (items_on rs) r.item)
-    go [] more ladder first_is = absurd (some first_is)
-    go (d ∷ ds) more ladder first_is =
-        let (r, at, behind, ahead, least, rest) = ladder in
+  pub least_read : (rs : List (Candidate T)) (first compared most : ℕ) → HoldsMonotonicQueue cmp rs first compared most → (first ≡ 0 → ⊥)
+      → (rs ≡ [] → ⊥) × (first - 1 < length rs) × ((r : Candidate T) → slice_get rs (first - 1) ≡ Some r → IsFirstLeast cmp (items_on rs) r.item)
+  least_read rs first compared most is some = go is.places is.more is.is_queue is.first_is where
+    go : (ds : List ℕ) (more : ℕ) → IsMonotonicQueue cmp more ds rs → first ≡ next ds
+        → (rs ≡ [] → ⊥) × (first - 1 < length rs) × ((r : Candidate T) → slice_get rs (first - 1) ≡ Some r → IsFirstLeast cmp (items_on rs) r.item)
+    go [] more queue first_is = absurd (some first_is)
+    go (d ∷ ds) more queue first_is =
+        let (r, at, behind, ahead, least, rest) = queue in
         let e : first - 1 ≡ d = omega (arith, first_is) in
         let within : d < length rs = slice_get_within rs d r at in (
           λ none. omega (arith, ap length none, within),
           rw e within,
           λ q at_q.
-              let same_rung : r ≡ q = let both : Some r ≡ Some q = sym at ∙ (rw e at at_q) in cc in
-              let read : slice_get (items_on rs) d ≡ Some q.item = slice_get-map item_on rs d ∙ ap (option_map item_on) (at ∙ ap Some same_rung) in
-              record { place = d; stands = read; least = rw same_rung at least },
+              let same_candidate : r ≡ q = let both : Some r ≡ Some q = sym at ∙ (rw e at at_q) in cc in
+              let read : slice_get (items_on rs) d ≡ Some q.item = slice_get-map item_on rs d ∙ ap (option_map item_on) (at ∙ ap Some same_candidate) in
+              record { place = d; stands = read; least = rw same_candidate at least },
         )
 
-  -- A ladder that holds nothing is of nothing.
-  pub none_read : (rs : List (Rung T)) (compared most : ℕ) → HoldsLadder cmp rs 0 compared most → rs ≡ []
-  none_read rs compared most is = go is.places is.more is.is_ladder is.first_is where
-    go : (ds : List ℕ) (more : ℕ) → IsLadder cmp more ds rs → 0 ≡ next ds → rs ≡ []
-    go [] more ladder first_is = ladder
-    go (d ∷ ds) more ladder first_is = absurd (omega (arith, first_is))
+  -- A queue that holds nothing is of nothing.
+  pub none_read : (rs : List (Candidate T)) (compared most : ℕ) → HoldsMonotonicQueue cmp rs 0 compared most → rs ≡ []
+  none_read rs compared most is = go is.places is.more is.is_queue is.first_is where
+    go : (ds : List ℕ) (more : ℕ) → IsMonotonicQueue cmp more ds rs → 0 ≡ next ds → rs ≡ []
+    go [] more queue first_is = queue
+    go (d ∷ ds) more queue first_is = absurd (omega (arith, first_is))
 
-  -- The newest begins to climb.
-  pub reaches : (all rs : List (Rung T)) (r : Rung T) (first left compared most : ℕ) → all ≡ rs ++ r ∷ [] → left + 1 ≡ length all → HoldsLadder cmp rs first compared most → Reaches cmp all first left compared most
+  -- Nothing is popped yet.
+  pub reaches : (all rs : List (Candidate T)) (r : Candidate T) (first left compared most : ℕ) → all ≡ rs ++ r ∷ [] → left + 1 ≡ length all → HoldsMonotonicQueue cmp rs first compared most → Reaches cmp all first left compared most
   reaches all rs r first left compared most is left_is holds = record {
     rs = rs;
     r = r;
@@ -270,13 +270,13 @@ module _ {T : Type 0} {cmp : T → T → Ordering} (o : IsTotalOrder cmp) where
     left_is = omega (arith, left_is, ap length is, length-append rs (r ∷ []));
     places = holds.places;
     more = holds.more;
-    climbs = begins r.item holds.more holds.places rs holds.is_ladder;
+    is_popped = begins r.item holds.more holds.places rs holds.is_queue;
     first_is = λ some. holds.first_is;
     counted = holds.counted;
   }
 
   -- Other counts serve as well where they are as far apart.
-  abbrev recounted : {all : List (Rung T)} {first left compared most : ℕ} (so : Reaches cmp all first left compared most) (compared' most' : ℕ) → compared' + length so.places ≤ most' → Reaches cmp all first left compared' most'
+  abbrev recounted : {all : List (Candidate T)} {first left compared most : ℕ} (so : Reaches cmp all first left compared most) (compared' most' : ℕ) → compared' + length so.places ≤ most' → Reaches cmp all first left compared' most'
   recounted so compared' most' counted = record {
     rs = so.rs;
     r = so.r;
@@ -285,25 +285,25 @@ module _ {T : Type 0} {cmp : T → T → Ordering} (o : IsTotalOrder cmp) where
     left_is = so.left_is;
     places = so.places;
     more = so.more;
-    climbs = so.climbs;
+    is_popped = so.is_popped;
     first_is = so.first_is;
     counted = counted;
   }
 
   -- A greater number serves as well.
-  pub recounted_to : {rs : List (Rung T)} {first compared most most' : ℕ} → HoldsLadder cmp rs first compared most → most ≤ most' → HoldsLadder cmp rs first compared most'
-  recounted_to is more = record { places = is.places; more = is.more; is_ladder = is.is_ladder; first_is = is.first_is; counted = omega (arith, is.counted, more) }
+  pub recounted_to : {rs : List (Candidate T)} {first compared most most' : ℕ} → HoldsMonotonicQueue cmp rs first compared most → most ≤ most' → HoldsMonotonicQueue cmp rs first compared most'
+  recounted_to is more = record { places = is.places; more = is.more; is_queue = is.is_queue; first_is = is.first_is; counted = omega (arith, is.counted, more) }
 
   -- What the last place tells of those that are left, once its item was compared with the newest.
-  pub record Seen (all : List (Rung T)) (first left n compared most : ℕ) (so : Reaches cmp all first left compared most) : Type 0 where
-    pub last : Rung T
+  pub record Seen (all : List (Candidate T)) (first left n compared most : ℕ) (so : Reaches cmp all first left compared most) : Type 0 where
+    pub last : Candidate T
     pub read : slice_get all (left - 1) ≡ Some last
     pub read_newest : slice_get all (n - 1) ≡ Some so.r
     pub stops : AtMost cmp last.item so.r.item → Stops cmp all first left (compared + 1) (most + 1)
     pub ends_at : left ≡ first → IsBelow cmp so.r.item last.item → Stops cmp all first 0 (compared + 1) (most + 1)
     pub goes : (left ≡ first → ⊥) → IsBelow cmp so.r.item last.item → (last.behind ≤ left) × (0 < last.behind) × Reaches cmp all first (left - last.behind) (compared + 1) most
 
-  below_top : (x : T) (k more : ℕ) (ds : List ℕ) (rs : List (Rung T)) → Climbs cmp x k more ds rs → k ≤ length rs
+  below_top : (x : T) (k more : ℕ) (ds : List ℕ) (rs : List (Candidate T)) → IsPopped cmp x k more ds rs → k ≤ length rs
   below_top x k more [] rs c = omega (arith, c.0)
   below_top x k more (d ∷ ds) rs c =
       let (r, at, behind, leads, least, rest) = c in
@@ -313,19 +313,19 @@ module _ {T : Type 0} {cmp : T → T → Ordering} (o : IsTotalOrder cmp) where
   not_empty [] d e = let none : d ∷ [] ≡ [] = e in cc
   not_empty (x ∷ pre) d e = let none : x ∷ (pre ++ d ∷ []) ≡ [] = e in cc
 
-  pub seen : (all : List (Rung T)) (first left n compared most : ℕ) (so : Reaches cmp all first left compared most) → n ≡ length all → 0 < left → Seen all first left n compared most so
-  seen all first left n compared most so n_is more_left = elim (ends so.places) [ inl none ↦ absurd (all_climbed none) | inr e ↦ named e.0 e.1 e.2 ] where
+  pub seen : (all : List (Candidate T)) (first left n compared most : ℕ) (so : Reaches cmp all first left compared most) → n ≡ length all → 0 < left → Seen all first left n compared most so
+  seen all first left n compared most so n_is more_left = elim (ends so.places) [ inl none ↦ absurd (all_popped none) | inr e ↦ named e.0 e.1 e.2 ] where
     long : n ≡ length so.rs + 1
     long = n_is ∙ ap length so.all_is ∙ length-append so.rs (so.r ∷ [])
 
-    all_climbed : so.places ≡ [] → ⊥
-    all_climbed none =
-        let c : Climbs cmp so.r.item so.k so.more [] so.rs = rw none at so.climbs in
+    all_popped : so.places ≡ [] → ⊥
+    all_popped none =
+        let c : IsPopped cmp so.r.item so.k so.more [] so.rs = rw none at so.is_popped in
         omega (arith, c.0, long, more_left, so.left_is)
 
     named : (pre : List ℕ) (d : ℕ) → so.places ≡ pre ++ d ∷ [] → Seen all first left n compared most so
     named pre d is =
-        let c : Climbs cmp so.r.item so.k so.more (pre ++ d ∷ []) so.rs = rw is at so.climbs in
+        let c : IsPopped cmp so.r.item so.k so.more (pre ++ d ∷ []) so.rs = rw is at so.is_popped in
         let it = the_last so.r.item so.k so.more pre d so.rs c in
         let at_p : left - 1 ≡ it.p = omega (arith, it.from_end, so.left_is) in
         let in_front : it.p < length so.rs = omega (arith, it.from_end) in
@@ -339,7 +339,7 @@ module _ {T : Type 0} {cmp : T → T → Ordering} (o : IsTotalOrder cmp) where
           ends_at = λ here h. alone pre d it.p it.place first_is (omega (arith, at_p, more_left, here)) (it.popped h);
           goes = λ not_here h. passes pre d is it.p it.place first_is (λ e. not_here (omega (arith, at_p, more_left, e))) it.last it.says (it.popped h);
         } where
-          alone : (pre : List ℕ) (d p : ℕ) → Behind pre d p → first ≡ next (pre ++ d ∷ []) → p + 1 ≡ first → Climbs cmp so.r.item (so.k + suc d) so.more pre so.rs → Stops cmp all first 0 (compared + 1) (most + 1)
+          alone : (pre : List ℕ) (d p : ℕ) → Behind pre d p → first ≡ next (pre ++ d ∷ []) → p + 1 ≡ first → IsPopped cmp so.r.item (so.k + suc d) so.more pre so.rs → Stops cmp all first 0 (compared + 1) (most + 1)
           alone [] d p place first_is here popped = (
             record {
               rs = so.rs;
@@ -349,7 +349,7 @@ module _ {T : Type 0} {cmp : T → T → Ordering} (o : IsTotalOrder cmp) where
               left_is = omega (arith, popped.0);
               places = [];
               more = so.more;
-              climbs = popped;
+              is_popped = popped;
               first_is = λ some. absurd (some refl);
               counted = omega (arith, so.counted);
             },
@@ -357,7 +357,7 @@ module _ {T : Type 0} {cmp : T → T → Ordering} (o : IsTotalOrder cmp) where
           )
           alone (e ∷ pre) d p place first_is here popped = absurd (omega (arith, place, first_is, here))
 
-          passes : (pre : List ℕ) (d : ℕ) → so.places ≡ pre ++ d ∷ [] → (p : ℕ) → Behind pre d p → first ≡ next (pre ++ d ∷ []) → (p + 1 ≡ first → ⊥) → (last : Rung T) → last.behind ≡ suc d + slack so.more pre → Climbs cmp so.r.item (so.k + suc d) so.more pre so.rs
+          passes : (pre : List ℕ) (d : ℕ) → so.places ≡ pre ++ d ∷ [] → (p : ℕ) → Behind pre d p → first ≡ next (pre ++ d ∷ []) → (p + 1 ≡ first → ⊥) → (last : Candidate T) → last.behind ≡ suc d + slack so.more pre → IsPopped cmp so.r.item (so.k + suc d) so.more pre so.rs
               → (last.behind ≤ left) × (0 < last.behind) × Reaches cmp all first (left - last.behind) (compared + 1) most
           passes [] d is p place first_is not_here last says popped = absurd (not_here (omega (arith, place, first_is)))
           passes (e ∷ pre) d is p place first_is not_here last says popped =
@@ -372,28 +372,28 @@ module _ {T : Type 0} {cmp : T → T → Ordering} (o : IsTotalOrder cmp) where
                   left_is = omega (arith, fits, says, so.left_is);
                   places = e ∷ pre;
                   more = so.more;
-                  climbs = popped;
+                  is_popped = popped;
                   first_is = λ some. first_is;
                   counted = omega (arith, so.counted, ap length is, length-append (e ∷ pre) (d ∷ []));
                 },
               )
 
-  -- Where the newest is the least, it is the whole ladder.
-  pub joins_alone : (all : List (Rung T)) (first left n compared most : ℕ) → n ≡ length all → Stops cmp all first left compared most → left ≡ 0
-      → (r : Rung T) × (slice_get all (n - 1) ≡ Some r) × HoldsLadder cmp (slice_set all (n - 1) (record r { behind = n - left; ahead = 0 })) n compared (most + 1)
+  -- Where the newest is the least, it is the whole queue.
+  pub joins_alone : (all : List (Candidate T)) (first left n compared most : ℕ) → n ≡ length all → Stops cmp all first left compared most → left ≡ 0
+      → (r : Candidate T) × (slice_get all (n - 1) ≡ Some r) × HoldsMonotonicQueue cmp (slice_set all (n - 1) (record r { behind = n - left; ahead = 0 })) n compared (most + 1)
       × (items_on (slice_set all (n - 1) (record r { behind = n - left; ahead = 0 })) ≡ items_on all)
   joins_alone all first left n compared most n_is (so, stop) whole =
       let long : n ≡ length so.rs + 1 = n_is ∙ ap length so.all_is ∙ length-append so.rs (so.r ∷ []) in
       let newest : n - 1 ≡ length so.rs = omega (arith, long) in
-      let q : Rung T = record so.r { behind = n - left; ahead = 0 } in
+      let q : Candidate T = record so.r { behind = n - left; ahead = 0 } in
       let written : slice_set all (n - 1) q ≡ so.rs ++ q ∷ [] = rw newest (rw so.all_is (set-append_seam so.rs so.r [] q)) in
-      let below : All (IsBelow cmp so.r.item) (items_on so.rs) = elim stop [ inl none ↦ (let c : Climbs cmp so.r.item so.k so.more [] so.rs = rw none at so.climbs in c.1) | inr e ↦ absurd (omega (arith, e.2, long, whole, so.left_is)) ] in (
+      let below : All (IsBelow cmp so.r.item) (items_on so.rs) = elim stop [ inl none ↦ (let c : IsPopped cmp so.r.item so.k so.more [] so.rs = rw none at so.is_popped in c.1) | inr e ↦ absurd (omega (arith, e.2, long, whole, so.left_is)) ] in (
         so.r,
         rw newest (rw so.all_is (slice_get-at so.rs so.r [])),
         record {
           places = so.k ∷ [];
           more = 0;
-          is_ladder = rw written (top so.k so.rs q (omega (arith, long, whole, so.left_is)) below (omega (arith, long, so.left_is)) refl);
+          is_queue = rw written (top so.k so.rs q (omega (arith, long, whole, so.left_is)) below (omega (arith, long, so.left_is)) refl);
           first_is = omega (arith, whole, so.left_is);
           counted = omega (arith, so.counted);
         },
@@ -401,34 +401,34 @@ module _ {T : Type 0} {cmp : T → T → Ordering} (o : IsTotalOrder cmp) where
       )
 
   -- Else it comes after the last that is still named.
-  pub joins_after : (all : List (Rung T)) (first left n compared most : ℕ) → n ≡ length all → Stops cmp all first left compared most → (left ≡ 0 → ⊥)
-      → (r last : Rung T) × (slice_get all (n - 1) ≡ Some r) × (left - 1 < n)
+  pub joins_after : (all : List (Candidate T)) (first left n compared most : ℕ) → n ≡ length all → Stops cmp all first left compared most → (left ≡ 0 → ⊥)
+      → (r last : Candidate T) × (slice_get all (n - 1) ≡ Some r) × (left - 1 < n)
       × (slice_get (slice_set all (n - 1) (record r { behind = n - left; ahead = 0 })) (left - 1) ≡ Some last)
-      × HoldsLadder cmp (slice_set (slice_set all (n - 1) (record r { behind = n - left; ahead = 0 })) (left - 1) (record last { ahead = n - left })) first compared (most + 1)
+      × HoldsMonotonicQueue cmp (slice_set (slice_set all (n - 1) (record r { behind = n - left; ahead = 0 })) (left - 1) (record last { ahead = n - left })) first compared (most + 1)
       × (items_on (slice_set (slice_set all (n - 1) (record r { behind = n - left; ahead = 0 })) (left - 1) (record last { ahead = n - left })) ≡ items_on all)
-  joins_after all first left n compared most n_is (so, stop) not_whole = elim (ends so.places) [ inl none ↦ absurd (all_climbed none) | inr e ↦ named e.0 e.1 e.2 stop ] where
+  joins_after all first left n compared most n_is (so, stop) not_whole = elim (ends so.places) [ inl none ↦ absurd (all_popped none) | inr e ↦ named e.0 e.1 e.2 stop ] where
     long : n ≡ length so.rs + 1
     long = n_is ∙ ap length so.all_is ∙ length-append so.rs (so.r ∷ [])
 
-    all_climbed : so.places ≡ [] → ⊥
-    all_climbed none =
-        let c : Climbs cmp so.r.item so.k so.more [] so.rs = rw none at so.climbs in
+    all_popped : so.places ≡ [] → ⊥
+    all_popped none =
+        let c : IsPopped cmp so.r.item so.k so.more [] so.rs = rw none at so.is_popped in
         not_whole (omega (arith, c.0, long, so.left_is))
 
-    named : (pre : List ℕ) (d : ℕ) → so.places ≡ pre ++ d ∷ [] → (so.places ≡ []) ⊎ ((p : ℕ) × (last : Rung T) × (p + 1 + so.k ≡ length so.rs) × (slice_get so.rs p ≡ Some last) × AtMost cmp last.item so.r.item)
-        → (r last : Rung T) × (slice_get all (n - 1) ≡ Some r) × (left - 1 < n)
+    named : (pre : List ℕ) (d : ℕ) → so.places ≡ pre ++ d ∷ [] → (so.places ≡ []) ⊎ ((p : ℕ) × (last : Candidate T) × (p + 1 + so.k ≡ length so.rs) × (slice_get so.rs p ≡ Some last) × AtMost cmp last.item so.r.item)
+        → (r last : Candidate T) × (slice_get all (n - 1) ≡ Some r) × (left - 1 < n)
         × (slice_get (slice_set all (n - 1) (record r { behind = n - left; ahead = 0 })) (left - 1) ≡ Some last)
-        × HoldsLadder cmp (slice_set (slice_set all (n - 1) (record r { behind = n - left; ahead = 0 })) (left - 1) (record last { ahead = n - left })) first compared (most + 1)
+        × HoldsMonotonicQueue cmp (slice_set (slice_set all (n - 1) (record r { behind = n - left; ahead = 0 })) (left - 1) (record last { ahead = n - left })) first compared (most + 1)
         × (items_on (slice_set (slice_set all (n - 1) (record r { behind = n - left; ahead = 0 })) (left - 1) (record last { ahead = n - left })) ≡ items_on all)
-    named pre d is (inl none) = absurd (all_climbed none)
+    named pre d is (inl none) = absurd (all_popped none)
     named pre d is (inr (p, last, from_end, at, over)) =
-        let c : Climbs cmp so.r.item so.k so.more (pre ++ d ∷ []) so.rs = rw is at so.climbs in
+        let c : IsPopped cmp so.r.item so.k so.more (pre ++ d ∷ []) so.rs = rw is at so.is_popped in
         let it = the_last so.r.item so.k so.more pre d so.rs c in
         let p_is : p ≡ it.p = omega (arith, it.from_end, from_end) in
         let last_is : it.last ≡ last = let both : Some it.last ≡ Some last = sym it.at ∙ (rw p_is at at) in cc in
         let far : n - left ≡ suc so.k = omega (arith, long, from_end, so.left_is) in
-        let q : Rung T = record so.r { behind = n - left; ahead = 0 } in
-        let l : Rung T = record it.last { ahead = suc so.k } in
+        let q : Candidate T = record so.r { behind = n - left; ahead = 0 } in
+        let l : Candidate T = record it.last { ahead = suc so.k } in
         let newest : n - 1 ≡ length so.rs = omega (arith, long) in
         let at_p : left - 1 ≡ it.p = omega (arith, it.from_end, so.left_is) in
         let in_front : it.p < length so.rs = omega (arith, it.from_end) in
@@ -442,68 +442,68 @@ module _ {T : Type 0} {cmp : T → T → Ordering} (o : IsTotalOrder cmp) where
           record {
             places = pre ++ d ∷ so.k ∷ [];
             more = so.more;
-            is_ladder = rw (written, at_p, both) (it.stopped q refl far refl (rw last_is over));
-            first_is = so.first_is all_climbed ∙ ap next is ∙ next-append pre d so.k;
+            is_queue = rw (written, at_p, both) (it.stopped q refl far refl (rw last_is over));
+            first_is = so.first_is all_popped ∙ ap next is ∙ next-append pre d so.k;
             counted = omega (arith, so.counted, ap length is, length-append pre (d ∷ []), length-append pre (d ∷ so.k ∷ []));
           },
           rw (written, at_p, both) (map-append item_on (slice_set so.rs it.p l) (q ∷ []) ∙ ap (λ xs. xs ++ so.r.item ∷ []) (items_on-set so.rs it.p it.last l it.at refl) ∙ sym (ap items_on so.all_is ∙ map-append item_on so.rs (so.r ∷ []))),
         )
 
-  -- A climb to the oldest item names none.
-  pub climbed : (all : List (Rung T)) (first left compared most : ℕ) → Reaches cmp all first left compared most → left ≡ 0 → Stops cmp all first left compared (most + 1)
-  climbed all first left compared most so whole = (recounted so compared (most + 1) (omega (arith, so.counted)), inl (elim (ends so.places) [ inl none ↦ none | inr e ↦ absurd (named e.0 e.1 e.2) ])) where
+  -- Where all items are passed, no candidate is left.
+  pub popped_all : (all : List (Candidate T)) (first left compared most : ℕ) → Reaches cmp all first left compared most → left ≡ 0 → Stops cmp all first left compared (most + 1)
+  popped_all all first left compared most so whole = (recounted so compared (most + 1) (omega (arith, so.counted)), inl (elim (ends so.places) [ inl none ↦ none | inr e ↦ absurd (named e.0 e.1 e.2) ])) where
     named : (pre : List ℕ) (d : ℕ) → so.places ≡ pre ++ d ∷ [] → ⊥
     named pre d is =
-        let c : Climbs cmp so.r.item so.k so.more (pre ++ d ∷ []) so.rs = rw is at so.climbs in
+        let c : IsPopped cmp so.r.item so.k so.more (pre ++ d ∷ []) so.rs = rw is at so.is_popped in
         let it = the_last so.r.item so.k so.more pre d so.rs c in
         omega (arith, it.from_end, whole, so.left_is)
 
   -- Where some are ranked after a place, the first of them is read so far ahead.
-  pub first_read : (all : List (Rung T)) (at first compared most : ℕ) → IsRanked cmp (drop (at + 1) all) first compared most → 0 < first → (y : Rung T) × (slice_get all (at + first) ≡ Some y)
-  first_read all at first compared most is some = go is.places is.is_ladder is.first_is where
-    go : (ds : List ℕ) → IsLadder cmp 0 ds (drop (at + 1) all) → first ≡ next ds → (y : Rung T) × (slice_get all (at + first) ≡ Some y)
-    go [] ladder first_is = absurd (omega (arith, first_is))
-    go (d ∷ ds) ladder first_is =
-        let (r, there, behind, ahead, least, rest) = ladder in
+  pub first_read : (all : List (Candidate T)) (at first compared most : ℕ) → IsRanked cmp (drop (at + 1) all) first compared most → 0 < first → (y : Candidate T) × (slice_get all (at + first) ≡ Some y)
+  first_read all at first compared most is some = go is.places is.is_queue is.first_is where
+    go : (ds : List ℕ) → IsMonotonicQueue cmp 0 ds (drop (at + 1) all) → first ≡ next ds → (y : Candidate T) × (slice_get all (at + first) ≡ Some y)
+    go [] queue first_is = absurd (omega (arith, first_is))
+    go (d ∷ ds) queue first_is =
+        let (r, there, behind, ahead, least, rest) = queue in
         let e : at + first ≡ at + 1 + d = omega (arith, first_is) in
         (r, rw e (sym (slice_get-drop (at + 1) d all) ∙ there))
 
   -- An item that isn't above the first ranked after it is the first itself.
-  pub ranked_first : (all : List (Rung T)) (at first compared compared' most most' : ℕ) (q : Rung T) → slice_get all at ≡ Some q → IsRanked cmp (drop (at + 1) all) first compared most
-      → ((y : Rung T) → 0 < first → slice_get all (at + first) ≡ Some y → AtMost cmp q.item y.item) → compared' ≤ compared + 1 → most + 2 ≤ most'
+  pub ranked_first : (all : List (Candidate T)) (at first compared compared' most most' : ℕ) (q : Candidate T) → slice_get all at ≡ Some q → IsRanked cmp (drop (at + 1) all) first compared most
+      → ((y : Candidate T) → 0 < first → slice_get all (at + first) ≡ Some y → AtMost cmp q.item y.item) → compared' ≤ compared + 1 → most + 2 ≤ most'
       → IsRanked cmp (drop at (slice_set all at (record q { behind = 1; ahead = first }))) 1 compared' most'
   ranked_first all at first compared compared' most most' q here is over few more =
-      let q' : Rung T = record q { behind = 1; ahead = first } in
-      let ys : List (Rung T) = drop (at + 1) all in
+      let q' : Candidate T = record q { behind = 1; ahead = first } in
+      let ys : List (Candidate T) = drop (at + 1) all in
       let from : drop at (slice_set all at q') ≡ q' ∷ ys = drop_from_set all at q q' here ∙ ap (λ n. q' ∷ drop n all) (sym (add-one at)) in
       rw from record {
         places = 0 ∷ is.places;
-        is_ladder = (q', refl, refl, is.first_is, record { below = All-nil (IsBelow cmp q.item); at_most = All-cons (AtMost cmp q.item) q.item (items_on ys) (AtMost-same o q.item) (above is.places is.is_ladder is.first_is) }, is.is_ladder);
+        is_queue = (q', refl, refl, is.first_is, record { below = All-nil (IsBelow cmp q.item); at_most = All-cons (AtMost cmp q.item) q.item (items_on ys) (AtMost-same o q.item) (above is.places is.is_queue is.first_is) }, is.is_queue);
         first_is = refl;
         counted = omega (arith, is.counted, few, more);
       } where
-        above : (ds : List ℕ) → IsLadder cmp 0 ds (drop (at + 1) all) → first ≡ next ds → All (AtMost cmp q.item) (items_on (drop (at + 1) all))
-        above [] ladder first_is = rw ladder (All-nil (AtMost cmp q.item))
-        above (d ∷ ds) ladder first_is =
-            let (r, there, behind, ahead, least, rest) = ladder in
+        above : (ds : List ℕ) → IsMonotonicQueue cmp 0 ds (drop (at + 1) all) → first ≡ next ds → All (AtMost cmp q.item) (items_on (drop (at + 1) all))
+        above [] queue first_is = rw queue (All-nil (AtMost cmp q.item))
+        above (d ∷ ds) queue first_is =
+            let (r, there, behind, ahead, least, rest) = queue in
             let e : at + first ≡ at + 1 + d = omega (arith, first_is) in
             let read : slice_get all (at + first) ≡ Some r = rw e (sym (slice_get-drop (at + 1) d all) ∙ there) in
             All-weaker (AtMost cmp r.item) (AtMost cmp q.item) (λ z. AtMost-trans o q.item r.item z (over r (omega (arith, first_is)) read)) (items_on (drop (at + 1) all)) least.at_most
 
   -- Behind an item that is above the first ranked after it, the first stays, one further behind.
-  pub ranked_behind : (all : List (Rung T)) (at first compared compared' most most' : ℕ) (q y : Rung T) → slice_get all at ≡ Some q → IsRanked cmp (drop (at + 1) all) first compared most
+  pub ranked_behind : (all : List (Candidate T)) (at first compared compared' most most' : ℕ) (q y : Candidate T) → slice_get all at ≡ Some q → IsRanked cmp (drop (at + 1) all) first compared most
       → 0 < first → slice_get all (at + first) ≡ Some y → IsBelow cmp y.item q.item → compared' ≤ compared + 1 → most + 2 ≤ most'
       → IsRanked cmp (drop at (slice_set all (at + first) (record y { behind = first + 1 }))) (first + 1) compared' most'
-  ranked_behind all at first compared compared' most most' q y here is some there below few more = go is.places is.is_ladder is.first_is is.counted where
-    go : (ds : List ℕ) → IsLadder cmp 0 ds (drop (at + 1) all) → first ≡ next ds → compared + length ds ≤ most
+  ranked_behind all at first compared compared' most most' q y here is some there below few more = go is.places is.is_queue is.first_is is.counted where
+    go : (ds : List ℕ) → IsMonotonicQueue cmp 0 ds (drop (at + 1) all) → first ≡ next ds → compared + length ds ≤ most
         → IsRanked cmp (drop at (slice_set all (at + first) (record y { behind = first + 1 }))) (first + 1) compared' most'
-    go [] ladder first_is counted = absurd (omega (arith, first_is))
-    go (d ∷ ds) ladder first_is counted =
-        let (r, at_d, behind, ahead, least, rest) = ladder in
-        let ys : List (Rung T) = drop (at + 1) all in
+    go [] queue first_is counted = absurd (omega (arith, first_is))
+    go (d ∷ ds) queue first_is counted =
+        let (r, at_d, behind, ahead, least, rest) = queue in
+        let ys : List (Candidate T) = drop (at + 1) all in
         let e : at + first ≡ at + 1 + d = omega (arith, first_is) in
         let same : y ≡ r = let both : Some y ≡ Some r = sym there ∙ (rw e (sym (slice_get-drop (at + 1) d all) ∙ at_d)) in cc in
-        let r' : Rung T = record y { behind = first + 1 } in
+        let r' : Candidate T = record y { behind = first + 1 } in
         let place : at + first ≡ at + suc d = omega (arith, first_is) in
         let from : drop at (slice_set all (at + first) r') ≡ q ∷ slice_set ys d r' =
         ap (λ n. drop at (slice_set all n r')) place ∙ drop-set-add at all (suc d) r' ∙ ap (λ zs. slice_set zs (suc d) r') (drop_from all at q here ∙ ap (λ n. q ∷ drop n all) (sym (add-one at))) in
@@ -511,7 +511,7 @@ module _ {T : Type 0} {cmp : T → T → Ordering} (o : IsTotalOrder cmp) where
         let items : items_on (slice_set ys d r') ≡ items_on ys = items_on-set ys d y r' at_y refl in
         rw from record {
           places = suc d ∷ ds;
-          is_ladder = (
+          is_queue = (
             r',
             set_read ys d y r' at_y,
             omega (arith, first_is),
@@ -523,6 +523,6 @@ module _ {T : Type 0} {cmp : T → T → Ordering} (o : IsTotalOrder cmp) where
           counted = omega (arith, counted, few, more);
         }
 
-  -- A ring whose items are all ranked holds a ladder.
-  pub holds_ranked : {rs : List (Rung T)} {first compared most : ℕ} → IsRanked cmp rs first compared most → HoldsLadder cmp rs first compared most
-  holds_ranked is = record { places = is.places; more = 0; is_ladder = is.is_ladder; first_is = is.first_is; counted = is.counted }
+  -- A ring whose items are all ranked holds a queue.
+  pub holds_ranked : {rs : List (Candidate T)} {first compared most : ℕ} → IsRanked cmp rs first compared most → HoldsMonotonicQueue cmp rs first compared most
+  holds_ranked is = record { places = is.places; more = 0; is_queue = is.is_queue; first_is = is.first_is; counted = is.counted }
