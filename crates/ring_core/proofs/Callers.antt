@@ -1,6 +1,5 @@
 -- What callers conclude from the calls' contracts: of a search over a walk, of a fill and of a clone.
 use Rattle.std.proofs.Common.{◌≡◌, ℕ, List, [], ◌∷◌, Bool, true, false, length, Option, None, Some, MatchOption, All, replicate, refl, ap, ◌∙◌, Bor}
-use Rattle.std.specs.Prelude.{◌&&◌}
 use Rattle.std.specs.Cmp.Lexicographic.{pointwise}
 use Rattle.std.specs.Fn.{Called, CalledAt, Mut}
 use Rattle.std.specs.Iterator.{YieldsFirstBy, YieldsThen}
