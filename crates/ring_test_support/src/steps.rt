@@ -81,6 +81,8 @@ pub enum Step {
     Reads(&'static [End], &'static [i64]),
     /// A cursor that takes such steps.
     Lends(&'static [End], &'static [i64]),
+    /// A cursor that adds a number to the item that it finds at each of these ends, and is then dropped.
+    Adds(&'static [(End, i64)]),
     /// A drain that takes such steps, and is then dropped.
     Drains(&'static [End], &'static [i64]),
 }
@@ -106,7 +108,10 @@ pub enum Outcome {
 
 /// Does the calls on the ring in turn, up to the first that doesn't answer what its step says. Returns the number of
 /// that step, and what came of it.
-pub fn first_fault<R: DoubleEndedRing<i64>>(ring: &mut R, steps: &[Step]) -> Option<(usize, Outcome)> {
+pub fn first_fault<R: DoubleEndedRing<i64>>(
+    ring: &mut R,
+    steps: &[Step],
+) -> Option<(usize, Outcome)> {
     for (i, step) in steps.iter().enumerate() {
         let outcome = outcome_of(ring, *step);
         if outcome != Outcome::Answered(*step) {
@@ -116,7 +121,7 @@ pub fn first_fault<R: DoubleEndedRing<i64>>(ring: &mut R, steps: &[Step]) -> Opt
     None
 }
 
-/// The items of a ring, a call, and the items that it leaves.
+/// Items of a ring, a call, and the items that it leaves.
 pub type Row = (&'static [i64], Step, &'static [i64]);
 
 /// How many places the items of a ring begin at: from the first slot on.
@@ -130,7 +135,12 @@ pub fn first_fault_of_rows<R: DoubleEndedRing<i64>>(
 ) -> Option<(usize, usize, usize, Outcome)> {
     for (row, (items, call, left)) in rows.iter().enumerate() {
         for start in 0..STARTS {
-            let steps = [Step::Begin(start), Step::PushAll(items), *call, Step::Leaves(left)];
+            let steps = [
+                Step::Begin(start),
+                Step::PushAll(items),
+                *call,
+                Step::Leaves(left),
+            ];
             if let Some((step, outcome)) = first_fault(ring, &steps) {
                 return Some((row, start, step, outcome));
             }
@@ -197,6 +207,7 @@ fn outcome_of<R: DoubleEndedRing<i64>>(ring: &mut R, step: Step) -> Outcome {
         Step::Below(item, _) => parted(ring, item),
         Step::Reads(ends, items) => read(ring, ends, items),
         Step::Lends(ends, items) => lent(ring, ends, items),
+        Step::Adds(additions) => added(ring, additions),
         Step::Drains(ends, items) => drained(ring, ends, items),
         _ => moved(ring, step),
     }
@@ -282,11 +293,7 @@ fn parted<R: DoubleEndedRing<i64>>(ring: &R, bound: i64) -> Outcome {
     Outcome::Answered(Step::Below(bound, below))
 }
 
-fn read<R: DoubleEndedRing<i64>>(
-    ring: &R,
-    ends: &'static [End],
-    items: &'static [i64],
-) -> Outcome {
+fn read<R: DoubleEndedRing<i64>>(ring: &R, ends: &'static [End], items: &'static [i64]) -> Outcome {
     let (mut walk, mut left) = (ring.iter(), ring.len());
     for (i, end) in ends.iter().enumerate() {
         if walk.size_hint() != (left, Some(left)) || walk.len() != left {
@@ -327,6 +334,21 @@ fn lent<R: DoubleEndedRing<i64>>(
     Outcome::Answered(Step::Lends(ends, items))
 }
 
+fn added<R: DoubleEndedRing<i64>>(ring: &mut R, additions: &'static [(End, i64)]) -> Outcome {
+    let mut walk = ring.iter_mut();
+    for (end, number) in additions {
+        let found = match end {
+            End::Front => walk.next(),
+            End::Back => walk.next_back(),
+        };
+        let Some(item) = found else {
+            return Outcome::NoItem;
+        };
+        *item = item.wrapping_add(*number);
+    }
+    Outcome::Answered(Step::Adds(additions))
+}
+
 fn drained<R: DoubleEndedRing<i64>>(
     ring: &mut R,
     ends: &'static [End],
@@ -361,7 +383,10 @@ fn pushed<R: DoubleEndedRing<i64>>(ring: &mut R, pushes: &'static [(i64, Option<
     Outcome::Answered(Step::Push(pushes))
 }
 
-fn enqueued<R: DoubleEndedRing<i64>>(ring: &mut R, pushes: &'static [(i64, Option<i64>)]) -> Outcome {
+fn enqueued<R: DoubleEndedRing<i64>>(
+    ring: &mut R,
+    pushes: &'static [(i64, Option<i64>)],
+) -> Outcome {
     for (i, (item, back)) in pushes.iter().enumerate() {
         match ring.enqueue(*item) {
             Ok(found) if found == *back => {}
@@ -421,7 +446,11 @@ fn found(step: Step, read: Option<i64>, lent: Option<&mut i64>) -> Outcome {
     }
 }
 
-fn found_all<R: DoubleEndedRing<i64>>(ring: &mut R, first: usize, items: &'static [i64]) -> Outcome {
+fn found_all<R: DoubleEndedRing<i64>>(
+    ring: &mut R,
+    first: usize,
+    items: &'static [i64],
+) -> Outcome {
     for (i, item) in items.iter().enumerate() {
         let at = first.wrapping_add(i);
         let (read, lent) = (ring.get(at).copied(), ring.get_mut(at).copied());

@@ -5,8 +5,9 @@ ghost use Rattle.std.specs.Prelude.{◌<◌};
 use super::{assert_equal, assert_rows, assert_steps};
 use ring_test_support::steps::Row;
 use ring_test_support::steps::Step::{
-    Begin, Below, Capacity, Holds, Insert, KeepNewest, Leaves, PopBack, PushAll, PushFront, Remove, RemoveRange,
-    RetainAlternate, RetainEven, RotateLeft, RotateRight, Search, Swap, Truncate, TryPush,
+    Begin, Below, Capacity, Holds, Insert, KeepNewest, Leaves, PopBack, PushAll, PushFront, Remove,
+    RemoveRange, RetainAlternate, RetainEven, RotateLeft, RotateRight, Search, Swap, Truncate,
+    TryPush,
 };
 use ring_test_support::{on_each, on_fixed, on_growable};
 use ringbuffer::AllocRingBuffer;

@@ -1,13 +1,13 @@
 //! Positions, reading and writing.
 
 use super::{answers, assert_equal, assert_steps, push_all};
+use ring_slots::RingSlots;
 use ring_test_support::steps::Step::{
     Back, Clear, Dequeue, DequeueAll, Extend, Fill, Front, Get, GetAll, GetAllSigned, GetSigned,
     Holds, Len, PushAll, Write, WriteBack, WriteFront, WriteSigned,
 };
 use ring_test_support::steps::{Step, first_fault};
 use ring_test_support::{on_each, on_fixed, on_growable};
-use ring_slots::RingSlots;
 use ringbuffer::{DoubleEndedRing, FixedRing, GrowableAllocRingBuffer, RingBuffer};
 use std::process::Abort;
 

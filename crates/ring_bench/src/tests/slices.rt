@@ -119,7 +119,12 @@ fn assert_extends<R: Extended + Drop>(rt: &impl Abort, mut ring: R, limit: usize
         for start in 0..STARTS {
             assert_steps(rt, &mut ring, &[Begin(start), PushAll(items)]);
             assert!(rt; ring.extend_by(slice).is_ok());
-            let again = [DequeueAll(left), Begin(start), PushAll(items), Extend(slice)];
+            let again = [
+                DequeueAll(left),
+                Begin(start),
+                PushAll(items),
+                Extend(slice),
+            ];
             assert_steps(rt, &mut ring, &again);
             assert_steps(rt, &mut ring, &[DequeueAll(left)]);
         }
