@@ -137,6 +137,9 @@ fn slices_are_put_behind_the_items(rt: HostRuntime) {
     on_heap!(&rt, 5, assert_extends, 5);
     on_array!(&rt, 5, assert_extends, 5);
     on_growable!(&rt, 0, assert_extends, usize::MAX);
+    let mut ring = GrowableAllocRingBuffer::new(rt.alloc());
+    assert_equal(&rt, ring.extend_from_slice(&[1; 5000]).is_ok(), true);
+    assert_equal(&rt, ring.len(), 5000);
 }
 
 /// Copies the items of each row, which begin at each place.
