@@ -1,7 +1,7 @@
 //! Tests of the calls of rings, of runs and of moves, by public calls.
 //!
-//! A test is a list of calls with their answers, or a function that is generic over the ring. A macro of
-//! `ring_test_support` calls such a function on a new ring of each type.
+//! A test is a list of calls with their answers, rows of items, a call and what that leaves, or a function that is generic
+//! over the ring. A macro of `ring_test_support` calls such a function on a new ring of each type.
 
 mod both_ends;
 mod bytes;
