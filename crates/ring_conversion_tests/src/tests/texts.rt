@@ -56,8 +56,8 @@ fn assert_spells<R: RingBuffer<char> + Drop>(rt: &impl Abort, mut ring: R, text:
     assert_equal(rt, ring.dequeue(), None);
 }
 
-/// Makes a ring of the text "abc", in a drought if it is said what that spares. It holds these characters, and the text `left`
-/// after a push of 'd'. Returns whether it was made.
+/// Makes a ring of the text "abc", in a drought if it is said what that spares. It holds these characters, and `left` after
+/// a push of 'd'. Returns whether it was made.
 fn is_spelled<R: Spelled + Drop>(
     rt: &(impl Abort + AllocGlobal),
     is_lent: bool,
