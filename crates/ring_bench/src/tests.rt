@@ -1,12 +1,11 @@
 //! Tests of the calls of rings, of runs and of moves, by public calls.
 //!
-//! A test is a list of calls with their answers, or a function that is generic over the ring. A macro of
-//! `ring_test_support` calls such a function on a new ring of each type.
+//! A test is a list of calls with their answers, rows of items, a call and what that leaves, or a function that is generic
+//! over the ring. A macro of `ring_test_support` calls such a function on a new ring of each type.
 
 mod both_ends;
 mod bytes;
 mod collections;
-mod ends;
 mod faults;
 mod fills;
 mod middle;
@@ -20,8 +19,8 @@ mod sums;
 mod uses;
 mod windows;
 
-use ring_test_support::steps::{Step, first_fault};
-use ringbuffer::RingBuffer;
+use ring_test_support::steps::{Row, Step, first_fault, first_fault_of_rows};
+use ringbuffer::{DoubleEndedRing, RingBuffer};
 use std::fmt::Debug;
 use std::process::Abort;
 
@@ -32,17 +31,22 @@ fn assert_equal<T: PartialEq + Debug + Drop>(rt: &impl Abort, found: T, wanted: 
 }
 
 /// Asserts that each of the calls answers what its step says.
-fn assert_steps<R: RingBuffer<i64>>(rt: &impl Abort, ring: &mut R, steps: &[Step]) {
+fn assert_steps<R: DoubleEndedRing<i64>>(rt: &impl Abort, ring: &mut R, steps: &[Step]) {
     assert_equal(rt, first_fault(ring, steps), None);
 }
 
 /// Does the calls of a list, each of which answers what its step says.
-fn answers<R: RingBuffer<i64> + Drop>(rt: &impl Abort, mut ring: R, name: &str, steps: &[Step]) {
+fn answers<R: DoubleEndedRing<i64> + Drop>(
+    rt: &impl Abort,
+    mut ring: R,
+    name: &str,
+    steps: &[Step],
+) {
     assert_equal(rt, (name, first_fault(&mut ring, steps)), (name, None));
 }
 
 /// Does the calls of a list on a ring that has `slots` slots before and after.
-fn answers_in_slots<R: RingBuffer<i64> + Drop>(
+fn answers_in_slots<R: DoubleEndedRing<i64> + Drop>(
     rt: &impl Abort,
     mut ring: R,
     slots: usize,
@@ -63,17 +67,9 @@ fn push_all<R: RingBuffer<i64>>(rt: &impl Abort, ring: &mut R, items: &[i64]) {
     }
 }
 
-/// How many places the items of a ring begin at: from the first slot on.
-const STARTS: usize = 8;
-
-/// Leaves these items and no other, which begin `start` places after the first slot.
-fn lay<R: RingBuffer<i64>>(rt: &impl Abort, ring: &mut R, start: usize, items: &[i64]) {
-    ring.clear();
-    for _ in 0..start {
-        push_all(rt, ring, &[0]);
-        ring.skip();
-    }
-    push_all(rt, ring, items);
+/// Asserts what the call of each row answers and leaves, on items that begin at each place.
+fn assert_rows<R: DoubleEndedRing<i64> + Drop>(rt: &impl Abort, mut ring: R, rows: &[Row]) {
+    assert_equal(rt, first_fault_of_rows(&mut ring, rows), None);
 }
 
 /// Asserts that the ring holds these items and no other, in order.
@@ -82,12 +78,4 @@ fn assert_holds<R: RingBuffer<i64>>(rt: &impl Abort, ring: &R, items: &[i64]) {
     for (i, item) in items.iter().enumerate() {
         assert_equal(rt, (i, ring.get(i).copied()), (i, Some(*item)));
     }
-}
-
-/// Asserts that the ring gives up these items and then no other, in order.
-fn assert_gives<R: RingBuffer<i64>>(rt: &impl Abort, ring: &mut R, items: &[i64]) {
-    for item in items {
-        assert_equal(rt, ring.dequeue(), Some(*item));
-    }
-    assert_equal(rt, ring.dequeue(), None);
 }

@@ -3,6 +3,7 @@
 ghost use Rattle.std.specs.Prelude.{◌<◌};
 
 mod conversions;
+mod rows;
 mod sources;
 mod texts;
 

@@ -8,7 +8,6 @@ mod memory;
 mod own;
 mod refused;
 mod slots;
-mod windows;
 
 use ring_test_support::counted::{Counted, Supply};
 use ring_test_support::drought::Drought;

@@ -4,6 +4,5 @@
 pub mod commands;
 pub mod counted;
 pub mod drought;
-pub mod own_calls;
 pub mod rings;
 pub mod steps;

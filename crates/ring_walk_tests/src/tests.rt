@@ -2,13 +2,12 @@
 //!
 //! A test is a function that is generic over the ring. A macro of `ring_test_support` calls it on a new ring of each type.
 
-mod both_ends;
 mod comparison;
 mod ranges;
 mod walks;
 
 use ring_test_support::steps::{Step, first_fault};
-use ringbuffer::RingBuffer;
+use ringbuffer::{DoubleEndedRing, RingBuffer};
 use std::fmt::Debug;
 use std::process::Abort;
 
@@ -19,8 +18,13 @@ fn assert_equal<T: PartialEq + Debug + Drop>(rt: &impl Abort, found: T, wanted: 
 }
 
 /// Asserts that each of the calls answers what its step says.
-fn assert_steps<R: RingBuffer<i64>>(rt: &impl Abort, ring: &mut R, steps: &[Step]) {
+fn assert_steps<R: DoubleEndedRing<i64>>(rt: &impl Abort, ring: &mut R, steps: &[Step]) {
     assert_equal(rt, first_fault(ring, steps), None);
+}
+
+/// Asserts that each of the calls of a list answers what its step says.
+fn answers<R: DoubleEndedRing<i64> + Drop>(rt: &impl Abort, mut ring: R, steps: &[Step]) {
+    assert_steps(rt, &mut ring, steps);
 }
 
 /// Pushes the items in order. None is refused.

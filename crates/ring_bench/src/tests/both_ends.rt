@@ -1,7 +1,6 @@
-//! The calls of `DoubleEndedRing`, by code that knows the trait alone, and callers of it.
+//! Callers of `DoubleEndedRing`.
 
-use super::ends::{KEPT, POPS, assert_left};
-use super::{STARTS, assert_equal, lay};
+use super::assert_equal;
 use ring_test_support::{on_each, on_fixed, on_growable};
 use ring_uses::both_ends::{
     count_to_drain, drain_ends, drain_newest_first, forget_all_but, forget_all_but_in_growable,
@@ -13,70 +12,6 @@ use ringbuffer::{
 };
 use std::alloc::AllocError;
 use std::process::Abort;
-
-/// The items of a ring, what `push_front` of 9 returns, and what is left.
-type Fronted = (&'static [i64], Result<Option<i64>, i64>, &'static [i64]);
-
-/// On a ring of five.
-const FRONTED: &[Fronted] = &[
-    (&[], Ok(None), &[9]),
-    (&[1, 2, 3, 4], Ok(None), &[9, 1, 2, 3, 4]),
-    (&[1, 2, 3, 4, 5], Ok(Some(5)), &[9, 1, 2, 3, 4]),
-];
-
-const FRONTED_WITHOUT_LIMIT: &[Fronted] = &[
-    (&[], Ok(None), &[9]),
-    (&[1, 2, 3, 4], Ok(None), &[9, 1, 2, 3, 4]),
-    (&[1, 2, 3, 4, 5], Ok(None), &[9, 1, 2, 3, 4, 5]),
-];
-
-/// Asserts what `push_front` does on the items of each row, which begin at each place.
-fn assert_fronts<R: DoubleEndedRing<i64> + Drop>(
-    rt: &impl Abort,
-    mut ring: R,
-    rows: &'static [Fronted],
-) {
-    for (items, answer, left) in rows {
-        for start in 0..STARTS {
-            lay(rt, &mut ring, start, items);
-            assert_equal(rt, (start, ring.push_front(9)), (start, *answer));
-            assert_left(rt, &mut ring, left);
-        }
-    }
-}
-
-/// Asserts what `pop_back` does on the items of each row, which begin at each place.
-fn assert_pops<R: DoubleEndedRing<i64> + Drop>(rt: &impl Abort, mut ring: R) {
-    for (items, popped, left) in POPS {
-        for start in 0..STARTS {
-            lay(rt, &mut ring, start, items);
-            assert_equal(rt, (start, ring.pop_back()), (start, *popped));
-            assert_left(rt, &mut ring, left);
-        }
-    }
-}
-
-/// Asserts what `truncate` and `keep_newest` do on the items of each row, which begin at each place.
-fn assert_keeps<R: DoubleEndedRing<i64> + Drop>(rt: &impl Abort, mut ring: R) {
-    for (items, len, oldest, newest) in KEPT {
-        for start in 0..STARTS {
-            lay(rt, &mut ring, start, items);
-            ring.truncate(*len);
-            assert_left(rt, &mut ring, oldest);
-            lay(rt, &mut ring, start, items);
-            ring.keep_newest(*len);
-            assert_left(rt, &mut ring, newest);
-        }
-    }
-}
-
-#[test]
-fn any_double_ended_ring_changes_at_both_ends(rt: HostRuntime) {
-    on_fixed!(&rt, 5, assert_fronts, FRONTED);
-    on_growable!(&rt, 5, assert_fronts, FRONTED_WITHOUT_LIMIT);
-    on_each!(&rt, 5, assert_pops);
-    on_each!(&rt, 5, assert_keeps);
-}
 
 /// Pushes the numbers in order. None is refused.
 fn push_numbers<R: RingBuffer<u32>>(rt: &impl Abort, ring: &mut R, numbers: &[u32]) {

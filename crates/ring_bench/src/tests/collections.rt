@@ -5,9 +5,10 @@ ghost use Rattle.std.specs.Prelude.{List, ℤ};
 use super::assert_equal;
 use ring_test_support::{on_each, on_fixed, on_growable};
 use ringbuffer::RingBuffer;
+use std::iter::repeat_n;
 use std::process::Abort;
 
-/// Adds four numbers to a ring that holds one already, as to any collection.
+/// Adds four numbers to a ring that holds one already, as to any collection, and then two thousand.
 fn assert_adds<R: RingBuffer<i64> + Extend<i64> + Drop>(rt: &impl Abort, mut ring: R, items: &[i64])
     requires { (old : R) (xs : List ℤ) → R.can_extend old xs }
 {
@@ -17,6 +18,8 @@ fn assert_adds<R: RingBuffer<i64> + Extend<i64> + Drop>(rt: &impl Abort, mut rin
     for (i, item) in items.iter().enumerate() {
         assert_equal(rt, ring.get(i).copied(), Some(*item));
     }
+    let many = Extend::extend(&mut ring, repeat_n(7, 2000));
+    assert_equal(rt, (many.is_ok(), ring.back().copied()), (true, Some(7)));
 }
 
 #[test]

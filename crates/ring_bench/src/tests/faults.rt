@@ -8,7 +8,7 @@ use ring_test_support::steps::Step::{
     GetSigned, Holds, IsFull, Len, Push, PushAll, PushToLen, WriteBack,
 };
 use ring_test_support::steps::{Outcome, Step, first_fault};
-use ringbuffer::RingBuffer;
+use ringbuffer::DoubleEndedRing;
 use std::process::Abort;
 
 /// Steps on a full ring of 1 and 2, and what comes of each.
@@ -34,7 +34,7 @@ const FAULTS: &[(Step, Outcome)] = &[
     (Contains(2, false), Answered(Contains(2, true))),
 ];
 
-fn has_faults<R: RingBuffer<i64> + Drop>(rt: &impl Abort, mut ring: R) {
+fn has_faults<R: DoubleEndedRing<i64> + Drop>(rt: &impl Abort, mut ring: R) {
     for (step, outcome) in FAULTS {
         let found = first_fault(&mut ring, &[Clear, PushAll(&[1, 2]), *step, Len(9)]);
         assert_equal(rt, found, Some((2, *outcome)));

@@ -4,7 +4,7 @@ use super::{assert_equal, assert_holds, push_all};
 use ring_test_support::steps::Step::{DequeueAll, Fill, FillDefault, Len, PushAll};
 use ring_test_support::steps::{Step, first_fault};
 use ring_test_support::{on_each, on_fixed, on_growable};
-use ringbuffer::{AllocRingBuffer, GrowableAllocRingBuffer, RingBuffer};
+use ringbuffer::{AllocRingBuffer, DoubleEndedRing, GrowableAllocRingBuffer, RingBuffer};
 use std::alloc::AllocError;
 use std::process::Abort;
 
@@ -12,7 +12,7 @@ use std::process::Abort;
 const FILLS: &[(Step, &[i64])] = &[(FillDefault, &[0, 0, 0, 0]), (Fill(3), &[3, 3, 3, 3])];
 
 /// Fills a ring of four over none to three items.
-fn assert_fills<R: RingBuffer<i64> + Drop>(rt: &impl Abort, mut ring: R) {
+fn assert_fills<R: DoubleEndedRing<i64> + Drop>(rt: &impl Abort, mut ring: R) {
     let over: [&'static [i64]; 4] = [&[], &[1], &[1, 1], &[1, 1, 1]];
     for (fill, filled) in FILLS {
         for held in over {

@@ -1,260 +1,193 @@
-//! The calls of fixed rings that refuse when full, put an item first, or go to an index.
+//! The calls at both ends and at any index, filters and searches, on items that begin at each place.
 
-use super::ends::assert_left;
-use super::{STARTS, assert_equal, lay};
-use ring_test_support::on_fixed;
-use ringbuffer::{AllocRingBuffer, ConstGenericRingBuffer, RingBuffer};
-use std::process::Abort;
+ghost use Rattle.std.specs.Prelude.{◌<◌};
 
-/// The calls that both fixed rings have of their own and no trait of the library has.
-trait Middle: RingBuffer<i64> {
-    fn try_push(&mut self, item: i64) -> Result<(), i64>;
+use super::{assert_equal, assert_rows, assert_steps};
+use ring_test_support::steps::Row;
+use ring_test_support::steps::Step::{
+    Begin, Below, Capacity, Holds, Insert, KeepNewest, Leaves, PopBack, PushAll, PushFront, Remove,
+    RemoveRange, RetainAlternate, RetainEven, RotateLeft, RotateRight, Search, Swap, Truncate,
+    TryPush,
+};
+use ring_test_support::{on_each, on_fixed, on_growable};
+use ringbuffer::AllocRingBuffer;
 
-    fn push_front(&mut self, item: i64) -> Option<i64>;
+const FIVE: &[i64] = &[1, 2, 3, 4, 5];
 
-    fn remove(&mut self, index: usize) -> Option<i64>;
-
-    /// Calls `insert`, at the length where the index is above it.
-    fn insert(&mut self, index: usize, item: i64) -> Result<(), i64>;
-
-    /// Calls `rotate_left` if the ring has as many items.
-    fn rotate_left(&mut self, count: usize);
-
-    /// Calls `rotate_right` if the ring has as many items.
-    fn rotate_right(&mut self, count: usize);
-
-    /// Calls `swap` if the ring has both items.
-    fn swap(&mut self, first: usize, second: usize);
-}
-
-impl<const CAP: usize> Middle for ConstGenericRingBuffer<i64, CAP> {
-    fn try_push(&mut self, item: i64) -> Result<(), i64> {
-        ConstGenericRingBuffer::try_push(self, item)
-    }
-
-    fn push_front(&mut self, item: i64) -> Option<i64> {
-        ConstGenericRingBuffer::push_front(self, item)
-    }
-
-    fn remove(&mut self, index: usize) -> Option<i64> {
-        ConstGenericRingBuffer::remove(self, index)
-    }
-
-    fn insert(&mut self, index: usize, item: i64) -> Result<(), i64> {
-        ConstGenericRingBuffer::insert(self, index.min(self.len()), item)
-    }
-
-    fn rotate_left(&mut self, count: usize) {
-        if count <= self.len() {
-            ConstGenericRingBuffer::rotate_left(self, count);
-        }
-    }
-
-    fn rotate_right(&mut self, count: usize) {
-        if count <= self.len() {
-            ConstGenericRingBuffer::rotate_right(self, count);
-        }
-    }
-
-    fn swap(&mut self, first: usize, second: usize) {
-        if first < self.len() && second < self.len() {
-            ConstGenericRingBuffer::swap(self, first, second);
-        }
-    }
-}
-
-impl Middle for AllocRingBuffer<i64> {
-    fn try_push(&mut self, item: i64) -> Result<(), i64> {
-        AllocRingBuffer::try_push(self, item)
-    }
-
-    fn push_front(&mut self, item: i64) -> Option<i64> {
-        AllocRingBuffer::push_front(self, item)
-    }
-
-    fn remove(&mut self, index: usize) -> Option<i64> {
-        AllocRingBuffer::remove(self, index)
-    }
-
-    fn insert(&mut self, index: usize, item: i64) -> Result<(), i64> {
-        AllocRingBuffer::insert(self, index.min(self.len()), item)
-    }
-
-    fn rotate_left(&mut self, count: usize) {
-        if count <= self.len() {
-            AllocRingBuffer::rotate_left(self, count);
-        }
-    }
-
-    fn rotate_right(&mut self, count: usize) {
-        if count <= self.len() {
-            AllocRingBuffer::rotate_right(self, count);
-        }
-    }
-
-    fn swap(&mut self, first: usize, second: usize) {
-        if first < self.len() && second < self.len() {
-            AllocRingBuffer::swap(self, first, second);
-        }
-    }
-}
-
-/// The items of a ring of five, what `try_push` of 9 answers, and what is left.
-const TRIED: &[(&[i64], Result<(), i64>, &[i64])] = &[
-    (&[], Ok(()), &[9]),
-    (&[1, 2, 3, 4], Ok(()), &[1, 2, 3, 4, 9]),
-    (&[1, 2, 3, 4, 5], Err(9), &[1, 2, 3, 4, 5]),
+/// On a ring of five that is full.
+const FULL: &[Row] = &[
+    (FIVE, TryPush(9, Err(9)), FIVE),
+    (FIVE, Insert(2, 9, Err(9)), FIVE),
+    (FIVE, PushFront(9, Ok(Some(5))), &[9, 1, 2, 3, 4]),
 ];
 
-/// The items of a ring of five, what `push_front` of 9 answers, and what is left.
-const FRONTED: &[(&[i64], Option<i64>, &[i64])] = &[
-    (&[], None, &[9]),
-    (&[1, 2, 3, 4], None, &[9, 1, 2, 3, 4]),
-    (&[1, 2, 3, 4, 5], Some(5), &[9, 1, 2, 3, 4]),
+const WITHOUT_LIMIT: &[Row] = &[
+    (FIVE, TryPush(9, Ok(())), &[1, 2, 3, 4, 5, 9]),
+    (FIVE, Insert(2, 9, Ok(())), &[1, 2, 9, 3, 4, 5]),
+    (FIVE, PushFront(9, Ok(None)), &[9, 1, 2, 3, 4, 5]),
 ];
 
-/// The items of a ring, an index, what `remove` answers there, and what is left.
-const REMOVED: &[(&[i64], usize, Option<i64>, &[i64])] = &[
-    (&[], 0, None, &[]),
-    (&[7], 0, Some(7), &[]),
-    (&[7], 1, None, &[7]),
-    (&[1, 2, 3, 4, 5], 0, Some(1), &[2, 3, 4, 5]),
-    (&[1, 2, 3, 4, 5], 1, Some(2), &[1, 3, 4, 5]),
-    (&[1, 2, 3, 4, 5], 2, Some(3), &[1, 2, 4, 5]),
-    (&[1, 2, 3, 4, 5], 3, Some(4), &[1, 2, 3, 5]),
-    (&[1, 2, 3, 4, 5], 4, Some(5), &[1, 2, 3, 4]),
-    (&[1, 2, 3, 4, 5], 5, None, &[1, 2, 3, 4, 5]),
-    (&[1, 2, 3, 4, 5], usize::MAX, None, &[1, 2, 3, 4, 5]),
+/// On a ring with room for five.
+const PUT: &[Row] = &[
+    (&[], TryPush(9, Ok(())), &[9]),
+    (&[1, 2, 3, 4], TryPush(9, Ok(())), &[1, 2, 3, 4, 9]),
+    (&[], PushFront(9, Ok(None)), &[9]),
+    (&[1, 2, 3, 4], PushFront(9, Ok(None)), &[9, 1, 2, 3, 4]),
+    (&[], Insert(0, 9, Ok(())), &[9]),
+    (&[7], Insert(0, 9, Ok(())), &[9, 7]),
+    (&[7], Insert(1, 9, Ok(())), &[7, 9]),
+    (&[1, 2, 3, 4], Insert(0, 9, Ok(())), &[9, 1, 2, 3, 4]),
+    (&[1, 2, 3, 4], Insert(1, 9, Ok(())), &[1, 9, 2, 3, 4]),
+    (&[1, 2, 3, 4], Insert(2, 9, Ok(())), &[1, 2, 9, 3, 4]),
+    (&[1, 2, 3, 4], Insert(3, 9, Ok(())), &[1, 2, 3, 9, 4]),
+    (&[1, 2, 3, 4], Insert(4, 9, Ok(())), &[1, 2, 3, 4, 9]),
 ];
 
-/// The items of a ring of five, an index, what `insert` of 9 answers there, and what is left.
-const INSERTED: &[(&[i64], usize, Result<(), i64>, &[i64])] = &[
-    (&[], 0, Ok(()), &[9]),
-    (&[7], 0, Ok(()), &[9, 7]),
-    (&[7], 1, Ok(()), &[7, 9]),
-    (&[1, 2, 3, 4], 0, Ok(()), &[9, 1, 2, 3, 4]),
-    (&[1, 2, 3, 4], 1, Ok(()), &[1, 9, 2, 3, 4]),
-    (&[1, 2, 3, 4], 2, Ok(()), &[1, 2, 9, 3, 4]),
-    (&[1, 2, 3, 4], 3, Ok(()), &[1, 2, 3, 9, 4]),
-    (&[1, 2, 3, 4], 4, Ok(()), &[1, 2, 3, 4, 9]),
-    (&[1, 2, 3, 4, 5], 2, Err(9), &[1, 2, 3, 4, 5]),
+const TAKEN: &[Row] = &[
+    (&[], PopBack(None), &[]),
+    (&[7], PopBack(Some(7)), &[]),
+    (&[1, 2], PopBack(Some(2)), &[1]),
+    (FIVE, PopBack(Some(5)), &[1, 2, 3, 4]),
+    (&[], Remove(0, None), &[]),
+    (&[7], Remove(0, Some(7)), &[]),
+    (&[7], Remove(1, None), &[7]),
+    (FIVE, Remove(0, Some(1)), &[2, 3, 4, 5]),
+    (FIVE, Remove(1, Some(2)), &[1, 3, 4, 5]),
+    (FIVE, Remove(2, Some(3)), &[1, 2, 4, 5]),
+    (FIVE, Remove(3, Some(4)), &[1, 2, 3, 5]),
+    (FIVE, Remove(4, Some(5)), &[1, 2, 3, 4]),
+    (FIVE, Remove(5, None), FIVE),
+    (FIVE, Remove(usize::MAX, None), FIVE),
 ];
 
-/// The items of a ring, a count, and the items after `rotate_left` and after `rotate_right` by it.
-const ROTATED: &[(&[i64], usize, &[i64], &[i64])] = &[
-    (&[], 0, &[], &[]),
-    (&[7], 1, &[7], &[7]),
-    (&[1, 2, 3, 4, 5], 0, &[1, 2, 3, 4, 5], &[1, 2, 3, 4, 5]),
-    (&[1, 2, 3, 4, 5], 1, &[2, 3, 4, 5, 1], &[5, 1, 2, 3, 4]),
-    (&[1, 2, 3, 4, 5], 2, &[3, 4, 5, 1, 2], &[4, 5, 1, 2, 3]),
-    (&[1, 2, 3, 4, 5], 4, &[5, 1, 2, 3, 4], &[2, 3, 4, 5, 1]),
-    (&[1, 2, 3, 4, 5], 5, &[1, 2, 3, 4, 5], &[1, 2, 3, 4, 5]),
+/// What keeps or drops the items of one end, of a range, or of a filter.
+const KEPT: &[Row] = &[
+    (&[], Truncate(3), &[]),
+    (&[7], Truncate(0), &[]),
+    (&[7], Truncate(2), &[7]),
+    (FIVE, Truncate(0), &[]),
+    (FIVE, Truncate(2), &[1, 2]),
+    (FIVE, Truncate(4), &[1, 2, 3, 4]),
+    (FIVE, Truncate(5), FIVE),
+    (FIVE, Truncate(usize::MAX), FIVE),
+    (&[], KeepNewest(3), &[]),
+    (&[7], KeepNewest(0), &[]),
+    (&[7], KeepNewest(2), &[7]),
+    (FIVE, KeepNewest(0), &[]),
+    (FIVE, KeepNewest(2), &[4, 5]),
+    (FIVE, KeepNewest(4), &[2, 3, 4, 5]),
+    (FIVE, KeepNewest(5), FIVE),
+    (FIVE, KeepNewest(usize::MAX), FIVE),
+    (&[], RemoveRange(0, 3), &[]),
+    (&[7], RemoveRange(0, 1), &[]),
+    (FIVE, RemoveRange(0, 2), &[3, 4, 5]),
+    (FIVE, RemoveRange(1, 3), &[1, 4, 5]),
+    (FIVE, RemoveRange(2, 4), &[1, 2, 5]),
+    (FIVE, RemoveRange(3, usize::MAX), &[1, 2, 3]),
+    (FIVE, RemoveRange(0, 5), &[]),
+    (FIVE, RemoveRange(2, 2), FIVE),
+    (FIVE, RemoveRange(4, 1), FIVE),
+    (FIVE, RemoveRange(5, 9), FIVE),
+    (&[], RetainEven, &[]),
+    (&[7], RetainEven, &[]),
+    (&[8], RetainEven, &[8]),
+    (FIVE, RetainEven, &[2, 4]),
+    (&[2, 4, 6, 8, 10], RetainEven, &[2, 4, 6, 8, 10]),
+    (&[1, 3, 5, 7, 9], RetainEven, &[]),
+    (&[7], RetainAlternate, &[7]),
+    (FIVE, RetainAlternate, &[1, 3, 5]),
 ];
 
-/// Asserts what `try_push` and `push_front` do on the items of each row, which begin at each place.
-fn assert_puts<R: Middle + Drop>(rt: &impl Abort, mut ring: R) {
-    for start in 0..STARTS {
-        for (items, answer, left) in TRIED {
-            lay(rt, &mut ring, start, items);
-            assert_equal(rt, (start, ring.try_push(9)), (start, *answer));
-            assert_left(rt, &mut ring, left);
-        }
-        for (items, answer, left) in FRONTED {
-            lay(rt, &mut ring, start, items);
-            assert_equal(rt, (start, ring.push_front(9)), (start, *answer));
-            assert_left(rt, &mut ring, left);
-        }
+const TURNED: &[Row] = &[
+    (&[], RotateLeft(0), &[]),
+    (&[7], RotateLeft(1), &[7]),
+    (FIVE, RotateLeft(0), FIVE),
+    (FIVE, RotateLeft(1), &[2, 3, 4, 5, 1]),
+    (FIVE, RotateLeft(2), &[3, 4, 5, 1, 2]),
+    (FIVE, RotateLeft(4), &[5, 1, 2, 3, 4]),
+    (FIVE, RotateLeft(5), FIVE),
+    (&[], RotateRight(0), &[]),
+    (&[7], RotateRight(1), &[7]),
+    (FIVE, RotateRight(0), FIVE),
+    (FIVE, RotateRight(1), &[5, 1, 2, 3, 4]),
+    (FIVE, RotateRight(2), &[4, 5, 1, 2, 3]),
+    (FIVE, RotateRight(4), &[2, 3, 4, 5, 1]),
+    (FIVE, RotateRight(5), FIVE),
+    (&[7], Swap(0, 0), &[7]),
+    (&[1, 2], Swap(0, 1), &[2, 1]),
+    (FIVE, Swap(3, 3), FIVE),
+    (FIVE, Swap(0, 4), &[5, 2, 3, 4, 1]),
+    (FIVE, Swap(3, 1), &[1, 4, 3, 2, 5]),
+];
+
+// On the heap a ring of five has spare slots, and one of eight has none.
+#[test]
+fn items_are_put_taken_and_turned_at_any_index(rt: HostRuntime) {
+    on_fixed!(&rt, 5, assert_rows, FULL);
+    on_growable!(&rt, 5, assert_rows, WITHOUT_LIMIT);
+    for rows in [PUT, TAKEN, KEPT, TURNED] {
+        on_each!(&rt, 5, assert_rows, rows);
+        on_each!(&rt, 8, assert_rows, rows);
     }
 }
 
-/// Asserts what `remove` and `insert` do on the items of each row, which begin at each place.
-fn assert_edits<R: Middle + Drop>(rt: &impl Abort, mut ring: R) {
-    for start in 0..STARTS {
-        for (items, index, answer, left) in REMOVED {
-            lay(rt, &mut ring, start, items);
-            assert_equal(rt, (start, ring.remove(*index)), (start, *answer));
-            assert_left(rt, &mut ring, left);
-        }
-        for (items, index, answer, left) in INSERTED {
-            lay(rt, &mut ring, start, items);
-            assert_equal(rt, (start, ring.insert(*index, 9)), (start, *answer));
-            assert_left(rt, &mut ring, left);
-        }
-    }
-}
+/// The items of std's own examples of searches.
+const FIBONACCI: &[i64] = &[0, 1, 1, 1, 1, 2, 3, 5, 8, 13, 21, 34, 55];
 
-/// Asserts what rotations do on the items of each row, which begin at each place.
-fn assert_rotates<R: Middle + Drop>(rt: &impl Abort, mut ring: R) {
-    for (items, count, left, right) in ROTATED {
-        for start in 0..STARTS {
-            lay(rt, &mut ring, start, items);
-            ring.rotate_left(*count);
-            assert_left(rt, &mut ring, left);
-            lay(rt, &mut ring, start, items);
-            ring.rotate_right(*count);
-            assert_left(rt, &mut ring, right);
-        }
-    }
-}
+const RISING: &[i64] = &[1, 2, 3, 3, 5, 6, 7];
 
-/// The items of a ring, two indexes, and the items after a `swap` of both.
-const SWAPPED: &[(&[i64], usize, usize, &[i64])] = &[
-    (&[7], 0, 0, &[7]),
-    (&[1, 2], 0, 1, &[2, 1]),
-    (&[1, 2, 3, 4, 5], 3, 3, &[1, 2, 3, 4, 5]),
-    (&[1, 2, 3, 4, 5], 0, 4, &[5, 2, 3, 4, 1]),
-    (&[1, 2, 3, 4, 5], 3, 1, &[1, 4, 3, 2, 5]),
+/// A search finds the first of several that are equal.
+const SEARCHED: &[Row] = &[
+    (FIBONACCI, Search(13, Ok(9)), FIBONACCI),
+    (FIBONACCI, Search(4, Err(7)), FIBONACCI),
+    (FIBONACCI, Search(100, Err(13)), FIBONACCI),
+    (FIBONACCI, Search(1, Ok(1)), FIBONACCI),
+    (FIBONACCI, Search(-1, Err(0)), FIBONACCI),
+    (FIBONACCI, Search(0, Ok(0)), FIBONACCI),
+    (FIBONACCI, Search(55, Ok(12)), FIBONACCI),
+    (&[], Search(5, Err(0)), &[]),
+    (&[5], Search(4, Err(0)), &[5]),
+    (&[5], Search(5, Ok(0)), &[5]),
+    (&[5], Search(6, Err(1)), &[5]),
+    (&[3, 3, 3, 3], Search(3, Ok(0)), &[3, 3, 3, 3]),
+    (RISING, Below(5, 4), RISING),
+    (RISING, Below(3, 2), RISING),
+    (RISING, Below(1, 0), RISING),
+    (RISING, Below(8, 7), RISING),
+    (FIBONACCI, Below(100, 13), FIBONACCI),
+    (&[], Below(5, 0), &[]),
+    (&[5], Below(5, 0), &[5]),
+    (&[5], Below(6, 1), &[5]),
 ];
-
-/// Asserts what `swap` does on the items of each row, which begin at each place.
-fn assert_swaps<R: Middle + Drop>(rt: &impl Abort, mut ring: R) {
-    for (items, first, second, left) in SWAPPED {
-        for start in 0..STARTS {
-            lay(rt, &mut ring, start, items);
-            ring.swap(*first, *second);
-            assert_left(rt, &mut ring, left);
-        }
-    }
-}
 
 #[test]
-fn items_are_put_taken_and_turned_at_an_index(rt: HostRuntime) {
-    on_fixed!(&rt, 5, assert_swaps);
-    on_fixed!(&rt, 5, assert_puts);
-    on_fixed!(&rt, 5, assert_edits);
-    on_fixed!(&rt, 5, assert_rotates);
+fn a_search_asks_of_few_items(rt: HostRuntime) {
+    on_each!(&rt, 13, assert_rows, SEARCHED);
+    on_each!(&rt, 16, assert_rows, SEARCHED);
 }
 
 /// The items of a ring of five, another capacity, and what is left.
 const RESIZED: &[(&[i64], usize, &[i64])] = &[
     (&[], 1, &[]),
-    (&[1, 2, 3, 4, 5], 1, &[5]),
-    (&[1, 2, 3, 4, 5], 4, &[2, 3, 4, 5]),
-    (&[1, 2, 3, 4, 5], 5, &[1, 2, 3, 4, 5]),
+    (FIVE, 1, &[5]),
+    (FIVE, 4, &[2, 3, 4, 5]),
+    (FIVE, 5, FIVE),
     (&[1, 2, 3], 100, &[1, 2, 3]),
+    (FIVE, (1 << 20) + 1, FIVE),
 ];
 
-/// Gives a heap ring of five the capacity of each row, and five again.
-fn assert_resizes(rt: &impl Abort, mut ring: AllocRingBuffer<i64>) {
-    for (items, capacity, left) in RESIZED {
-        for start in 0..STARTS {
-            lay(rt, &mut ring, start, items);
-            if *capacity > 0 {
-                ring.set_capacity(*capacity).expect(rt, "memory");
-            }
-            assert_equal(rt, ring.capacity(), *capacity);
-            ring.set_capacity(5).expect(rt, "memory");
-            assert_left(rt, &mut ring, left);
-        }
-    }
-}
-
+// A capacity of its own has no step, since one type alone has it.
 #[test]
 fn a_heap_ring_is_given_another_capacity(rt: HostRuntime) {
     let mut ring = AllocRingBuffer::new(rt.alloc(), 5).expect(&rt, "memory");
-    lay(&rt, &mut ring, 3, &[1, 2, 3]);
-    assert_equal(&rt, ring.set_capacity(usize::MAX).is_err(), true);
-    assert_equal(&rt, ring.capacity(), 5);
-    assert_left(&rt, &mut ring, &[1, 2, 3]);
-    assert_resizes(&rt, ring);
+    for (items, capacity, left) in RESIZED {
+        assert_steps(&rt, &mut ring, &[Begin(3), PushAll(items)]);
+        assert_equal(&rt, ring.set_capacity(usize::MAX).is_err(), true);
+        assert_steps(&rt, &mut ring, &[Capacity(5), Holds(items)]);
+        assert!(&rt; 0 < *capacity);
+        ring.set_capacity(*capacity).expect(&rt, "memory");
+        assert_steps(&rt, &mut ring, &[Capacity(*capacity)]);
+        ring.set_capacity(5).expect(&rt, "memory");
+        assert_steps(&rt, &mut ring, &[Leaves(left)]);
+    }
 }

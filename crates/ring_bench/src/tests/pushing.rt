@@ -10,7 +10,7 @@ use ring_test_support::steps::Step::{
     IsEmpty, IsFull, Len, Push, PushAll, PushToLen, Skip,
 };
 use ring_test_support::{on_array, on_each, on_fixed, on_growable, on_heap};
-use ringbuffer::{AllocRingBuffer, ConstGenericRingBuffer, RingBuffer};
+use ringbuffer::{AllocRingBuffer, ConstGenericRingBuffer, DoubleEndedRing, RingBuffer};
 use std::process::Abort;
 
 /// Calls of a ring of two that overwrites an item.
@@ -285,7 +285,7 @@ const IN_ONE_SLOT: &[&[Step]] = &[
 ];
 
 /// Pushes a thousand items onto a heap ring of three.
-fn keeps_the_last_three<R: RingBuffer<i64> + Drop>(rt: &impl Abort, mut ring: R) {
+fn keeps_the_last_three<R: DoubleEndedRing<i64> + Drop>(rt: &impl Abort, mut ring: R) {
     for item in 0..1000 {
         push_all(rt, &mut ring, &[item]);
     }
@@ -315,7 +315,7 @@ const LAST_TEN: &[Step] = &[
 ];
 
 /// Pushes thousands of items, of which a ring of ten keeps the last.
-fn keeps_the_last_ten<R: RingBuffer<i64> + Drop>(rt: &impl Abort, mut ring: R) {
+fn keeps_the_last_ten<R: DoubleEndedRing<i64> + Drop>(rt: &impl Abort, mut ring: R) {
     for _ in 0..100 {
         for item in 0..1000 {
             assert!(rt; ring.enqueue(item).is_ok());
@@ -337,7 +337,7 @@ const COMES_AND_GOES: &[Step] = &[
     GetSigned(-2, Some(1)),
 ];
 
-fn comes_and_goes<R: RingBuffer<i64> + Drop>(rt: &impl Abort, mut ring: R) {
+fn comes_and_goes<R: DoubleEndedRing<i64> + Drop>(rt: &impl Abort, mut ring: R) {
     for _ in 0..100_000 {
         assert_steps(rt, &mut ring, COMES_AND_GOES);
     }
@@ -371,7 +371,7 @@ impl Iterator for Numbers {
     }
 }
 
-fn takes_ten_thousand_numbers<R: RingBuffer<i64> + Drop>(rt: &impl Abort, mut ring: R) {
+fn takes_ten_thousand_numbers<R: DoubleEndedRing<i64> + Drop>(rt: &impl Abort, mut ring: R) {
     let numbers = Numbers {
         next: 0,
         end: 10_000,

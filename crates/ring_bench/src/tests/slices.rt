@@ -1,61 +1,76 @@
 //! Whole slices in and out.
 
-use super::{STARTS, assert_equal, assert_gives, assert_holds, lay, push_all};
+use super::{assert_equal, assert_steps};
+use ring_slots::RingSlots;
+use ring_test_support::steps::STARTS;
+use ring_test_support::steps::Step::{Begin, DequeueAll, Extend, Holds, Leaves, PushAll};
 use ring_test_support::{on_array, on_each, on_growable, on_heap};
-use ringbuffer::{AllocRingBuffer, ConstGenericRingBuffer, GrowableAllocRingBuffer, RingBuffer};
+use ringbuffer::{
+    AllocRingBuffer, ConstGenericRingBuffer, DoubleEndedRing, FixedRing, GrowableAllocRingBuffer,
+    RingBuffer,
+};
 use std::alloc::{AllocError, Global};
 use std::process::Abort;
 
-/// The calls that each ring type has of its own and no trait of the library has.
-trait Slices: RingBuffer<i64> {
-    fn extend_from_slice(&mut self, items: &[i64]) -> Result<(), AllocError>;
-
+/// The calls of each ring type that copy items, which no trait of the library has.
+trait Slices: DoubleEndedRing<i64> {
     fn copy_to_slice(&self, output: &mut [i64]) -> usize;
 
     fn dequeue_into(&mut self, output: &mut [i64]) -> usize;
+
+    fn to_vec_copied(&self, alloc: Global) -> Result<Vec<i64>, AllocError>;
 }
 
-impl<const CAP: usize> Slices for ConstGenericRingBuffer<i64, CAP> {
-    fn extend_from_slice(&mut self, items: &[i64]) -> Result<(), AllocError> {
-        ConstGenericRingBuffer::extend_from_slice(self, items);
-        Ok(())
-    }
-
+impl<S: RingSlots<i64>> Slices for FixedRing<i64, S> {
     fn copy_to_slice(&self, output: &mut [i64]) -> usize {
-        ConstGenericRingBuffer::copy_to_slice(self, output)
+        FixedRing::copy_to_slice(self, output)
     }
 
     fn dequeue_into(&mut self, output: &mut [i64]) -> usize {
-        ConstGenericRingBuffer::dequeue_into(self, output)
-    }
-}
-
-impl Slices for AllocRingBuffer<i64> {
-    fn extend_from_slice(&mut self, items: &[i64]) -> Result<(), AllocError> {
-        AllocRingBuffer::extend_from_slice(self, items);
-        Ok(())
+        FixedRing::dequeue_into(self, output)
     }
 
-    fn copy_to_slice(&self, output: &mut [i64]) -> usize {
-        AllocRingBuffer::copy_to_slice(self, output)
-    }
-
-    fn dequeue_into(&mut self, output: &mut [i64]) -> usize {
-        AllocRingBuffer::dequeue_into(self, output)
+    fn to_vec_copied(&self, alloc: Global) -> Result<Vec<i64>, AllocError> {
+        FixedRing::to_vec_copied(self, alloc)
     }
 }
 
 impl Slices for GrowableAllocRingBuffer<i64> {
-    fn extend_from_slice(&mut self, items: &[i64]) -> Result<(), AllocError> {
-        GrowableAllocRingBuffer::extend_from_slice(self, items)
-    }
-
     fn copy_to_slice(&self, output: &mut [i64]) -> usize {
         GrowableAllocRingBuffer::copy_to_slice(self, output)
     }
 
     fn dequeue_into(&mut self, output: &mut [i64]) -> usize {
         GrowableAllocRingBuffer::dequeue_into(self, output)
+    }
+
+    fn to_vec_copied(&self, alloc: Global) -> Result<Vec<i64>, AllocError> {
+        GrowableAllocRingBuffer::to_vec_copied(self, alloc)
+    }
+}
+
+/// A ring that is extended by a slice of numbers.
+trait Extended: DoubleEndedRing<i64> {
+    fn extend_by(&mut self, items: &[i64]) -> Result<(), AllocError>;
+}
+
+impl<const CAP: usize> Extended for ConstGenericRingBuffer<i64, CAP> {
+    fn extend_by(&mut self, items: &[i64]) -> Result<(), AllocError> {
+        self.extend_from_slice(items);
+        Ok(())
+    }
+}
+
+impl Extended for AllocRingBuffer<i64> {
+    fn extend_by(&mut self, items: &[i64]) -> Result<(), AllocError> {
+        self.extend_from_slice(items);
+        Ok(())
+    }
+}
+
+impl Extended for GrowableAllocRingBuffer<i64> {
+    fn extend_by(&mut self, items: &[i64]) -> Result<(), AllocError> {
+        self.extend_from_slice(items)
     }
 }
 
@@ -97,31 +112,22 @@ const COPIES: &[(&[i64], usize, &[i64])] = &[
     (&[1, 2, 3, 4, 5], 5, &[1, 2, 3, 4, 5, 9]),
 ];
 
-/// Extends by a slice, or by its items, and finds the last of all items that the limit allows.
-fn assert_extended<R: Slices>(
-    rt: &impl Abort,
-    ring: &mut R,
-    limit: usize,
-    items: &[i64],
-    slice: &[i64],
-    all: &[i64],
-) -> Result<(), AllocError> {
-    let left = &all[all.len().saturating_sub(limit)..];
-    for start in 0..STARTS {
-        lay(rt, ring, start, items);
-        ring.extend_from_slice(slice)?;
-        assert_gives(rt, ring, left);
-        lay(rt, ring, start, items);
-        ring.extend(slice.iter().copied())?;
-        assert_gives(rt, ring, left);
-    }
-    Ok(())
-}
-
-/// Extends by the slice of each row.
-fn assert_extends<R: Slices + Drop>(rt: &impl Abort, mut ring: R, limit: usize) {
+/// Extends by the slice of each row and by its items, and finds the last of all items that the limit allows.
+fn assert_extends<R: Extended + Drop>(rt: &impl Abort, mut ring: R, limit: usize) {
     for (items, slice, all) in EXTENSIONS {
-        assert_extended(rt, &mut ring, limit, items, slice, all).expect(rt, "memory");
+        let left = &all[all.len().saturating_sub(limit)..];
+        for start in 0..STARTS {
+            assert_steps(rt, &mut ring, &[Begin(start), PushAll(items)]);
+            assert!(rt; ring.extend_by(slice).is_ok());
+            let again = [
+                DequeueAll(left),
+                Begin(start),
+                PushAll(items),
+                Extend(slice),
+            ];
+            assert_steps(rt, &mut ring, &again);
+            assert_steps(rt, &mut ring, &[DequeueAll(left)]);
+        }
     }
 }
 
@@ -131,57 +137,46 @@ fn slices_are_put_behind_the_items(rt: HostRuntime) {
     on_heap!(&rt, 5, assert_extends, 5);
     on_array!(&rt, 5, assert_extends, 5);
     on_growable!(&rt, 0, assert_extends, usize::MAX);
-}
-
-/// Asserts what `copy_to_slice` and `dequeue_into` do on the items of a row, and what the second leaves.
-fn assert_copied<R: Slices>(
-    rt: &impl Abort,
-    ring: &mut R,
-    start: usize,
-    items: &[i64],
-    count: usize,
-    copied: &[i64],
-) {
-    lay(rt, ring, start, items);
-    let mut output = [9; 6];
-    let output = &mut output[..copied.len().min(6)];
-    assert_equal(rt, ring.copy_to_slice(output), count);
-    assert_equal(rt, &*output, copied);
-    assert_holds(rt, ring, items);
-    output.fill(9);
-    assert_equal(rt, ring.dequeue_into(output), count);
-    assert_equal(rt, &*output, copied);
-    push_all(rt, ring, &[8]);
-    assert_dequeues(rt, ring, items, count);
-    assert_gives(rt, ring, &[8]);
-}
-
-/// Takes out the items of a list after its first `count`.
-fn assert_dequeues<R: Slices>(rt: &impl Abort, ring: &mut R, items: &[i64], count: usize) {
-    for item in items.iter().skip(count) {
-        assert_equal(rt, ring.dequeue(), Some(*item));
-    }
+    let mut ring = GrowableAllocRingBuffer::new(rt.alloc());
+    assert_equal(&rt, ring.extend_from_slice(&[1; 5000]).is_ok(), true);
+    assert_equal(&rt, ring.len(), 5000);
 }
 
 /// Copies the items of each row, which begin at each place.
-fn assert_copies<R: Slices + Drop>(rt: &impl Abort, mut ring: R) {
+fn assert_copies<R: Slices + Drop>(rt: &impl Abort, mut ring: R, alloc: Global) {
     for (items, count, copied) in COPIES {
         for start in 0..STARTS {
-            assert_copied(rt, &mut ring, start, items, *count, copied);
+            assert_steps(rt, &mut ring, &[Begin(start), PushAll(items)]);
+            let copies = ring.to_vec_copied(alloc).expect(rt, "memory");
+            assert_equal(rt, &*copies, items);
+            let mut output = [9; 6];
+            let output = &mut output[..copied.len().min(6)];
+            assert_equal(rt, ring.copy_to_slice(output), *count);
+            assert_equal(rt, &*output, copied);
+            assert_steps(rt, &mut ring, &[Holds(items)]);
+            output.fill(9);
+            assert_equal(rt, ring.dequeue_into(output), *count);
+            assert_equal(rt, &*output, copied);
+            assert_steps(rt, &mut ring, &[Leaves(&items[*count..])]);
         }
     }
 }
 
 #[test]
 fn items_are_copied_to_slices(rt: HostRuntime) {
-    on_each!(&rt, 6, assert_copies);
-    on_heap!(&rt, 8, assert_copies);
+    on_each!(&rt, 6, assert_copies, rt.alloc());
+    on_heap!(&rt, 8, assert_copies, rt.alloc());
 }
 
 /// Finds the items of a heap ring in two slices only where they go round its slots, and then in one, which is turned round
 /// before one more is pushed.
-fn assert_turned(rt: &impl Abort, ring: &mut AllocRingBuffer<i64>, start: usize, items: &[i64]) {
-    lay(rt, ring, start, items);
+fn assert_turned(
+    rt: &impl Abort,
+    ring: &mut AllocRingBuffer<i64>,
+    start: usize,
+    items: &'static [i64],
+) {
+    assert_steps(rt, ring, &[Begin(start), PushAll(items)]);
     // The number of slots is a power of two.
     let slots = ring.buffer_size();
     let to_the_last = slots.saturating_sub(start & slots.wrapping_sub(1));
@@ -192,75 +187,38 @@ fn assert_turned(rt: &impl Abort, ring: &mut AllocRingBuffer<i64>, start: usize,
     );
     assert_equal(rt, &*ring.make_contiguous(), items);
     assert_equal(rt, ring.as_slices(), (items, [].as_slice()));
-    assert_holds(rt, ring, items);
+    assert_steps(rt, ring, &[Holds(items)]);
     ring.make_contiguous().reverse();
-    push_all(rt, ring, &[9]);
+    assert_steps(rt, ring, &[PushAll(&[9])]);
     let left = ring.capacity().min(items.len() + 1);
     for item in items.iter().rev().skip(items.len() + 1 - left) {
         assert_equal(rt, ring.dequeue(), Some(*item));
     }
-    assert_gives(rt, ring, &[9]);
+    assert_steps(rt, ring, &[DequeueAll(&[9])]);
 }
 
-/// Makes one slice of none to eight items, as many as a heap ring may hold, from every start.
-fn assert_one_slice(rt: &impl Abort, mut ring: AllocRingBuffer<i64>) {
-    for len in 0..=ring.capacity().min(8) {
-        let (items, _) = [1, 2, 3, 4, 5, 6, 7, 8].split_at(len);
-        for start in 0..STARTS {
-            assert_turned(rt, &mut ring, start, items);
-        }
-    }
-}
+const EIGHT: &[i64] = &[1, 2, 3, 4, 5, 6, 7, 8];
 
 #[test]
 fn items_are_made_one_slice(rt: HostRuntime) -> Result<(), AllocError> {
     for capacity in [1, 2, 3, 5, 8] {
-        assert_one_slice(&rt, AllocRingBuffer::new(rt.alloc(), capacity)?);
+        let mut ring = AllocRingBuffer::new(rt.alloc(), capacity)?;
+        for len in 0..=capacity {
+            let items = &EIGHT[..len.min(8)];
+            for start in 0..STARTS {
+                assert_turned(&rt, &mut ring, start, items);
+            }
+        }
     }
     let mut ring = GrowableAllocRingBuffer::with_capacity(rt.alloc(), 5)?;
     for start in 0..STARTS {
-        lay(&rt, &mut ring, start, &[1, 2, 3, 4, 5]);
+        assert_steps(&rt, &mut ring, &[Begin(start), PushAll(&[1, 2, 3, 4, 5])]);
         let all = ring.make_contiguous();
         assert_eq!(rt; &*all, [1, 2, 3, 4, 5].as_slice());
         all[4] = 6;
         let second = ring.as_slices().1;
         assert_equal(&rt, second.len(), 0);
-        assert_gives(&rt, &mut ring, &[1, 2, 3, 4, 6]);
+        assert_steps(&rt, &mut ring, &[DequeueAll(&[1, 2, 3, 4, 6])]);
     }
     Ok(())
-}
-
-/// The call of the rings whose items lie in slices.
-trait Copied: RingBuffer<i64> {
-    fn to_vec_copied(&self, alloc: Global) -> Result<Vec<i64>, AllocError>;
-}
-
-impl Copied for AllocRingBuffer<i64> {
-    fn to_vec_copied(&self, alloc: Global) -> Result<Vec<i64>, AllocError> {
-        AllocRingBuffer::to_vec_copied(self, alloc)
-    }
-}
-
-impl Copied for GrowableAllocRingBuffer<i64> {
-    fn to_vec_copied(&self, alloc: Global) -> Result<Vec<i64>, AllocError> {
-        GrowableAllocRingBuffer::to_vec_copied(self, alloc)
-    }
-}
-
-/// Copies the items of each row, which begin at each place, into a vector.
-fn assert_copies_into_a_vector<R: Copied + Drop>(rt: &impl Abort, mut ring: R, alloc: Global) {
-    for (items, _, _) in COPIES {
-        for start in 0..STARTS {
-            lay(rt, &mut ring, start, items);
-            let copies = ring.to_vec_copied(alloc).expect(rt, "memory");
-            assert_equal(rt, &*copies, items);
-            assert_holds(rt, &ring, items);
-        }
-    }
-}
-
-#[test]
-fn vectors_hold_the_items_in_order(rt: HostRuntime) {
-    on_heap!(&rt, 5, assert_copies_into_a_vector, rt.alloc());
-    on_growable!(&rt, 0, assert_copies_into_a_vector, rt.alloc());
 }

@@ -1,6 +1,6 @@
 //! Rings of the characters of a text, with memory for it and without.
 
-use super::{assert_all_three, assert_equal, drought};
+use super::{assert_all_three, assert_equal, assert_holds, drought};
 use ring_test_support::drought::{is_in_turn, spared};
 use ring_test_support::refused_in_turn;
 use ringbuffer::{AllocRingBuffer, ConstGenericRingBuffer, GrowableAllocRingBuffer, RingBuffer};
@@ -56,8 +56,8 @@ fn assert_spells<R: RingBuffer<char> + Drop>(rt: &impl Abort, mut ring: R, text:
     assert_equal(rt, ring.dequeue(), None);
 }
 
-/// Makes a ring of the text "abc", in a drought if it is said what that spares. A push of 'd' leaves the text `left`. Returns
-/// whether it was made.
+/// Makes a ring of the text "abc", in a drought if it is said what that spares. It holds these characters, and `left` after
+/// a push of 'd'. Returns whether it was made.
 fn is_spelled<R: Spelled + Drop>(
     rt: &(impl Abort + AllocGlobal),
     is_lent: bool,
@@ -75,6 +75,7 @@ fn is_spelled<R: Spelled + Drop>(
     let Ok(mut ring) = made else {
         return false;
     };
+    assert_holds(rt, &ring, &['a', 'b', 'c']);
     assert!(rt; ring.push('d').is_ok());
     assert_spells(rt, ring, left);
     true

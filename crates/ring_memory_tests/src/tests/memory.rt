@@ -2,18 +2,18 @@
 
 use super::{assert_equal, assert_holds, drought, push_all};
 use ring_test_support::commands::{REPLIES_OF_TWO, every_command};
-use ring_test_support::own_calls::OwnCalls;
+use ring_test_support::steps::End::{self, Front};
 use ring_test_support::steps::Step::{
-    Back, Clear, Contains, Dequeue, DequeueAll, Enqueue, Extend, Fill, FillDefault, FillWith,
-    Front, Get, GetSigned, Holds, IsEmpty, Len, Push, PushAll, Skip, Write, WriteBack, WriteFront,
-    WriteSigned,
+    Adds, Back, Clear, Contains, Dequeue, DequeueAll, Drains, Enqueue, Extend, Fill, FillDefault,
+    FillWith, Get, GetSigned, Holds, Insert, IsEmpty, KeepNewest, Len, Lends, PopBack, Push,
+    PushAll, PushFront, Reads, Remove, RemoveRange, RetainEven, RotateLeft, Skip, Swap, TryPush,
+    Write, WriteBack, WriteFront, WriteSigned,
 };
 use ring_test_support::steps::{Outcome, Step, first_fault};
 use ring_test_support::{on_each, on_fixed, on_growable};
 use ringbuffer::{
-    AllocRingBuffer, Command, GrowableAllocRingBuffer, Reply, RingBuffer,
-    RingBufferDrainingIterator, RingBufferIntoIterator, RingBufferIterator, RingBufferMutIterator,
-    RunFault, apply, move_all, run, run_into,
+    AllocRingBuffer, Command, DoubleEndedRing, GrowableAllocRingBuffer, Reply, RingBuffer,
+    RingBufferExt, RingBufferIntoIterator, RunFault, apply, move_all, run, run_into,
 };
 use std::alloc::AllocError;
 use std::mem::size_of;
@@ -111,7 +111,7 @@ fn a_ring_of_items_without_size_has_any_capacity_and_no_memory(
 }
 
 /// Pushes and extends in a drought, and then again. The ring has no room.
-fn assert_refused<R: RingBuffer<i64> + Drop>(rt: &(impl Abort + AllocGlobal), mut ring: R) {
+fn assert_refused<R: DoubleEndedRing<i64> + Drop>(rt: &(impl Abort + AllocGlobal), mut ring: R) {
     let drought = drought(rt, 0);
     let pushed = ring.push(7);
     let by_push = first_fault(&mut ring, &[Len(0), Push(&[(1, None)])]);
@@ -221,7 +221,7 @@ fn slices_of_a_heap_ring_take_no_memory(rt: HostRuntime) -> Result<(), AllocErro
 }
 
 /// Pushes the items, and does the calls in a drought.
-fn assert_takes_none<R: RingBuffer<i64> + Drop>(
+fn assert_takes_none<R: DoubleEndedRing<i64> + Drop>(
     rt: &(impl Abort + AllocGlobal),
     mut ring: R,
     items: &[i64],
@@ -253,7 +253,7 @@ const LOOKS: &[Step] = &[
     IsEmpty(false),
     Get(4, Some(2)),
     GetSigned(-1, Some(3)),
-    Front(Some(1)),
+    Step::Front(Some(1)),
     Back(Some(3)),
     Contains(2, true),
     Contains(4, false),
@@ -276,6 +276,27 @@ const WRITES_AND_TAKES: &[Step] = &[
     Dequeue(None),
 ];
 
+/// Changes a ring of 1, 2 and 3 at its ends and between, and walks over it.
+const WALKS: &[Step] = &[
+    Reads(&[Front, End::Back], &[1, 3]),
+    Adds(&[(Front, 3), (End::Back, 6)]),
+    Lends(&[Front, Front], &[4, 2]),
+    Swap(0, 1),
+    RotateLeft(1),
+    Holds(&[4, 9, 2]),
+    PopBack(Some(2)),
+    TryPush(7, Ok(())),
+    Remove(0, Some(4)),
+    PushFront(5, Ok(None)),
+    KeepNewest(2),
+    Insert(1, 6, Ok(())),
+    Holds(&[9, 6, 7]),
+    RemoveRange(0, 1),
+    RetainEven,
+    Drains(&[Front], &[6]),
+    IsEmpty(true),
+];
+
 /// Asks in a drought what room there is.
 fn assert_room_takes_none<R: RingBuffer<i64> + Drop>(rt: &(impl Abort + AllocGlobal), mut ring: R) {
     push_all(rt, &mut ring, &[1, 2, 3]);
@@ -292,52 +313,16 @@ fn calls_that_are_never_refused_take_no_memory(rt: HostRuntime) {
     on_fixed!(&rt, 2, assert_takes_none, &[], CHANGES_OF_TWO);
     on_each!(&rt, 3, assert_takes_none, &[1, 2, 3], LOOKS);
     on_each!(&rt, 3, assert_takes_none, &[1, 2, 3], WRITES_AND_TAKES);
+    on_each!(&rt, 3, assert_takes_none, &[1, 2, 3], WALKS);
+    on_each!(&rt, 3, assert_walk_takes_none);
     on_each!(&rt, 3, assert_room_takes_none);
 }
 
-fn assert_read<R: RingBuffer<i64>>(
-    rt: &impl Abort,
-    walk: RingBufferIterator<'_, i64, R>,
-    items: [i64; 3],
-) {
-    assert!(rt; walk.copied().eq(items));
-}
-
-fn write<R: RingBuffer<i64>>(rt: &impl Abort, mut walk: RingBufferMutIterator<'_, i64, R>) {
-    *walk.next().expect(rt, "a first item") = 4;
-    *walk.next_back().expect(rt, "a last item") = 9;
-}
-
-fn assert_drains_first<R: RingBuffer<i64>>(
-    rt: &impl Abort,
-    mut walk: RingBufferDrainingIterator<'_, i64, R>,
-    item: i64,
-) {
-    assert_equal(rt, walk.next(), Some(item));
-}
-
-fn assert_rest<R: RingBuffer<i64> + Drop>(rt: &impl Abort, walk: RingBufferIntoIterator<i64, R>) {
-    assert!(rt; walk.eq([9]));
-}
-
-/// Indexes a ring and walks over it in a drought.
-fn assert_walks_take_none<R: OwnCalls + Drop>(rt: &(impl Abort + AllocGlobal), mut ring: R) {
+/// Takes 1, 2 and 3 by an owning walk in a drought.
+fn assert_walk_takes_none<R: RingBuffer<i64> + Drop>(rt: &(impl Abort + AllocGlobal), mut ring: R) {
     push_all(rt, &mut ring, &[1, 2, 3]);
     let _drought = drought(rt, 0);
-    assert_read(rt, RingBufferIterator::new(&ring), [1, 2, 3]);
-    assert_equal(rt, ring.item(4), Some(2));
-    *ring.item_mut(4).expect(rt, "an item") = 5;
-    assert_read(rt, ring.iter(), [1, 5, 3]);
-    write(rt, ring.iter_mut());
-    write(rt, RingBufferMutIterator::new(&mut ring));
-    assert_drains_first(rt, ring.drain(), 4);
-    assert_drains_first(rt, RingBufferDrainingIterator::new(&mut ring), 5);
-    assert_rest(rt, ring.into_walk());
-}
-
-#[test]
-fn walks_and_indexes_take_no_memory(rt: HostRuntime) {
-    on_each!(&rt, 3, assert_walks_take_none);
+    assert!(rt; RingBufferIntoIterator::new(ring).eq([1, 2, 3]));
 }
 
 #[test]

@@ -1,6 +1,7 @@
 //! A ring of the tests' own, which fills by the bodies of the trait. Each ring of the library has a `fill` of its own.
 
 ghost use Rattle.std.specs.Prelude.{None, refl, slice_set};
+ghost use Rattle.ring_core.proofs.Limits.{counts_none};
 
 use ringbuffer::{GrowableAllocRingBuffer, RingBuffer};
 use std::alloc::{AllocError, Global};
@@ -33,6 +34,8 @@ impl<T: Drop> RingBuffer<T> for OwnRing<T> {
     ghost sets_item = { λ _ _ _. refl };
 
     ghost keeps_limit = { λ _ _ _. refl };
+
+    ghost counts_write = { λ s _ _. counts_none (λ _. None) s refl };
 
     fn len(&self) -> usize {
         self.ring.len()

@@ -8,7 +8,6 @@ use super::{
 };
 use ring_test_support::counted::{Counted, Supply};
 use ring_test_support::drought::{Drought, MOST_STEPS, is_in_turn, spared};
-use ring_test_support::own_calls::Twin;
 use ring_test_support::{on_each, on_growable, on_heap, refused_in_turn};
 use ringbuffer::{
     AllocRingBuffer, Command, ConstGenericRingBuffer, GrowableAllocRingBuffer, Refused, Reply,
@@ -40,7 +39,7 @@ enum Copying {
 
 /// Clones the items of a ring of the first three items of a supply of `most`, in a drought if it is said what that
 /// spares. The ring is as it was. Returns whether the clone was made.
-fn is_copied<'a, R: RingBuffer<Counted<'a>> + Twin + Drop>(
+fn is_copied<'a, R: RingBuffer<Counted<'a>> + Clone + Drop>(
     rt: &(impl Abort + AllocGlobal),
     ring: &mut R,
     supply: &'a Supply,
@@ -55,7 +54,7 @@ fn is_copied<'a, R: RingBuffer<Counted<'a>> + Twin + Drop>(
     };
     let is_made = match copying {
         Copying::Ring => {
-            let made = ring.twin();
+            let made: Result<R, AllocError> = ring.clone();
             drop(drought);
             is_cloned(rt, made)
         }
@@ -102,7 +101,7 @@ fn are_numbered(items: &[Counted<'_>], first: usize) -> bool {
 }
 
 /// Clones the items of a ring where from none to three clones are had.
-fn assert_clones_refused<'a, R: RingBuffer<Counted<'a>> + Twin + Drop>(
+fn assert_clones_refused<'a, R: RingBuffer<Counted<'a>> + Clone + Drop>(
     rt: &(impl Abort + AllocGlobal),
     mut ring: R,
     supply: &'a Supply,
@@ -116,7 +115,7 @@ fn assert_clones_refused<'a, R: RingBuffer<Counted<'a>> + Twin + Drop>(
 }
 
 /// Clones the items of a ring in one drought after the other.
-fn assert_copies_refused<'a, R: RingBuffer<Counted<'a>> + Twin + Drop>(
+fn assert_copies_refused<'a, R: RingBuffer<Counted<'a>> + Clone + Drop>(
     rt: &(impl Abort + AllocGlobal),
     mut ring: R,
     supply: &'a Supply,
@@ -253,12 +252,12 @@ fn assert_fills_take_none<R: RingBuffer<i64> + Drop>(rt: &(impl Abort + AllocGlo
 }
 
 /// Compares a ring with its clone, and then with a shorter one.
-fn assert_comparison_takes_none<R: RingBuffer<i64> + PartialEq + Twin + Drop>(
+fn assert_comparison_takes_none<R: RingBuffer<i64> + PartialEq + Clone + Drop>(
     rt: &(impl Abort + AllocGlobal),
     mut one: R,
 ) {
     push_all(rt, &mut one, &[1, 2]);
-    let mut other = one.twin().expect(rt, "memory");
+    let mut other = one.clone().expect(rt, "memory");
     let drought = drought(rt, 0);
     let equal = one == other;
     other.skip();

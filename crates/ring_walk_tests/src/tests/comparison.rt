@@ -1,10 +1,11 @@
 //! Equality, clones and what `{:?}` writes.
 
 use super::{assert_equal, assert_holds, assert_steps, push_all};
-use ring_test_support::own_calls::Twin;
 use ring_test_support::steps::Step;
 use ring_test_support::{on_fixed, on_growable, on_heap};
-use ringbuffer::{AllocRingBuffer, ConstGenericRingBuffer, GrowableAllocRingBuffer, RingBuffer};
+use ringbuffer::{
+    AllocRingBuffer, ConstGenericRingBuffer, DoubleEndedRing, GrowableAllocRingBuffer, RingBuffer,
+};
 use std::alloc::AllocError;
 use std::fmt::Debug;
 use std::process::Abort;
@@ -42,7 +43,7 @@ const LATER_SLOTS: &[Step] = &[
 ];
 
 /// Compares two new rings with room for four.
-fn assert_equal_where_items_are<R: RingBuffer<i64> + PartialEq + Drop>(
+fn assert_equal_where_items_are<R: DoubleEndedRing<i64> + PartialEq + Drop>(
     rt: &impl Abort,
     mut one: R,
     mut other: R,
@@ -81,7 +82,7 @@ fn heap_rings_of_two_capacities_differ(rt: HostRuntime) -> Result<(), AllocError
 
 /// Pushes the items `before`, then some more, then the same onto the ring and its clone. Both then hold the items `held`.
 /// On a fixed ring those in `before` are overwritten.
-fn assert_stays_equal<R: RingBuffer<i64> + PartialEq + Twin + Drop>(
+fn assert_stays_equal<R: RingBuffer<i64> + PartialEq + Clone + Drop>(
     rt: &impl Abort,
     mut ring: R,
     before: &[i64],
@@ -89,7 +90,7 @@ fn assert_stays_equal<R: RingBuffer<i64> + PartialEq + Twin + Drop>(
 ) {
     push_all(rt, &mut ring, before);
     push_all(rt, &mut ring, &[42, 32, 22]);
-    let mut twin = ring.twin().expect(rt, "memory");
+    let mut twin = ring.clone().expect(rt, "memory");
     assert_compares(rt, &twin, &ring, true);
     push_all(rt, &mut ring, &[11, 12]);
     push_all(rt, &mut twin, &[11, 12]);
@@ -107,19 +108,19 @@ fn a_clone_stays_equal_under_the_same_pushes(rt: HostRuntime) {
 }
 
 /// Clones an empty ring.
-fn assert_cloned_empty<R: RingBuffer<i64> + PartialEq + Twin + Drop>(rt: &impl Abort, ring: R) {
-    let twin = ring.twin().expect(rt, "memory");
+fn assert_cloned_empty<R: RingBuffer<i64> + PartialEq + Clone + Drop>(rt: &impl Abort, ring: R) {
+    let twin = ring.clone().expect(rt, "memory");
     assert_compares(rt, &twin, &ring, true);
     assert_holds(rt, &twin, &[]);
 }
 
 /// Pushes onto a clone, which leaves its source.
-fn assert_source_is_left<R: RingBuffer<i64> + PartialEq + Twin + Drop>(
+fn assert_source_is_left<R: RingBuffer<i64> + PartialEq + Clone + Drop>(
     rt: &impl Abort,
     mut ring: R,
 ) {
     push_all(rt, &mut ring, &[1, 2]);
-    let mut twin = ring.twin().expect(rt, "memory");
+    let mut twin = ring.clone().expect(rt, "memory");
     push_all(rt, &mut twin, &[11, 12]);
     assert_holds(rt, &ring, &[1, 2]);
     assert_holds(rt, &twin, &[1, 2, 11, 12]);

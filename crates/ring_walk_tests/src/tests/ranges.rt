@@ -3,11 +3,7 @@
 use super::{assert_equal, assert_steps, push_all};
 use ring_test_support::on_each;
 use ring_test_support::steps::Step;
-use ringbuffer::{
-    AllocRingBuffer, ConstGenericRingBuffer, GrowableAllocRingBuffer, RingBuffer,
-    RingBufferIterator,
-};
-use std::alloc::AllocError;
+use ringbuffer::{DoubleEndedRing, RingBuffer, RingBufferExt, RingBufferIterator};
 use std::ops::{Bound, RangeBounds};
 use std::process::Abort;
 
@@ -34,7 +30,7 @@ fn assert_range<R: RingBuffer<i64>, X: RangeBounds<usize>>(
 )
     requires { X.has_bounds range }
 {
-    assert_gives(rt, RingBufferIterator::range(ring, range), items);
+    assert_gives(rt, ring.range(range), items);
 }
 
 /// Leaves the items from 1 to 7. On a ring of eight slots the last of them lie at the first slots.
@@ -57,7 +53,7 @@ const RANGES: &[(usize, usize, &[i64])] = &[
     (usize::MAX, usize::MAX, &[]),
 ];
 
-fn assert_ranges<R: RingBuffer<i64> + Drop>(rt: &impl Abort, mut ring: R) {
+fn assert_ranges<R: DoubleEndedRing<i64> + Drop>(rt: &impl Abort, mut ring: R) {
     assert_range(rt, &ring, .., &[]);
     assert_range(rt, &ring, 0..3, &[]);
     assert_steps(rt, &mut ring, FROM_ONE_TO_SEVEN);
@@ -76,13 +72,13 @@ fn assert_ranges<R: RingBuffer<i64> + Drop>(rt: &impl Abort, mut ring: R) {
 }
 
 /// Reads a range from both ends.
-fn assert_both_ends<R: RingBuffer<i64> + Drop>(rt: &impl Abort, mut ring: R) {
+fn assert_both_ends<R: DoubleEndedRing<i64> + Drop>(rt: &impl Abort, mut ring: R) {
     assert_steps(rt, &mut ring, FROM_ONE_TO_SEVEN);
-    let mut walk = RingBufferIterator::range(&ring, 1..6);
+    let mut walk = ring.range(1..6);
     assert_equal(rt, walk.next_back().copied(), Some(6));
     assert_equal(rt, walk.nth(1).copied(), Some(3));
     assert_gives(rt, walk, &[4, 5]);
-    let walk = RingBufferIterator::range(&ring, 1..3);
+    let walk = ring.range(1..3);
     assert_equal(rt, walk.last().copied(), Some(3));
 }
 
@@ -91,18 +87,4 @@ fn a_range_is_read(rt: HostRuntime) {
     on_each!(&rt, 8, assert_ranges);
     on_each!(&rt, 7, assert_ranges);
     on_each!(&rt, 8, assert_both_ends);
-}
-
-#[test]
-fn each_ring_reads_a_range_of_its_own(rt: HostRuntime) -> Result<(), AllocError> {
-    let mut array = ConstGenericRingBuffer::<i64, 3>::new();
-    let mut heap = AllocRingBuffer::new(rt.alloc(), 3)?;
-    let mut growable = GrowableAllocRingBuffer::new(rt.alloc());
-    push_all(&rt, &mut array, &[1, 2, 3, 4]);
-    push_all(&rt, &mut heap, &[1, 2, 3, 4]);
-    push_all(&rt, &mut growable, &[1, 2, 3, 4]);
-    assert_gives(&rt, array.range(1..), &[3, 4]);
-    assert_gives(&rt, heap.range(..2), &[2, 3]);
-    assert_gives(&rt, growable.range(1..=2), &[2, 3]);
-    Ok(())
 }

@@ -2,6 +2,7 @@
 
 use super::assert_equal;
 use ring_test_support::drought::Drought;
+use ring_test_support::on_fixed;
 use ringbuffer::{GrowableAllocRingBuffer, RingBuffer};
 use std::process::Abort;
 use window::{Gcd, Kept, Rung, WindowFold, WindowMin, WindowSum};
@@ -94,4 +95,23 @@ fn least_after_a_refused_push(rt: HostRuntime) {
         (window.push(-8), window.min().copied()),
         (Ok(None), Some(-8)),
     );
+}
+
+/// Slides a window over a full ring of two, in a drought.
+fn assert_sums_take_none<R: RingBuffer<i64> + Drop>(rt: &(impl Abort + AllocGlobal), mut ring: R) {
+    assert!(rt; ring.push(5).is_ok() && ring.push(7).is_ok());
+    let drought = Drought::total(rt.alloc()).expect(rt, "memory");
+    let mut window = WindowSum::new(ring);
+    let first = (window.sum(), window.len(), window.forget_oldest());
+    let pushed = (window.push(9), window.push(1));
+    let last = (window.sum(), window.len());
+    drop(drought);
+    assert_equal(rt, first, (12, 2, Some(5)));
+    assert_equal(rt, pushed, (Ok(None), Ok(Some(7))));
+    assert_equal(rt, last, (10, 2));
+}
+
+#[test]
+fn a_window_over_a_fixed_ring_takes_no_memory(rt: HostRuntime) {
+    on_fixed!(&rt, 2, assert_sums_take_none);
 }

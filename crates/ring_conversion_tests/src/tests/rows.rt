@@ -1,0 +1,207 @@
+//! Rings of each source: of two characters, of three numbers, and of deques in two pieces.
+
+use super::{assert_equal, assert_holds};
+use ringbuffer::{AllocRingBuffer, ConstGenericRingBuffer, GrowableAllocRingBuffer, RingBuffer};
+use std::alloc::AllocError;
+use std::collections::{LinkedList, VecDeque};
+use std::process::Abort;
+
+const ITEMS: [char; 2] = ['1', '2'];
+
+/// Asserts that a ring of '1' and '2' was made. It lists them, and these after a push of '3', and equals itself.
+fn assert_lists<R: RingBuffer<char> + PartialEq + Drop>(
+    rt: &(impl Abort + AllocGlobal),
+    made: Result<R, AllocError>,
+    pushed: &[char],
+) {
+    let mut ring = made.expect(rt, "memory");
+    let listed = ring.to_vec(rt.alloc()).expect(rt, "memory");
+    assert_equal(rt, listed.as_slice(), ITEMS.as_slice());
+    assert!(rt; ring.push('3').is_ok());
+    let listed = ring.to_vec(rt.alloc()).expect(rt, "memory");
+    assert_equal(rt, listed.as_slice(), pushed);
+    assert!(rt; ring == ring);
+}
+
+/// Makes a vector of two characters.
+fn vector(rt: &(impl Abort + AllocGlobal)) -> Vec<char> {
+    vec![in rt.alloc(); '1', '2'].expect(rt, "memory")
+}
+
+/// Makes a linked list of two characters.
+fn list(rt: &(impl Abort + AllocGlobal)) -> LinkedList<char> {
+    let mut items = LinkedList::new(rt.alloc());
+    items.push_back('1').expect(rt, "memory");
+    items.push_back('2').expect(rt, "memory");
+    items
+}
+
+/// Makes a text of two characters.
+fn text(rt: &(impl Abort + AllocGlobal)) -> String {
+    String::from_str(rt.alloc(), "12").expect(rt, "memory")
+}
+
+/// Makes an array ring of two characters.
+fn array() -> ConstGenericRingBuffer<char, 2> {
+    ConstGenericRingBuffer::from_text("12")
+}
+
+/// Makes a growable ring of two characters.
+fn growable(rt: &(impl Abort + AllocGlobal)) -> GrowableAllocRingBuffer<char> {
+    GrowableAllocRingBuffer::from(vector(rt))
+}
+
+/// Makes a heap ring of two characters.
+fn heap(rt: &(impl Abort + AllocGlobal)) -> AllocRingBuffer<char> {
+    AllocRingBuffer::from_text(rt.alloc(), "12").expect(rt, "memory")
+}
+
+#[test]
+fn heap_rings_of_two_characters(rt: HostRuntime) {
+    let (rt, alloc, pushed) = (&rt, rt.alloc(), &['2', '3']);
+    let (vector, deque, list) = (vector(rt), VecDeque::from(vector(rt)), list(rt));
+    let (text, array, growable) = (text(rt), array(), growable(rt));
+    assert!(rt; 0 < vector.len() && 0 < deque.len() && 0 < list.len());
+    assert!(rt; 0 < text.len() && 0 < array.len() && 0 < growable.len());
+    assert_lists(rt, AllocRingBuffer::from_vec(alloc, vector), pushed);
+    assert_lists(rt, AllocRingBuffer::from_linked_list(alloc, list), pushed);
+    assert_lists(rt, AllocRingBuffer::from_deque(alloc, deque), pushed);
+    assert_lists(rt, AllocRingBuffer::from_string(alloc, text), pushed);
+    assert_lists(rt, AllocRingBuffer::from_text(alloc, "12"), pushed);
+    assert_lists(rt, AllocRingBuffer::from_slice(alloc, &ITEMS), pushed);
+    assert_lists(rt, AllocRingBuffer::from_array_ref(alloc, &ITEMS), pushed);
+    let places = ITEMS.map(Some);
+    assert_lists(rt, AllocRingBuffer::from_array(alloc, places), pushed);
+    assert_lists(rt, AllocRingBuffer::from_const(alloc, array), pushed);
+    assert_lists(rt, AllocRingBuffer::from_growable(alloc, growable), pushed);
+}
+
+#[test]
+fn growable_rings_of_two_characters(rt: HostRuntime) {
+    let (rt, alloc, pushed) = (&rt, rt.alloc(), &['1', '2', '3']);
+    let deque = VecDeque::from(vector(rt));
+    assert_lists(
+        rt,
+        GrowableAllocRingBuffer::from_vec(alloc, vector(rt)),
+        pushed,
+    );
+    assert_lists(
+        rt,
+        GrowableAllocRingBuffer::from_linked_list(alloc, list(rt)),
+        pushed,
+    );
+    assert_lists(rt, Ok(GrowableAllocRingBuffer::from(deque)), pushed);
+    assert_lists(
+        rt,
+        GrowableAllocRingBuffer::from_string(alloc, text(rt)),
+        pushed,
+    );
+    assert_lists(rt, GrowableAllocRingBuffer::from_text(alloc, "12"), pushed);
+    assert_lists(
+        rt,
+        GrowableAllocRingBuffer::from_slice(alloc, &ITEMS),
+        pushed,
+    );
+    assert_lists(
+        rt,
+        GrowableAllocRingBuffer::from_array_ref(alloc, &ITEMS),
+        pushed,
+    );
+    assert_lists(
+        rt,
+        GrowableAllocRingBuffer::from_array(alloc, ITEMS.map(Some)),
+        pushed,
+    );
+    assert_lists(
+        rt,
+        GrowableAllocRingBuffer::from_const(alloc, array()),
+        pushed,
+    );
+    assert_lists(
+        rt,
+        GrowableAllocRingBuffer::from_alloc(alloc, heap(rt)),
+        pushed,
+    );
+}
+
+#[test]
+fn array_rings_of_two_characters(rt: HostRuntime) {
+    type Array = ConstGenericRingBuffer<char, 2>;
+    let (rt, pushed) = (&rt, &['2', '3']);
+    assert_lists(rt, Ok(Array::from_vec(vector(rt))), pushed);
+    assert_lists(rt, Ok(Array::from_linked_list(list(rt))), pushed);
+    assert_lists(
+        rt,
+        Ok(Array::from_deque(VecDeque::from(vector(rt)))),
+        pushed,
+    );
+    assert_lists(rt, Ok(Array::from_string(text(rt))), pushed);
+    assert_lists(rt, Ok(array()), pushed);
+    assert_lists(rt, Array::from_slice(&ITEMS), pushed);
+    assert_lists(rt, Array::from_array_ref(&ITEMS), pushed);
+    assert_lists(rt, Ok(Array::from_array(ITEMS.map(Some))), pushed);
+    assert_lists(rt, Ok(Array::from_growable(growable(rt))), pushed);
+    assert_lists(rt, Ok(Array::from_alloc(heap(rt))), pushed);
+}
+
+/// Makes a vector of 1, 2 and 3.
+fn numbers(rt: &(impl Abort + AllocGlobal)) -> Vec<i64> {
+    vec![in rt.alloc(); 1, 2, 3].expect(rt, "memory")
+}
+
+/// Asserts that an array ring was made, and holds 1, 2 and 3.
+fn assert_three(rt: &impl Abort, made: Result<ConstGenericRingBuffer<i64, 3>, AllocError>) {
+    assert_holds(rt, &made.expect(rt, "memory"), &[1, 2, 3]);
+}
+
+#[test]
+fn array_rings_of_three_numbers(rt: HostRuntime) {
+    type Array = ConstGenericRingBuffer<i64, 3>;
+    let (rt, mut items) = (&rt, [1, 2, 3]);
+    assert_three(rt, Ok(Array::from_array(items.map(Some))));
+    assert_three(rt, Array::from_array_ref(&items));
+    assert_three(rt, Array::from_slice(&items));
+    assert_three(rt, Array::from_mut_array(&mut items));
+    assert_three(rt, Array::from_mut_slice(&mut items));
+    assert_three(rt, Ok(Array::from_vec(numbers(rt))));
+    assert_three(rt, Ok(Array::from_deque(VecDeque::from(numbers(rt)))));
+    let mut list = LinkedList::new(rt.alloc());
+    for item in items {
+        list.push_back(item).expect(rt, "memory");
+    }
+    assert_three(rt, Ok(Array::from_linked_list(list)));
+    let growable = GrowableAllocRingBuffer::from(numbers(rt));
+    assert_three(rt, Ok(Array::from_growable(growable)));
+    let heap = AllocRingBuffer::from_array_ref(rt.alloc(), &items).expect(rt, "memory");
+    assert_three(rt, Ok(Array::from_alloc(heap)));
+}
+
+/// Makes a deque of 2, 3 and 1, which lie in two pieces.
+fn in_two_pieces(rt: &(impl Abort + AllocGlobal)) -> VecDeque<i64> {
+    let mut deque = VecDeque::from(numbers(rt));
+    for _ in 0..2 {
+        let last = deque.pop_back().expect(rt, "a number");
+        deque.push_front(last).expect(rt, "memory");
+    }
+    assert!(rt; !deque.as_slices().1.is_empty());
+    deque
+}
+
+#[test]
+fn a_deque_in_two_pieces_is_taken_whole(rt: HostRuntime) {
+    let (rt, alloc) = (&rt, rt.alloc());
+    let (deque, growable) = (
+        in_two_pieces(rt),
+        GrowableAllocRingBuffer::from(in_two_pieces(rt)),
+    );
+    assert!(rt; 0 < deque.len() && 0 < growable.len());
+    let of_deque = AllocRingBuffer::from_deque(alloc, deque).expect(rt, "memory");
+    assert_holds(rt, &of_deque, &[2, 3, 1]);
+    let of_growable = AllocRingBuffer::from_growable(alloc, growable).expect(rt, "memory");
+    assert_holds(rt, &of_growable, &[2, 3, 1]);
+    let array = ConstGenericRingBuffer::<i64, 3>::from_deque(in_two_pieces(rt));
+    assert_holds(rt, &array, &[2, 3, 1]);
+    let growable = GrowableAllocRingBuffer::from(in_two_pieces(rt));
+    let array = ConstGenericRingBuffer::<i64, 3>::from_growable(growable);
+    assert_holds(rt, &array, &[2, 3, 1]);
+}
