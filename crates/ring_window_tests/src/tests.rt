@@ -10,7 +10,7 @@ use window::{
     AllocWindowFold, AllocWindowMax, AllocWindowMin, Ascending, BoundingBox,
     ConstGenericWindowFold, ConstGenericWindowMax, ConstGenericWindowMin, Corners, Descending, Gcd,
     Greatest, GrowableAllocWindowFold, GrowableAllocWindowMax, GrowableAllocWindowMin, Kept, Least,
-    Matching, Matrix, Monoid, PolynomialHash, Rung, Sum, Test, WindowFold, WindowLeast, WindowMin,
+    CountIf, Matrix, Monoid, PolynomialHash, Candidate, Sum, Predicate, WindowFold, WindowLeast, WindowMin,
     WindowMoments, WindowSum, WindowTally,
 };
 
@@ -31,7 +31,7 @@ enum Rank {
 }
 
 /// Does the call. Returns it with what the window answered.
-fn ranked<R: RingBuffer<Rung<i64>>>(
+fn ranked<R: RingBuffer<Candidate<i64>>>(
     rt: &impl Abort,
     window: &mut WindowMin<i64, R>,
     rank: Rank,
@@ -51,7 +51,7 @@ fn ranked<R: RingBuffer<Rung<i64>>>(
 }
 
 /// Each of the calls answers what it says.
-fn assert_ranks<R: RingBuffer<Rung<i64>> + Drop>(
+fn assert_ranks<R: RingBuffer<Candidate<i64>> + Drop>(
     rt: &impl Abort,
     mut window: WindowMin<i64, R>,
     ranks: &[Rank],
@@ -123,15 +123,15 @@ fn least_of_the_last_one(rt: HostRuntime) {
 /// A ring that holds items already is ranked, folded and tallied from the first query on.
 #[test]
 fn windows_over_rings_that_hold_items(rt: HostRuntime) {
-    let mut rungs = ConstGenericRingBuffer::<Rung<i64>, 3>::new();
+    let mut candidates = ConstGenericRingBuffer::<Candidate<i64>, 3>::new();
     let mut kept = ConstGenericRingBuffer::<Kept<Gcd>, 3>::new();
     let mut samples = ConstGenericRingBuffer::<i32, 3>::new();
     for sample in [40, 12, 18, 30] {
-        let _ = rungs.push(Rung::new(sample));
+        let _ = candidates.push(Candidate::new(sample));
         let _ = kept.push(Kept::new(Gcd(sample.unsigned_abs())));
         let _ = samples.push(sample as i32);
     }
-    let mut least = WindowMin::new(rungs);
+    let mut least = WindowMin::new(candidates);
     assert_equal(&rt, least.min().copied(), Some(12));
     let _ = least.push(50);
     assert_equal(&rt, least.min().copied(), Some(18));
@@ -173,12 +173,12 @@ fn least_of_texts(rt: HostRuntime) {
 #[derive(Drop)]
 struct Upper;
 
-impl Test<(i64, i64)> for Upper {
+impl Predicate<(i64, i64)> for Upper {
     ghost use Rattle.std.specs.Prelude.{int_lt, pos};
 
-    ghost passes = { λ p. int_lt (pos 0) p.1 };
+    ghost holds = { λ p. int_lt (pos 0) p.1 };
 
-    fn passes(item: &(i64, i64)) -> bool {
+    fn holds(item: &(i64, i64)) -> bool {
         0 < item.1
     }
 }
@@ -186,7 +186,7 @@ impl Test<(i64, i64)> for Upper {
 #[test]
 fn points_in_the_upper_half(rt: HostRuntime) {
     let ring = ConstGenericRingBuffer::<(i64, i64), 2>::new();
-    let mut window = WindowTally::<(i64, i64), Matching<Upper>, _>::new(ring);
+    let mut window = WindowTally::<(i64, i64), CountIf<Upper>, _>::new(ring);
     for point in [(0, 1), (3, -2), (5, 6)] {
         let _ = window.push(point);
     }
@@ -271,7 +271,7 @@ trait Sliding {
     fn by_walk(samples: &VecDeque<i64>) -> Self::Answer;
 }
 
-impl<R: RingBuffer<Rung<i64>>> Sliding for WindowLeast<i64, Ascending, R> {
+impl<R: RingBuffer<Candidate<i64>>> Sliding for WindowLeast<i64, Ascending, R> {
     type Answer = Option<i64>;
 
     fn push(&mut self, rt: &impl Abort, sample: i64) {
@@ -295,7 +295,7 @@ impl<R: RingBuffer<Rung<i64>>> Sliding for WindowLeast<i64, Ascending, R> {
     }
 }
 
-impl<R: RingBuffer<Rung<i64>>> Sliding for WindowLeast<i64, Descending, R> {
+impl<R: RingBuffer<Candidate<i64>>> Sliding for WindowLeast<i64, Descending, R> {
     type Answer = Option<i64>;
 
     fn push(&mut self, rt: &impl Abort, sample: i64) {

@@ -5,7 +5,7 @@ use ring_test_support::drought::Drought;
 use ring_test_support::on_fixed;
 use ringbuffer::{GrowableAllocRingBuffer, RingBuffer};
 use std::process::Abort;
-use window::{Gcd, Kept, Rung, WindowFold, WindowMin, WindowSum};
+use window::{Gcd, Kept, Candidate, WindowFold, WindowMin, WindowSum};
 
 /// Makes a growable ring that has room for four items, or for some more.
 fn roomy<T: Drop>(rt: &(impl Abort + AllocGlobal)) -> GrowableAllocRingBuffer<T> {
@@ -68,7 +68,7 @@ fn fold_after_a_refused_push(rt: HostRuntime) {
 
 #[test]
 fn least_after_a_refused_push(rt: HostRuntime) {
-    let ring = roomy::<Rung<i64>>(&rt);
+    let ring = roomy::<Candidate<i64>>(&rt);
     let room = ring.capacity();
     let mut window = WindowMin::new(ring);
     assert_equal(&rt, (window.push(5), window.push(-7)), (Ok(None), Ok(None)));
