@@ -206,6 +206,8 @@ impl<T: Drop, S: RingSlots<T>> RingBuffer<T> for FixedRing<T, S> {
         // A full ring keeps its length, and has one store less to make.
         if after.len != before.len {
             self.span.len = after.len;
+        } else if S::goes_by_stretch() {
+            keep_in_register(before.len, self.span.len);
         }
         Ok(old)
     }
@@ -294,6 +296,18 @@ impl<T: Drop, S: RingSlots<T>> RingBuffer<T> for FixedRing<T, S> {
     fn get_mut_signed(&mut self, index: isize) -> Option<&mut T> {
         let index = signed_index_at(index, self.len())?;
         Some(self.at_mut(index))
+    }
+}
+
+// Compares a number with the one in memory, which is the same, so the branch is never taken. It is there for the
+// compiler, which can't tell an item's slot from the ring's own fields: a number that is compared again stays in a
+// register in a loop of pushes.
+#[inline]
+fn keep_in_register(number: usize, stored: usize)
+    requires { stored ≡ number }
+{
+    if stored != number {
+        None.unwrap()
     }
 }
 
