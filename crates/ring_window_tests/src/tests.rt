@@ -7,11 +7,11 @@ use std::collections::VecDeque;
 use std::fmt::Debug;
 use std::process::Abort;
 use window::{
-    AllocWindowFold, AllocWindowMax, AllocWindowMin, Ascending, BoundingBox,
-    ConstGenericWindowFold, ConstGenericWindowMax, ConstGenericWindowMin, Corners, Descending, Gcd,
-    Greatest, GrowableAllocWindowFold, GrowableAllocWindowMax, GrowableAllocWindowMin, Kept, Least,
-    CountIf, Matrix, Monoid, PolynomialHash, Candidate, Sum, Predicate, WindowFold, WindowLeast, WindowMin,
-    WindowMoments, WindowSum, WindowTally,
+    AllocWindowFold, AllocWindowMax, AllocWindowMin, Ascending, BoundingBox, Candidate,
+    ConstGenericWindowFold, ConstGenericWindowMax, ConstGenericWindowMin, Corners, CountIf,
+    Descending, Gcd, Greatest, GrowableAllocWindowFold, GrowableAllocWindowMax,
+    GrowableAllocWindowMin, Kept, Least, Matrix, Monoid, PolynomialHash, Predicate, Sum,
+    WindowFold, WindowLeast, WindowMin, WindowMoments, WindowSum, WindowTally,
 };
 
 /// Both are equal. A failure names the test and both values.

@@ -5,7 +5,7 @@
 
 use ringbuffer::{RingBuffer, RingBufferIterator};
 use std::alloc::Global;
-use window::{Kept, Matrix, Candidate, WindowFold, WindowMin, WindowSum};
+use window::{Candidate, Kept, Matrix, WindowFold, WindowMin, WindowSum};
 
 /// The number of items of one extension.
 pub const EXTENSION: u64 = 4096;

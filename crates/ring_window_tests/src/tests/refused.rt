@@ -5,7 +5,7 @@ use ring_test_support::drought::Drought;
 use ring_test_support::on_fixed;
 use ringbuffer::{GrowableAllocRingBuffer, RingBuffer};
 use std::process::Abort;
-use window::{Gcd, Kept, Candidate, WindowFold, WindowMin, WindowSum};
+use window::{Candidate, Gcd, Kept, WindowFold, WindowMin, WindowSum};
 
 /// Makes a growable ring that has room for four items, or for some more.
 fn roomy<T: Drop>(rt: &(impl Abort + AllocGlobal)) -> GrowableAllocRingBuffer<T> {
