@@ -49,13 +49,13 @@ impl<T: Clone + Drop, const CAP: usize> Made<T> for ConstGenericRingBuffer<T, CA
         }
         match call {
             0 => {
-                let twin = self.clone()?;
-                if !twin.is_empty() {
-                    return try_out(AllocRingBuffer::from_const(alloc, twin)?, player);
+                let items = self.to_vec(alloc)?;
+                if !items.is_empty() {
+                    return try_out(AllocRingBuffer::from_vec(alloc, items)?, player);
                 }
             }
             1 => {
-                let made = GrowableAllocRingBuffer::from_const(alloc, self.clone()?)?;
+                let made = GrowableAllocRingBuffer::from_vec(alloc, self.to_vec(alloc)?)?;
                 return try_out(made, player);
             }
             2 => *self = Self::from_linked_list(list(player)?),
