@@ -5,10 +5,11 @@ ghost use Rattle.std.specs.List.{AllZip};
 ghost use Rattle.ringbuffer.specs.Somes.{somes};
 
 use crate::any_ring::{extend_cloned, extend_somes};
-use crate::array::ConstGenericRingBuffer;
+use crate::fixed::FixedRing;
 use crate::grow::GrowableAllocRingBuffer;
 use crate::heap::AllocRingBuffer;
 use ring_core::RingBuffer;
+use ring_slots::RingSlots;
 use std::alloc::{AllocError, Global};
 use std::collections::{LinkedList, VecDeque};
 
@@ -92,9 +93,9 @@ impl<T: Drop> GrowableAllocRingBuffer<T> {
     /// # Errors
     ///
     /// Where memory was refused. The items are dropped.
-    pub fn from_const<const CAP: usize>(
+    pub fn from_const<S: RingSlots<T>>(
         alloc: Global,
-        ring: ConstGenericRingBuffer<T, CAP>,
+        ring: FixedRing<T, S>,
     ) -> Result<Self, AllocError>
         ensures { IfOk result (λ made. made ≡ ring.items) }
     {

@@ -6,10 +6,11 @@ ghost use Rattle.ringbuffer.specs.Somes.{somes};
 ghost use Rattle.ringbuffer.specs.Conversion.{ClonesMeet, HoldsAll};
 
 use crate::any_ring::extend_somes;
-use crate::array::ConstGenericRingBuffer;
+use crate::fixed::FixedRing;
 use crate::grow::GrowableAllocRingBuffer;
 use crate::heap::AllocRingBuffer;
 use ring_core::RingBuffer;
+use ring_slots::RingSlots;
 use std::alloc::{AllocError, Global};
 use std::collections::{LinkedList, VecDeque};
 
@@ -110,9 +111,9 @@ impl<T: Drop> AllocRingBuffer<T> {
     /// # Errors
     ///
     /// Where memory was refused. The items are dropped.
-    pub fn from_const<const CAP: usize>(
+    pub fn from_const<S: RingSlots<T>>(
         alloc: Global,
-        ring: ConstGenericRingBuffer<T, CAP>,
+        ring: FixedRing<T, S>,
     ) -> Result<Self, AllocError>
         requires { 0 < length ring.items }
         ensures { IfOk result (HoldsAll ring.items) }
