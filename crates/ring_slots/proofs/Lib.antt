@@ -1,6 +1,7 @@
 mod BlockCalls
 mod Crossing
 mod Parts
+pub mod CopiedOut
 pub mod Filled
 pub mod Lowered
 mod Rows

@@ -1,7 +1,7 @@
 //! Slots that lie in the value itself.
-ghost use Rattle.std.specs.Prelude.{◌≡◌, ◌+◌, ◌<◌, ◌≤◌, ◌++◌, ℕ, List, drop, length, replicate, take, None, Some, refl, slice_index_or};
+ghost use Rattle.std.specs.Prelude.{◌≡◌, ◌+◌, ◌<◌, ◌≤◌, ◌++◌, ℕ, List, drop, length, map, replicate, take, None, Some, refl, slice_index_or};
 ghost use Rattle.std.specs.Borrow.{sem};
-ghost use Rattle.ring_slots.specs.Slots.{changed, passed_down, passed_up, slot_at};
+ghost use Rattle.ring_slots.specs.Slots.{IsEmptyStretch, changed, filled, passed_down, passed_up, slot_at, with_items};
 
 use crate::change_count::ChangeCount;
 use crate::passing::{pass_down, pass_up};
@@ -69,10 +69,33 @@ impl<T, const N: usize> Cells<Option<T>, N> {
     }
 }
 
+impl<T: Copy, const N: usize> Cells<Option<T>, N> {
+    // Writes copies of some items into the elements from a place on.
+    #[inline]
+    fn copy_in(&mut self, from: usize, items: &[T])
+        requires { from + length items.now ≤ N }
+        ensures { self.new.xs ≡ filled self.old.xs from items.now }
+    {
+        let xs = &mut self.xs[..];
+        copy_each(&mut xs[from..from + items.len()], items);
+    }
+}
+
+// Writes copies of some items into as many elements.
+#[inline]
+fn copy_each<T: Copy>(cells: &mut [Option<T>], items: &[T])
+    requires { length cells.old ≡ length items.now }
+    ensures { cells.new ≡ map Some items.now }
+{
+    for k in 0..items.len() {
+        cells[k] = Some(items[k]);
+    }
+}
+
 /// `CAP` slots in an array, which take no memory of their own.
 ///
 /// A contract sees what each slot holds, and how many changes the slots have had. That count takes no bytes, begins at
-/// 0, and rises by the calls of `RingSlots` alone.
+/// 0, and rises by the calls of `RingSlots` and by `put_copies` alone.
 #[derive(Drop)]
 pub struct ArraySlots<T, const CAP: usize> {
     cells: Cells<Option<T>, CAP>,
@@ -112,6 +135,19 @@ impl<T, const CAP: usize> ArraySlots<T, CAP> {
     {
         self.changes = self.changes.after(1);
         self.cells.at_mut(place)
+    }
+}
+
+impl<T: Copy, const CAP: usize> ArraySlots<T, CAP> {
+    /// Puts copies of some items into empty slots that lie side by side from the place `from` on, each by one change.
+    /// Takes O(n) in these.
+    #[inline]
+    pub fn put_copies(&mut self, from: usize, items: &[T])
+        requires { IsEmptyStretch self.old.slots from (length items.now) }
+        ensures { self.new ≡ with_items self.old from items.now }
+    {
+        self.changes = self.changes.after(items.len());
+        self.cells.copy_in(from, items);
     }
 }
 

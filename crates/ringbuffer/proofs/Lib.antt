@@ -1,6 +1,5 @@
 pub mod Compared
 pub mod Conversions
-pub mod CopiedOut
 pub mod Copies
 pub mod EmptiedStretches
 pub mod LaysApart

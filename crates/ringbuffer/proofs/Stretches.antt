@@ -1,5 +1,6 @@
 -- The items of a ring are two stretches of full slots: those up to the last slot, and those that go on at the first.
 use Rattle.ringbuffer.proofs.Words.{◌≡◌, ℕ, ◌+◌, ◌-◌, ◌<◌, ◌≤◌, List, [], ◌∷◌, ◌++◌, length, map, take, drop, get_or, Option, None, Some, refl, sym, ap, ◌∙◌, arith, slice_get, min, mod-eq_of_lt, ext_get_or, get_or-take, get_or-drop, length-map, length-take, length-drop, take-append-drop, slice_get-drop, slice_get-take, Slots, HoldsStretch, IsFullStretch, items_from, IsLaidOut, somes}
+use Rattle.std.proofs.Math.Seq.{take-add}
 use Rattle.ring_slots.proofs.Filled.{get_or-map_some}
 use Rattle.ringbuffer.proofs.SlotsHold.{wrap}
 
@@ -16,6 +17,41 @@ module _ {X : Type 0} where
   -- a stretch holds one list of items
   pub stretch_is : (cs : List (Option X)) (from n : ℕ) (xs ys : List X) → HoldsStretch cs from n xs → HoldsStretch cs from n ys → xs ≡ ys
   stretch_is cs from n xs ys holds holds' = sym (somes-map xs) ∙ ap somes (sym holds ∙ holds') ∙ somes-map ys
+
+  -- a slot of a stretch holds the item of its place
+  pub stretch_at : (cs : List (Option X)) (from n k : ℕ) (xs : List X) → HoldsStretch cs from n xs → k < n → get_or cs (from + k) None ≡ slice_get xs k
+  stretch_at cs from n k xs holds low =
+      let same = ap (λ (l : List (Option X)). get_or l k None) holds in grind (arith, same, get_or-take, get_or-drop, get_or-map_some)
+
+  pub stretch_long : (cs : List (Option X)) (from n : ℕ) (xs : List X) → HoldsStretch cs from n xs → from + n ≤ length cs → length xs ≡ n
+  stretch_long cs from n xs holds fit =
+      omega (arith, ap (λ (l : List (Option X)). length l) holds, length-take n (drop from cs), length-drop from cs, length-map xs Some)
+
+-- the first items of a ring lie in two stretches, too: those up to the last slot, and those that go on at the first
+module _ {X : Type 0} (s : Slots X) (start : ℕ) (laid_out : IsLaidOut s start) (count first : ℕ)
+    (some : count ≤ length (items_from s.slots start)) (least : first ≡ min count (length s.slots - start)) where
+  pub front_held : HoldsStretch s.slots start first (take first (items_from s.slots start))
+  front_held =
+      let items = items_from s.slots start in let within = laid_out.start_within in
+      stretch_of s.slots start first (take first items) (omega (arith, length-take first items)) (omega arith) (λ k low. grind (arith, laid_out.layout k, mod-eq_of_lt, slice_get-take))
+
+  pub rest_held : HoldsStretch s.slots 0 (count - first) (take (count - first) (drop first (items_from s.slots start)))
+  rest_held =
+      let items = items_from s.slots start in let within = laid_out.start_within in let fit = laid_out.fit in let round = λ (k : ℕ). wrap start (first + k) (length s.slots) within in
+      stretch_of s.slots 0 (count - first) (take (count - first) (drop first items)) (omega (arith, length-take (count - first) (drop first items), length-drop first items)) (omega arith) (λ k low. grind (arith, laid_out.layout (first + k), round k, slice_get-take, slice_get-drop))
+
+  pub front_stretch : IsFullStretch s.slots start first
+  front_stretch = let within = laid_out.start_within in (omega arith, (take first (items_from s.slots start), front_held))
+
+  pub rest_stretch : IsFullStretch s.slots 0 (count - first)
+  rest_stretch = let fit = laid_out.fit in (omega arith, (take (count - first) (drop first (items_from s.slots start)), rest_held))
+
+  -- what two such stretches hold are the first items
+  pub fronts_held : (xs ys : List X) → HoldsStretch s.slots start first xs → HoldsStretch s.slots 0 (count - first) ys → xs ++ ys ≡ take count (items_from s.slots start)
+  fronts_held xs ys before after =
+      let items = items_from s.slots start in let all : first + (count - first) ≡ count = omega arith in
+      rw (stretch_is s.slots start first xs (take first items) before front_held, stretch_is s.slots 0 (count - first) ys (take (count - first) (drop first items)) after rest_held)
+      (sym (take-add first (count - first) items) ∙ ap (λ n. take n items) all)
 
 module _ {X : Type 0} (s : Slots X) (start : ℕ) (laid_out : IsLaidOut s start) (len first : ℕ)
     (counted : len ≡ length (items_from s.slots start)) (least : first ≡ min len (length s.slots - start)) where

@@ -42,8 +42,7 @@ impl<T: Copy + Drop, const CAP: usize> ConstGenericRingBuffer<T, CAP> {
     pub fn extend_from_slice(&mut self, items: &[T])
         ensures { self.new ≡ after_extend_from_slice CAP self.old items.now }
     {
-        let (_, newest) = items.split_at(items.len().saturating_sub(CAP));
-        self.extend_one_by_one(newest.iter().copied());
+        self.extend_by_copies(items);
     }
 }
 
