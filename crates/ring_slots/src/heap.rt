@@ -197,8 +197,8 @@ fn empty_block<T>(alloc: Global, size: usize) -> Result<(*mut T, Owner<T>, Deed<
     Owner::allocate(alloc, size)
 }
 
-// Returns the size of an item in bytes, or the greatest word where it is larger.
-fn item_size<T>() -> usize
+/// Returns the size of an item in bytes, or the greatest word where it is larger.
+pub fn item_size<T>() -> usize
     ensures { result ≡ min (type_size T.row) (2 ^ 64 - 1) }
 {
     size_of::<T>()

@@ -11,5 +11,5 @@ mod slots;
 
 pub use array::ArraySlots;
 pub use change_count::ChangeCount;
-pub use heap::HeapSlots;
+pub use heap::{HeapSlots, item_size};
 pub use slots::RingSlots;

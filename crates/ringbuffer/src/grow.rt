@@ -1,10 +1,11 @@
 //! The ring without a limit, over a deque.
 
-ghost use Rattle.std.specs.Prelude.{◌≡◌, ◌↔◌, ◌-◌, ◌%◌, ◌<◌, [], ◌∷◌, ◌++◌, All, IfOk, IsOk, IsSome, List, MatchResult, None, OnErr, OnOk, Some, drop, length, min, option_to_list, refl, slice_get, slice_set, take};
+ghost use Rattle.std.specs.Prelude.{◌≡◌, ◌↔◌, ◌+◌, ◌-◌, ◌%◌, ◌<◌, ◌≤◌, [], ◌∷◌, ◌++◌, All, IfOk, IsOk, IsSome, List, MatchResult, None, OnErr, OnOk, Some, drop, length, min, option_to_list, refl, slice_get, slice_set, take};
 ghost use Rattle.std.specs.Borrow.{sem};
 ghost use Rattle.std.specs.Cmp.Lexicographic.{lists_per, pointwise};
 ghost use Rattle.std.specs.Iterator.{Drains, IsFinite, IsFiniteIterable, YieldsThen};
 ghost use Rattle.std.specs.List.{AllZip};
+ghost use Rattle.std.specs.VecDeque.{deque_capacity, deque_len};
 ghost use Rattle.std.proofs.lemmas.Cmp.{lists_equiv};
 ghost use Rattle.ring_core.proofs.Limits.{counts_none};
 ghost use Rattle.ring_core.specs.Contents.{keep_last};
@@ -20,6 +21,7 @@ use ring_core::{
     DoubleEndedRing, RingBuffer, RingBufferExt, RingBufferIntoIterator, RingBufferIterator,
     range_within,
 };
+use ring_slots::item_size;
 use std::alloc::{AllocError, Global};
 use std::collections::VecDeque;
 use std::fmt::{self, Debug, Formatter, Write};
@@ -115,6 +117,28 @@ impl<T: Drop> GrowableAllocRingBuffer<T> {
         mem::replace(&mut self.deque, VecDeque::new(alloc)).into_vec()
     }
 
+    // Puts in what a source gives, at least as many items as `least` says, while there is room. It is made first where as many
+    // come as there are: a vector then takes them in fewer steps. Returns the source, and the item that found none.
+    fn pour_in<I: Iterator<Item = T>>(&mut self, items: I, least: usize) -> (I, Option<T>)
+        requires { I.can_next items × IsFinite (I.remaining items) }
+        ensures { (xs : List T) × (self.new ≡ self.old ++ xs)
+            × YieldsThen I.next_gives items xs result.1 result.0
+            × (IsSome result.1 → I.can_next result.0 × IsFinite (I.remaining result.0)) }
+    {
+        if least < self.deque.len() {
+            let alloc = *self.deque.allocator();
+            let deque = mem::replace(&mut self.deque, VecDeque::new(alloc));
+            let (filled, rest, over) = pour_behind(deque, items);
+            self.deque = filled;
+            return (rest, over);
+        }
+        let mut room = self.take_vec();
+        let _ = room.reserve(least);
+        let (filled, rest, over) = pour(room, items);
+        self.deque = VecDeque::from_vec(filled);
+        (rest, over)
+    }
+
     // Pushes what a source gives, one at a time.
     fn push_each<I: Iterator<Item = T> + Drop>(&mut self, items: I) -> Result<(), AllocError>
         requires { I.can_next items × IsFinite (I.remaining items) }
@@ -131,8 +155,22 @@ impl<T: Drop> GrowableAllocRingBuffer<T> {
     }
 }
 
-// An extension by fewer items goes to the deque one at a time.
+// A call on fewer items goes to the deque one at a time.
 const FEW: usize = 16;
+
+// Fewer items are dropped from the deque one at a time.
+const FEW_TO_DROP: usize = 32;
+
+// So many bytes are moved in the time that it takes to push or to pop an item.
+const BYTES_FOR_AN_ITEM: usize = 16;
+
+// Returns whether the `held` items move fast beside `count` of them that are pushed or popped one at a time: a vector of the
+// deque's memory, for which they may have to move, then does better. The other answer would merely be slower.
+#[inline]
+fn moves_fast<T>(count: usize, held: usize) -> bool {
+    let bytes = held.saturating_mul(item_size::<T>().max(1));
+    bytes <= count.saturating_mul(BYTES_FOR_AN_ITEM)
+}
 
 // Puts what a source gives behind the items of a vector while there is room. Returns the source, and the item that found
 // none. The vector is a value here and not behind a reference, so that its fields stay in registers.
@@ -151,6 +189,39 @@ fn pour<T, I: Iterator<Item = T>>(vec: Vec<T>, items: I) -> (Vec<T>, I, Option<T
         vec.push_reserved(item);
     }
     (vec, items, None)
+}
+
+// Does what `pour` does, behind the items of a deque.
+fn pour_behind<T, I: Iterator<Item = T>>(
+    deque: VecDeque<T>,
+    items: I,
+) -> (VecDeque<T>, I, Option<T>)
+    requires { I.can_next items × IsFinite (I.remaining items) }
+    ensures { (xs : List T) × (result.0.items ≡ deque.items ++ xs)
+        × YieldsThen I.next_gives items xs result.2 result.1
+        × (IsSome result.2 → I.can_next result.1 × IsFinite (I.remaining result.1)) }
+{
+    let mut deque = deque;
+    let mut items = items;
+    while let Some(item) = items.next() {
+        if deque.len() == deque.capacity() {
+            return (deque, items, Some(item));
+        }
+        deque.push_back_reserved(item);
+    }
+    (deque, items, None)
+}
+
+// Puts copies of a slice's items behind those of a deque that has room for them. The deque is a value here, as in `pour`.
+fn with_copies<T: Copy + Drop>(deque: VecDeque<T>, items: &[T]) -> VecDeque<T>
+    requires { deque_len deque + length items.now ≤ deque_capacity deque }
+    ensures { result.items ≡ deque.items ++ items.now }
+{
+    let mut deque = deque;
+    for i in 0..items.len() {
+        deque.push_back_reserved(items[i]);
+    }
+    deque
 }
 
 // Fills the room of an empty vector with clones.
@@ -210,15 +281,10 @@ impl<T: Drop> RingBuffer<T> for GrowableAllocRingBuffer<T> {
     {
         let items = items.into_iter();
         let least = items.size_hint().0;
-        // A vector takes items in fewer steps, but it is made of the deque first, and the old items may have to move for it:
-        // it is worth it where many come, and as many as there are.
-        if least < FEW || least < self.deque.len() {
+        if least < FEW {
             return self.push_each(items);
         }
-        let mut room = self.take_vec();
-        let _ = room.reserve(least);
-        let (filled, rest, over) = pour(room, items);
-        self.deque = VecDeque::from_vec(filled);
+        let (rest, over) = self.pour_in(items, least);
         let Some(item) = over else {
             return Ok(());
         };
@@ -420,26 +486,20 @@ impl<T: Copy + Drop> GrowableAllocRingBuffer<T> {
         ensures ok { OnOk result (self.new ≡ self.old ++ items.now) }
         ensures err { OnErr result (self.new ≡ self.old) }
     {
-        // A vector copies a slice at once, as `extend` has it.
         if items.len() < FEW || items.len() < self.deque.len() {
-            return self.push_copies(items);
+            self.deque.reserve(items.len())?;
+            if items.len() < FEW || !moves_fast::<T>(items.len(), self.deque.len()) {
+                let alloc = *self.deque.allocator();
+                let deque = mem::replace(&mut self.deque, VecDeque::new(alloc));
+                self.deque = with_copies(deque, items);
+                return Ok(());
+            }
         }
+        // A vector copies a slice at once.
         let mut room = self.take_vec();
         let copied = room.extend_from_slice(items);
         self.deque = VecDeque::from_vec(room);
         copied
-    }
-
-    // Pushes copies of a slice's items, one at a time.
-    fn push_copies(&mut self, items: &[T]) -> Result<(), AllocError>
-        ensures ok { OnOk result (self.new ≡ self.old ++ items.now) }
-        ensures err { OnErr result (self.new ≡ self.old) }
-    {
-        self.deque.reserve(items.len())?;
-        for i in 0..items.len() {
-            self.deque.push_back_reserved(items[i]);
-        }
-        Ok(())
     }
 
     /// Returns copies of the items, oldest first, in new memory, as `to_vec` returns clones. Takes O(n).
@@ -470,8 +530,24 @@ impl<T: Copy + Drop> GrowableAllocRingBuffer<T> {
         ensures rest { self.new ≡ drop result self.old }
     {
         let count = self.copy_to_slice(output);
-        self.deque.drain(..count);
+        self.drop_first(count);
         count
+    }
+
+    // Drops the first items. A vector moves all of them to the block's start, and the others on to their places.
+    fn drop_first(&mut self, count: usize)
+        requires { count ≤ length self.old }
+        ensures { self.new ≡ drop count self.old }
+    {
+        let held = self.deque.len();
+        if count < FEW_TO_DROP || !moves_fast::<T>(count, held) {
+            self.deque.drain(..count);
+            return;
+        }
+        let mut items = self.take_vec();
+        items.copy_within(count.., 0);
+        items.truncate(held - count);
+        self.deque = VecDeque::from_vec(items);
     }
 }
 
