@@ -1,12 +1,12 @@
 //! The polynomial hash of some bytes as a monoid.
 
-ghost use Rattle.std.specs.Prelude.{◌≡◌, ◌+◌, ◌*◌, ◌%◌};
+ghost use Rattle.std.specs.Prelude.{◌≡◌, ◌+◌, ◌*◌, ◌%◌, ◌<◌};
 
 use crate::monoid::Monoid;
 use std::marker::Model;
 
 /// The hash counts modulo this prime, 2^61 - 1.
-const MODULUS: u128 = 2305843009213693951;
+const MODULUS: u64 = 2305843009213693951;
 
 /// Each byte counts this many times as much as the one after it.
 const BASE: u64 = 1000003;
@@ -74,11 +74,16 @@ impl Monoid for PolynomialHash {
     }
 }
 
-// Returns `x` times `y` and `z` more, modulo the prime.
+// Returns `x` times `y` and `z` more, modulo the prime, of three numbers below it.
 #[inline]
 fn reduced(x: u64, y: u64, z: u64) -> u64
+    requires x { x < 2305843009213693951 }
+    requires y { y < 2305843009213693951 }
+    requires z { z < 2305843009213693951 }
     ensures { result ≡ (x * y + z) % 2305843009213693951 }
 {
-    let product = u128::from(x) * u128::from(y);
-    ((product + u128::from(z)) % MODULUS) as u64
+    // Without a division: 2^61 is one more than the prime, so what stands above the lowest 61 bits counts once.
+    let number = u128::from(x) * u128::from(y) + u128::from(z);
+    let sum = (number >> 61) as u64 + (number & u128::from(MODULUS)) as u64;
+    if sum < MODULUS { sum } else { sum - MODULUS }
 }
