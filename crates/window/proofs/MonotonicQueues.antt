@@ -13,6 +13,7 @@ use Rattle.ringbuffer.proofs.Items.{slice_get-append_left, slice_get-at, slice_g
 use Rattle.window.specs.MonotonicQueue.{IsPopped, HoldsMonotonicQueue, IsMonotonicQueue, IsRanked, LeadsTo, Reaches, Stops, item_on, items_on, next}
 use Rattle.window.specs.Least.{AtMost, IsBelow, IsFirstLeast, IsLeastFrom}
 use Rattle.window.specs.declared.least_window.Candidate.{Candidate}
+use Rattle.window.proofs.Pushed.{newest_read}
 use Rattle.window.proofs.Orders.{AtMost-below, AtMost-same, AtMost-trans, IsBelow-trans}
 
 -- By induction on the list: what holds of all items holds of that at a place.
@@ -72,6 +73,48 @@ items_on-overwritten (Some n) rs = rw length-map (first (length rs + 1 - n) rs) 
   first (suc m) [] = refl
   first (suc m) (r ∷ rs) = refl
 
+-- A written item that is what stood there changes nothing.
+pub set_same : {A : Type 0} (xs : List A) (i : ℕ) (x : A) → slice_get xs i ≡ Some x → slice_set xs i x ≡ xs
+set_same [] i x at = refl
+set_same (z ∷ xs) zero x at = let same : z ≡ x = let both : Some z ≡ Some x = at in cc in rw same refl
+set_same (z ∷ xs) (suc i) x at = ap (λ ys. z ∷ ys) (set_same xs i x at)
+
+-- Of writes at two places it doesn't matter which comes first.
+pub set_turned : {A : Type 0} (xs : List A) (i j : ℕ) (x y : A) → i ≢ j → slice_set (slice_set xs i x) j y ≡ slice_set (slice_set xs j y) i x
+set_turned [] i j x y apart = refl
+set_turned (z ∷ xs) zero zero x y apart = absurd (apart refl)
+set_turned (z ∷ xs) zero (suc j) x y apart = refl
+set_turned (z ∷ xs) (suc i) zero x y apart = refl
+set_turned (z ∷ xs) (suc i) (suc j) x y apart = ap (λ ys. z ∷ ys) (set_turned xs i j x y (omega arith))
+
+-- Where the newest has the links of one that none has ranked, its link behind is all that is to be written.
+pub newest_linked : {T : Type 0} (all rs : List (Candidate T)) (q r : Candidate T) (n far : ℕ) (mid after : List (Candidate T)) → all ≡ rs ++ q ∷ [] → n ≡ length all → q.behind ≡ 1 → q.ahead ≡ 0 → slice_get all (n - 1) ≡ Some r → slice_get mid (n - 1) ≡ Some r
+    → ((x : Candidate T) → slice_get mid (n - 1) ≡ Some x → x.behind ≡ 1 → after ≡ slice_set mid (n - 1) (record x { behind = far })) → after ≡ slice_set mid (n - 1) (record r { behind = far; ahead = 0 })
+newest_linked all rs q r n far mid after is n_is one none read read_mid wrote =
+    let same : r ≡ q = newest_read all rs q r n is n_is read in
+    let ahead : r.ahead ≡ 0 = rw same none in
+    wrote r read_mid (rw same one) ∙ ap (λ a. slice_set mid (n - 1) (record r { behind = far; ahead = a })) ahead
+
+-- The one before it may be written first:
+pub ahead_linked : {T : Type 0} (all : List (Candidate T)) (last : Candidate T) (left n far : ℕ) (new : Candidate T) (mid : List (Candidate T)) → (left ≡ 0 → ⊥) → left < n → slice_get (slice_set all (n - 1) new) (left - 1) ≡ Some last
+    → ((x : Candidate T) → slice_get all (left - 1) ≡ Some x → mid ≡ slice_set all (left - 1) (record x { ahead = far })) → mid ≡ slice_set all (left - 1) (record last { ahead = far })
+ahead_linked all last left n far new mid some less read_last wrote_ahead =
+    wrote_ahead last (sym (set_other all (n - 1) (left - 1) new (λ e. some (omega (arith, e, less)))) ∙ read_last)
+
+-- the newest is read and written as if it came first.
+pub both_linked : {T : Type 0} (all rs : List (Candidate T)) (q r last : Candidate T) (left n far : ℕ) (mid after : List (Candidate T)) → all ≡ rs ++ q ∷ [] → n ≡ length all → q.behind ≡ 1 → q.ahead ≡ 0 → (left ≡ 0 → ⊥) → left < n → slice_get all (n - 1) ≡ Some r
+    → slice_get (slice_set all (n - 1) (record r { behind = far; ahead = 0 })) (left - 1) ≡ Some last
+    → ((x : Candidate T) → slice_get all (left - 1) ≡ Some x → mid ≡ slice_set all (left - 1) (record x { ahead = far }))
+    → ((x : Candidate T) → slice_get mid (n - 1) ≡ Some x → x.behind ≡ 1 → after ≡ slice_set mid (n - 1) (record x { behind = far }))
+    → after ≡ slice_set (slice_set all (n - 1) (record r { behind = far; ahead = 0 })) (left - 1) (record last { ahead = far })
+both_linked {T} all rs q r last left n far mid after is n_is one none some less read read_last wrote_ahead wrote_behind =
+    let apart : left - 1 ≢ n - 1 = λ e. some (omega (arith, e, less)) in
+    let q' : Candidate T = record r { behind = far; ahead = 0 } in
+    let l : Candidate T = record last { ahead = far } in
+    let mid_is : mid ≡ slice_set all (left - 1) l = ahead_linked all last left n far q' mid some less read_last wrote_ahead in
+    let read_mid : slice_get mid (n - 1) ≡ Some r = ap (λ xs. slice_get xs (n - 1)) mid_is ∙ set_other all (left - 1) (n - 1) l (λ e. apart (sym e)) ∙ read in
+    newest_linked all rs q r n far mid after is n_is one none read read_mid wrote_behind ∙ ap (λ xs. slice_set xs (n - 1) q') mid_is ∙ set_turned all (left - 1) (n - 1) l q' apart
+
 -- a list is empty or ends
 pub ends : (ds : List ℕ) → (ds ≡ []) ⊎ ((pre : List ℕ) × (d : ℕ) × (ds ≡ pre ++ d ∷ []))
 ends [] = inl refl
@@ -85,11 +128,6 @@ slack more (e ∷ es) = 0
 slack-0 : (pre : List ℕ) → slack 0 pre ≡ 0
 slack-0 [] = refl
 slack-0 (e ∷ es) = refl
-
--- the last that is named is the first, or behind it
-abbrev Behind : List ℕ → ℕ → ℕ → Type 0
-Behind [] d p = p ≡ d
-Behind (e ∷ es) d p = e < p
 
 leads_on : {T : Type 0} (r : Candidate T) (ds : List ℕ) → r.ahead ≡ next ds → LeadsTo r ds
 leads_on r [] ahead = tt
@@ -151,7 +189,6 @@ module _ {T : Type 0} {cmp : T → T → Ordering} (o : IsTotalOrder cmp) where
     at : slice_get rs p ≡ Some last
     from_end : p + 1 + k ≡ length rs
     says : last.behind ≡ suc d + slack more pre
-    place : Behind pre d p
     popped : IsBelow cmp x last.item → IsPopped cmp x (k + suc d) more pre rs
     stopped : (n : Candidate T) → n.item ≡ x → n.behind ≡ suc k → n.ahead ≡ 0 → AtMost cmp last.item x
         → IsMonotonicQueue cmp more (pre ++ d ∷ k ∷ []) (slice_set rs p (record last { ahead = suc k }) ++ n ∷ [])
@@ -168,7 +205,6 @@ module _ {T : Type 0} {cmp : T → T → Ordering} (o : IsTotalOrder cmp) where
         at = at;
         from_end = omega (arith, within, count);
         says = behind;
-        place = refl;
         popped = λ below. (omega (arith, within, count), All-weaker (AtMost cmp r.item) (IsBelow cmp x) (λ y. IsBelow-trans o x r.item y below) (items_on rs) least.at_most);
         stopped = λ n is behind_n ahead_n over.
             let r' : Candidate T = record r { ahead = suc k } in
@@ -195,7 +231,6 @@ module _ {T : Type 0} {cmp : T → T → Ordering} (o : IsTotalOrder cmp) where
         at = there;
         from_end = omega (arith, within, ih.from_end, length-drop (suc e) rs);
         says = ih.says ∙ ap (λ s. suc d + s) (slack-0 pre);
-        place = omega arith;
         popped = λ below. (r, at, behind, leads_before r pre d leads, least, ih.popped below);
         stopped = λ n is behind_n ahead_n over.
             let r' : Candidate T = record ih.last { ahead = suc k } in
@@ -300,14 +335,20 @@ module _ {T : Type 0} {cmp : T → T → Ordering} (o : IsTotalOrder cmp) where
     pub read : slice_get all (left - 1) ≡ Some last
     pub read_newest : slice_get all (n - 1) ≡ Some so.r
     pub stops : AtMost cmp last.item so.r.item → Stops cmp all first left (compared + 1) (most + 1)
-    pub ends_at : left ≡ first → IsBelow cmp so.r.item last.item → Stops cmp all first 0 (compared + 1) (most + 1)
-    pub goes : (left ≡ first → ⊥) → IsBelow cmp so.r.item last.item → (last.behind ≤ left) × (0 < last.behind) × Reaches cmp all first (left - last.behind) (compared + 1) most
+    pub ends_at : left ≤ last.behind → IsBelow cmp so.r.item last.item → Stops cmp all first 0 (compared + 1) (most + 1)
+    pub goes : last.behind < left → IsBelow cmp so.r.item last.item → (0 < last.behind) × Reaches cmp all first (left - last.behind) (compared + 1) most
 
   below_top : (x : T) (k more : ℕ) (ds : List ℕ) (rs : List (Candidate T)) → IsPopped cmp x k more ds rs → k ≤ length rs
   below_top x k more [] rs c = omega (arith, c.0)
   below_top x k more (d ∷ ds) rs c =
       let (r, at, behind, leads, least, rest) = c in
       omega (arith, below_top x k 0 ds (drop (suc d) rs) rest, length-drop (suc d) rs)
+
+  -- Where one is named, there is more than what was popped.
+  below_some : (x : T) (k more d : ℕ) (ds : List ℕ) (rs : List (Candidate T)) → IsPopped cmp x k more (d ∷ ds) rs → k < length rs
+  below_some x k more d ds rs c =
+      let (r, at, behind, leads, least, rest) = c in
+      omega (arith, below_top x k 0 ds (drop (suc d) rs) rest, length-drop (suc d) rs, slice_get_within rs d r at)
 
   not_empty : (pre : List ℕ) (d : ℕ) → pre ++ d ∷ [] ≡ [] → ⊥
   not_empty [] d e = let none : d ∷ [] ≡ [] = e in cc
@@ -336,11 +377,11 @@ module _ {T : Type 0} {cmp : T → T → Ordering} (o : IsTotalOrder cmp) where
           read = rw (at_p, so.all_is) (slice_get-append_left it.p so.rs (so.r ∷ []) in_front ∙ it.at);
           read_newest = rw newest (rw so.all_is (slice_get-at so.rs so.r []));
           stops = λ h. (recounted so (compared + 1) (most + 1) (omega (arith, so.counted)), inr (it.p, it.last, it.from_end, it.at, h));
-          ends_at = λ here h. alone pre d it.p it.place first_is (omega (arith, at_p, more_left, here)) (it.popped h);
-          goes = λ not_here h. passes pre d is it.p it.place first_is (λ e. not_here (omega (arith, at_p, more_left, e))) it.last it.says (it.popped h);
+          ends_at = λ here h. alone pre d it.last.behind it.says here (it.popped h);
+          goes = λ less h. passes pre d is first_is it.last it.says less (it.popped h);
         } where
-          alone : (pre : List ℕ) (d p : ℕ) → Behind pre d p → first ≡ next (pre ++ d ∷ []) → p + 1 ≡ first → IsPopped cmp so.r.item (so.k + suc d) so.more pre so.rs → Stops cmp all first 0 (compared + 1) (most + 1)
-          alone [] d p place first_is here popped = (
+          alone : (pre : List ℕ) (d behind : ℕ) → behind ≡ suc d + slack so.more pre → left ≤ behind → IsPopped cmp so.r.item (so.k + suc d) so.more pre so.rs → Stops cmp all first 0 (compared + 1) (most + 1)
+          alone [] d behind says here popped = (
             record {
               rs = so.rs;
               r = so.r;
@@ -355,14 +396,13 @@ module _ {T : Type 0} {cmp : T → T → Ordering} (o : IsTotalOrder cmp) where
             },
             inl refl,
           )
-          alone (e ∷ pre) d p place first_is here popped = absurd (omega (arith, place, first_is, here))
+          alone (e ∷ pre) d behind says here popped = absurd (omega (arith, says, here, so.left_is, below_some so.r.item (so.k + suc d) so.more e pre so.rs popped))
 
-          passes : (pre : List ℕ) (d : ℕ) → so.places ≡ pre ++ d ∷ [] → (p : ℕ) → Behind pre d p → first ≡ next (pre ++ d ∷ []) → (p + 1 ≡ first → ⊥) → (last : Candidate T) → last.behind ≡ suc d + slack so.more pre → IsPopped cmp so.r.item (so.k + suc d) so.more pre so.rs
-              → (last.behind ≤ left) × (0 < last.behind) × Reaches cmp all first (left - last.behind) (compared + 1) most
-          passes [] d is p place first_is not_here last says popped = absurd (not_here (omega (arith, place, first_is)))
-          passes (e ∷ pre) d is p place first_is not_here last says popped =
+          passes : (pre : List ℕ) (d : ℕ) → so.places ≡ pre ++ d ∷ [] → first ≡ next (pre ++ d ∷ []) → (last : Candidate T) → last.behind ≡ suc d + slack so.more pre → last.behind < left → IsPopped cmp so.r.item (so.k + suc d) so.more pre so.rs
+              → (0 < last.behind) × Reaches cmp all first (left - last.behind) (compared + 1) most
+          passes [] d is first_is last says less popped = absurd (omega (arith, says, less, popped.0, so.left_is))
+          passes (e ∷ pre) d is first_is last says less popped =
               let fits = below_top so.r.item (so.k + suc d) so.more (e ∷ pre) so.rs popped in (
-                omega (arith, fits, says, so.left_is),
                 omega (arith, says),
                 record {
                   rs = so.rs;
@@ -402,7 +442,7 @@ module _ {T : Type 0} {cmp : T → T → Ordering} (o : IsTotalOrder cmp) where
 
   -- Else it comes after the last that is still named.
   pub joins_after : (all : List (Candidate T)) (first left n compared most : ℕ) → n ≡ length all → Stops cmp all first left compared most → (left ≡ 0 → ⊥)
-      → (r last : Candidate T) × (slice_get all (n - 1) ≡ Some r) × (left - 1 < n)
+      → (r last : Candidate T) × (slice_get all (n - 1) ≡ Some r) × (left < n)
       × (slice_get (slice_set all (n - 1) (record r { behind = n - left; ahead = 0 })) (left - 1) ≡ Some last)
       × HoldsMonotonicQueue cmp (slice_set (slice_set all (n - 1) (record r { behind = n - left; ahead = 0 })) (left - 1) (record last { ahead = n - left })) first compared (most + 1)
       × (items_on (slice_set (slice_set all (n - 1) (record r { behind = n - left; ahead = 0 })) (left - 1) (record last { ahead = n - left })) ≡ items_on all)
@@ -416,7 +456,7 @@ module _ {T : Type 0} {cmp : T → T → Ordering} (o : IsTotalOrder cmp) where
         not_whole (omega (arith, c.0, long, so.left_is))
 
     named : (pre : List ℕ) (d : ℕ) → so.places ≡ pre ++ d ∷ [] → (so.places ≡ []) ⊎ ((p : ℕ) × (last : Candidate T) × (p + 1 + so.k ≡ length so.rs) × (slice_get so.rs p ≡ Some last) × AtMost cmp last.item so.r.item)
-        → (r last : Candidate T) × (slice_get all (n - 1) ≡ Some r) × (left - 1 < n)
+        → (r last : Candidate T) × (slice_get all (n - 1) ≡ Some r) × (left < n)
         × (slice_get (slice_set all (n - 1) (record r { behind = n - left; ahead = 0 })) (left - 1) ≡ Some last)
         × HoldsMonotonicQueue cmp (slice_set (slice_set all (n - 1) (record r { behind = n - left; ahead = 0 })) (left - 1) (record last { ahead = n - left })) first compared (most + 1)
         × (items_on (slice_set (slice_set all (n - 1) (record r { behind = n - left; ahead = 0 })) (left - 1) (record last { ahead = n - left })) ≡ items_on all)

@@ -6,6 +6,7 @@ use Rattle.std.proofs.Math.Nat.{mod-eq_of_lt}
 use Rattle.std.specs.Borrow.{Bor}
 use Rattle.std.specs.Option.{option_copied}
 use Rattle.ringbuffer.specs.Contents.{IsWithin, keep_last, overwritten, index_at}
+use Rattle.ringbuffer.proofs.Items.{slice_get-at}
 
 -- what stays of the items as one more comes
 pub stay : {A : Type 0} → Option ℕ → List A → List A
@@ -40,6 +41,14 @@ pub some_read : {A : Type 0} (xs : List A) (i : ℕ) → i < length xs → (x : 
 some_read [] i below = absurd (omega arith)
 some_read (x ∷ xs) zero below = (x, refl)
 some_read (x ∷ xs) (suc i) below = some_read xs i (omega arith)
+
+-- What is read at the last place stands at the end.
+pub newest_read : {A : Type 0} (all xs : List A) (x y : A) (n : ℕ) → all ≡ xs ++ x ∷ [] → n ≡ length all → slice_get all (n - 1) ≡ Some y → y ≡ x
+newest_read all xs x y n is n_is at =
+    let newest : n - 1 ≡ length xs = omega (arith, n_is, ap length is, length-append xs (x ∷ [])) in
+    let there : slice_get all (n - 1) ≡ Some x = rw (newest, is) (slice_get-at xs x []) in
+    let both : Some y ≡ Some x = sym at ∙ there in
+    cc
 
 -- What is read at a place below the length stands there.
 pub read_here : {A : Type 0} (xs : List A) (i : ℕ) (o : Option (Bor A)) (x : Bor A) → i < length xs → option_copied o ≡ slice_get xs (index_at (length xs) i) → o ≡ Some x → slice_get xs i ≡ Some x.now

@@ -27,11 +27,7 @@ impl<T> Candidate<T> {
     pub fn new(item: T) -> Self
         ensures { result.item ≡ item }
     {
-        Candidate {
-            item,
-            behind: 1,
-            ahead: 0,
-        }
+        unranked(item)
     }
 
     /// Returns the item.
@@ -39,6 +35,18 @@ impl<T> Candidate<T> {
         ensures { result.now ≡ self.now.item }
     {
         &self.item
+    }
+}
+
+// Returns `item` as one that no window has ranked, with the links of one that comes right after another.
+#[inline]
+fn unranked<T>(item: T) -> Candidate<T>
+    ensures { result ≡ record { item = item; behind = 1; ahead = 0 } }
+{
+    Candidate {
+        item,
+        behind: 1,
+        ahead: 0,
     }
 }
 
@@ -103,6 +111,8 @@ impl<T: Drop, O: Order<T>, R: RingBuffer<Candidate<T>>> WindowLeast<T, O, R> {
     /// # Errors
     ///
     /// Hands `item` back where the ring was refused memory, which no ring with a limit meets. The window is as it was.
+    // Inlined, since a call passes what it hands back through memory.
+    #[inline(always)]
     pub fn push(&mut self, item: T) -> Result<Option<T>, T>
         ensures overwrites { IfOk result
             (λ old. old ≡ overwritten self.old.limit self.old.contents) }
@@ -117,7 +127,7 @@ impl<T: Drop, O: Order<T>, R: RingBuffer<Candidate<T>>> WindowLeast<T, O, R> {
     {
         // For the proof: the contents are within the limit.
         let _ = self.ring.len();
-        match self.ring.push(Candidate::new(item)) {
+        match self.ring.push(unranked(item)) {
             Ok(overwritten) => {
                 let oldest = forget(&mut self.first, overwritten, &self.counts);
                 rank_newest(&mut self.ring, &mut self.first, &mut self.counts);
@@ -278,6 +288,7 @@ fn rank_before<T: Drop, O: Order<T>, R: RingBuffer<Candidate<T>>>(
 }
 
 // Removes `oldest`, if an item left, from the queue. Returns its item.
+#[inline]
 fn forget<T: Drop, O: Order<T>>(
     first: &mut usize,
     oldest: Option<Candidate<T>>,
@@ -303,14 +314,17 @@ fn first_after(first: usize, ahead: usize) -> usize
     if first > 1 { first - 1 } else { ahead }
 }
 
-// Ranks the newest item of `ring`.
+// Ranks the newest item of `ring`, whose links are those of an item that none has ranked. Inlined with the push, which is too large
+// to be by itself.
+#[inline(always)]
 fn rank_newest<T: Drop, O: Order<T>, R: RingBuffer<Candidate<T>>>(
     ring: &mut R,
     first: &mut usize,
     counts: &mut PushCounts<O>,
 )
     requires { (rs : List (Candidate T)) × (r : Candidate T) × (R.contents ring.old ≡ rs ++ r ∷ [])
-        × HoldsMonotonicQueue O.cmp rs first.old counts.old.compared (2 * counts.old.pushed) }
+        × HoldsMonotonicQueue O.cmp rs first.old counts.old.compared (2 * counts.old.pushed)
+        × (r.behind ≡ 1) × (r.ahead ≡ 0) }
     ensures holds { HoldsMonotonicQueue O.cmp (R.contents ring.new) first.new counts.new.compared
         (2 * counts.new.pushed) }
     ensures pushed { counts.new.pushed ≡ counts.old.pushed + 1 }
@@ -321,15 +335,20 @@ fn rank_newest<T: Drop, O: Order<T>, R: RingBuffer<Candidate<T>>>(
     let len = ring.len();
     let left = find_kept(ring, *first, counts);
     counts.pushed.add_one();
-    set_links(ring, len - 1, len - left, 0);
+    let far = len - left;
     if left == 0 {
         *first = len;
+        set_behind_newest(ring, len - 1, far);
     } else {
-        set_ahead(ring, left - 1, len - left);
+        // First the one at which the walk stopped, whose place is still at hand.
+        set_ahead(ring, left - 1, far);
+        set_behind_newest(ring, len - 1, far);
     }
 }
 
-// Returns how many items go up to the last candidate that isn't above the newest, and with it; 0 where there is none.
+// Returns how many items go up to the last candidate that isn't above the newest, and with it; 0 where there is none. Only the
+// contract reads `first`.
+#[inline]
 fn find_kept<T: Drop, O: Order<T>, R: RingBuffer<Candidate<T>>>(
     ring: &R,
     first: usize,
@@ -350,7 +369,8 @@ fn find_kept<T: Drop, O: Order<T>, R: RingBuffer<Candidate<T>>>(
         if !is_above::<T, O>(&mut counts.compared, &candidate.item, &newest.item) {
             return left;
         }
-        if left == first {
+        // The queue's first says no less than its place, as no other does.
+        if candidate.behind >= left {
             return 0;
         }
         left -= candidate.behind;
@@ -386,6 +406,19 @@ fn set_behind<T: Drop, R: RingBuffer<Candidate<T>>>(ring: &mut R, at: usize, beh
 {
     if let Some(candidate) = ring.get_mut(at) {
         candidate.behind = behind;
+    }
+}
+
+// Writes how far the item at the place `at`, which says 1 so far, is behind the candidate before it.
+#[inline]
+fn set_behind_newest<T: Drop, R: RingBuffer<Candidate<T>>>(ring: &mut R, at: usize, behind: usize)
+    requires { at < length (R.contents ring.old) }
+    ensures contents { (x : Candidate T) → slice_get (R.contents ring.old) at ≡ Some x → x.behind ≡ 1
+        → R.contents ring.new ≡ slice_set (R.contents ring.old) at (record x { behind = behind }) }
+    ensures limit { R.limit ring.new ≡ R.limit ring.old }
+{
+    if behind != 1 {
+        set_behind(ring, at, behind);
     }
 }
 

@@ -1,4 +1,4 @@
-use Rattle.std.proofs.Common.{[], ◌∷◌, ap, arith, length, length-append, refl, sym, ◌∙◌}
+use Rattle.std.proofs.Common.{◌≡◌, [], ◌∷◌, ap, arith, length, length-append, refl, sym, ◌∙◌}
 use Rattle.window.proofs.MonotonicQueues.{popped_all, reaches, seen}
 use Rattle.window.proofs.Pushed.{read_is}
 use Rattle.window.proofs.least_window.find_kept.Goals as goal
@@ -24,8 +24,8 @@ returns-then-not-is_above-clause-stops g c =
     let answer = rw (last_is, newest_is) at c.is_above.ensures.value in
     rw c.is_above.ensures.compared (s.stops (sym answer ∙ c.if-not-is_above.true))
 
-pub returns-then-left-first-clause-stops : goal.returns-then-left-first-clause-stops
-returns-then-left-first-clause-stops g c =
+pub returns-then-candidate-left-clause-stops : goal.returns-then-candidate-left-clause-stops
+returns-then-candidate-left-clause-stops g c =
     let o = g.met.O.Order.total in
     let all = g.R.RingBuffer.contents c.args.ring.now in
     let so = c.loop-left.invariant.reaches in
@@ -34,20 +34,8 @@ returns-then-left-first-clause-stops g c =
     let last_is = read_is all _ _ c.unwrap-candidate.result s.last c.get-in-loop-left.ensures c.unwrap-candidate.ensures s.read in
     let newest_is = read_is all _ _ c.unwrap-newest.result so.r c.get.ensures c.unwrap-newest.ensures s.read_newest in
     let answer = rw (last_is, newest_is) at c.is_above.ensures.value in
-    rw c.is_above.ensures.compared (s.ends_at c.if-left-first.true (sym answer ∙ c.if-not-is_above.false))
-
-pub overflow_sub-left-in-loop-left-2 : goal.overflow_sub-left-in-loop-left-2
-overflow_sub-left-in-loop-left-2 g c =
-    let o = g.met.O.Order.total in
-    let all = g.R.RingBuffer.contents c.args.ring.now in
-    let so = c.loop-left.invariant.reaches in
-    let e = c.len-len.ensures.value in
-    let s = seen o all c.args.first c.loop-left.left c.len-len.result _ _ so e c.loop-left-test.true in
-    let last_is = read_is all _ _ c.unwrap-candidate.result s.last c.get-in-loop-left.ensures c.unwrap-candidate.ensures s.read in
-    let newest_is = read_is all _ _ c.unwrap-newest.result so.r c.get.ensures c.unwrap-newest.ensures s.read_newest in
-    let answer = rw (last_is, newest_is) at c.is_above.ensures.value in
-    let (fits, some, next) = s.goes c.if-left-first.false (sym answer ∙ c.if-not-is_above.false) in
-    omega (arith, fits, ap (λ r. r.behind) last_is)
+    let behind_is : s.last.behind ≡ c.unwrap-candidate.result.now.behind = ap (λ r. r.behind) (sym last_is) in
+    rw c.is_above.ensures.compared (s.ends_at (rw behind_is c.if-candidate-left.true) (sym answer ∙ c.if-not-is_above.false))
 
 pub loop-left-preserved : goal.loop-left-preserved
 loop-left-preserved g c =
@@ -59,7 +47,8 @@ loop-left-preserved g c =
     let last_is = read_is all _ _ c.unwrap-candidate.result s.last c.get-in-loop-left.ensures c.unwrap-candidate.ensures s.read in
     let newest_is = read_is all _ _ c.unwrap-newest.result so.r c.get.ensures c.unwrap-newest.ensures s.read_newest in
     let answer = rw (last_is, newest_is) at c.is_above.ensures.value in
-    let (fits, some, next) = s.goes c.if-left-first.false (sym answer ∙ c.if-not-is_above.false) in
+    let behind_is : s.last.behind ≡ c.unwrap-candidate.result.now.behind = ap (λ r. r.behind) (sym last_is) in
+    let (some, next) = s.goes (omega (arith, behind_is, c.if-candidate-left.false)) (sym answer ∙ c.if-not-is_above.false) in
     record {
       reaches = rw (last_is, c.is_above.ensures.compared) next;
       pushed = c.loop-left.invariant.pushed;
@@ -76,8 +65,9 @@ loop-left-smaller g c =
     let last_is = read_is all _ _ c.unwrap-candidate.result s.last c.get-in-loop-left.ensures c.unwrap-candidate.ensures s.read in
     let newest_is = read_is all _ _ c.unwrap-newest.result so.r c.get.ensures c.unwrap-newest.ensures s.read_newest in
     let answer = rw (last_is, newest_is) at c.is_above.ensures.value in
-    let (fits, some, next) = s.goes c.if-left-first.false (sym answer ∙ c.if-not-is_above.false) in
-    omega (arith, some, fits, ap (λ r. r.behind) last_is)
+    let behind_is : s.last.behind ≡ c.unwrap-candidate.result.now.behind = ap (λ r. r.behind) (sym last_is) in
+    let (some, next) = s.goes (omega (arith, behind_is, c.if-candidate-left.false)) (sym answer ∙ c.if-not-is_above.false) in
+    omega (arith, some, behind_is, c.if-candidate-left.false)
 
 pub returns-clause-stops : goal.returns-clause-stops
 returns-clause-stops g c =

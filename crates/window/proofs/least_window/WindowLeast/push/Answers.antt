@@ -1,4 +1,4 @@
-use Rattle.std.proofs.Common.{◌*◌, ◌∙◌, refl}
+use Rattle.std.proofs.Common.{◌*◌, ◌∙◌, ap, refl}
 use Rattle.window.proofs.MonotonicQueues.{items_on-keep_last, items_on-overwritten}
 use Rattle.window.proofs.Pushed.{stay, stay_behind, stay_pushed}
 use Rattle.window.proofs.least_window.WindowLeast.push.Goals as goal
@@ -14,7 +14,7 @@ rank_newest-requires g c =
     let rs = g.R.RingBuffer.contents c.self.inside.ring in
     let limit = g.R.RingBuffer.limit c.self.inside.ring in
     let holds = c.forget-oldest.ensures.holds (stay limit rs) _ _ (rw (c.in-Ok.ensures.overwrites, stay_behind limit rs c.len.ensures.within) c.self.invariant) in
-    (stay limit rs, c.new.result, c.in-Ok.ensures.ok refl ∙ stay_pushed limit rs c.new.result c.len.ensures.within, holds)
+    (stay limit rs, c.unranked.result, c.in-Ok.ensures.ok refl ∙ stay_pushed limit rs c.unranked.result c.len.ensures.within, holds, ap (λ r. r.behind) c.unranked.ensures, ap (λ r. r.ahead) c.unranked.ensures)
 
 pub returns-in-Ok-clause-overwrites : goal.returns-in-Ok-clause-overwrites
 returns-in-Ok-clause-overwrites g c =
@@ -23,5 +23,5 @@ returns-in-Ok-clause-overwrites g c =
 
 pub returns-in-Ok-clause-ok : goal.returns-in-Ok-clause-ok
 returns-in-Ok-clause-ok g c =
-    rw (← c.self.view_is, c.rank_newest.ensures.items, c.in-Ok.ensures.ok refl, ← c.new.ensures)
-    (items_on-keep_last (g.R.RingBuffer.limit c.self.inside.ring) (g.R.RingBuffer.contents c.self.inside.ring) c.new.result)
+    rw (← c.self.view_is, c.rank_newest.ensures.items, c.in-Ok.ensures.ok refl, c.unranked.ensures)
+    (items_on-keep_last (g.R.RingBuffer.limit c.self.inside.ring) (g.R.RingBuffer.contents c.self.inside.ring) (record { item = c.args.item; behind = 1; ahead = 0 }))
