@@ -114,9 +114,14 @@ impl<M: Monoid, R: RingBuffer<Kept<M>>> WindowFold<M, R> {
         before_push(&mut self.ring, &mut self.folds);
         let newer = combined(&mut self.folds.calls, &self.folds.newer, &item);
         match self.ring.push(Kept::new(item)) {
-            Ok(overwritten) => {
+            // The cases stand apart, so that what leaves is moved once.
+            Ok(Some(Kept { item, after })) => {
+                slide(&mut self.folds, newer, after);
+                Ok(Some(item))
+            }
+            Ok(None) => {
                 self.folds.newer = newer;
-                Ok(remove_oldest(&mut self.folds, overwritten))
+                Ok(None)
             }
             Err(kept) => Err(kept.item),
         }
@@ -258,6 +263,20 @@ fn fold_both<M: Monoid, R: RingBuffer<Kept<M>>>(ring: &mut R, folds: &mut Folds<
     folds.older = fold_all(ring, &mut folds.calls);
     folds.newer = M::neutral();
     folds.folded = ring.len();
+}
+
+// Takes in what the newer items combine to, and removes the oldest item, beside which stood `after`.
+#[inline]
+fn slide<M: Monoid>(folds: &mut Folds<M>, newer: M, after: M)
+    requires { 0 < folds.old.folded }
+    ensures folded { folds.new.folded + 1 ≡ folds.old.folded }
+    ensures older { folds.new.older ≡ after }
+    ensures newer { folds.new.newer ≡ newer }
+    ensures calls { folds.new.calls ≡ folds.old.calls }
+{
+    folds.newer = newer;
+    folds.folded -= 1;
+    folds.older = after;
 }
 
 // Removes `oldest`, if an item left, from the items that are folded. Returns it.
