@@ -12,6 +12,7 @@ use Rattle.std.specs.Char.{digit_value, is_digit}
 use Rattle.std.specs.Str.Parse.{AllDigits, digits_value, digits_value_after}
 use Rattle.ringrun_service.proofs.Digits.{both_true}
 use Rattle.ringrun_service.proofs.Lines.{by_cases}
+use Rattle.ringrun_service.proofs.Parts.{and_parts, low_or_high}
 
 -- ---- bit by bit
 
@@ -21,18 +22,8 @@ least x y m h = omega arith
 least_right : (x y m : ℕ) → min (max x y) m ≡ 0 → min y m ≡ 0
 least_right x y m h = omega arith
 
-low_or_high : {P : Type 0} (i : ℕ) → (i < 8 → P) → (8 ≤ i → P) → P
-low_or_high i low high = by_cases (ltb i 8) (λ h. low (grind (arith, nat_tests))) (λ h. high (grind (arith, nat_tests)))
-
-and_cat : (m a n b : ℕ) → a < 2 ^ 8 → b < 2 ^ 8 → bit_and a b < 2 ^ 8 → bit_and (m * 2 ^ 8 + a) (n * 2 ^ 8 + b) ≡ bit_and m n * 2 ^ 8 + bit_and a b
-and_cat m a n b ha hb hc = same_from_bits _ _ (λ i. low_or_high i
-    (λ h. bit_at_and (m * 2 ^ 8 + a) (n * 2 ^ 8 + b) i ∙ ap (λ x. min x (bit_at (n * 2 ^ 8 + b) i)) (bit_at_cat_low m 8 a i h) ∙ ap (min (bit_at a i)) (bit_at_cat_low n 8 b i h)
-    ∙ sym (bit_at_cat_low (bit_and m n) 8 (bit_and a b) i h ∙ bit_at_and a b i))
-    (λ h. bit_at_and (m * 2 ^ 8 + a) (n * 2 ^ 8 + b) i ∙ ap (λ x. min x (bit_at (n * 2 ^ 8 + b) i)) (bit_at_cat_high m 8 a i ha h) ∙ ap (min (bit_at m (i - 8))) (bit_at_cat_high n 8 b i hb h)
-    ∙ sym (bit_at_cat_high (bit_and m n) 8 (bit_and a b) i hc h ∙ bit_at_and m n (i - 8))))
-
 xor_cat : (m a n b : ℕ) → a < 2 ^ 8 → b < 2 ^ 8 → bit_xor a b < 2 ^ 8 → bit_xor (m * 2 ^ 8 + a) (n * 2 ^ 8 + b) ≡ bit_xor m n * 2 ^ 8 + bit_xor a b
-xor_cat m a n b ha hb hc = same_from_bits _ _ (λ i. low_or_high i
+xor_cat m a n b ha hb hc = same_from_bits _ _ (λ i. low_or_high 8 i
     (λ h. bit_at_xor (m * 2 ^ 8 + a) (n * 2 ^ 8 + b) i ∙ ap (λ x. (x + bit_at (n * 2 ^ 8 + b) i) % 2) (bit_at_cat_low m 8 a i h) ∙ ap (λ y. (bit_at a i + y) % 2) (bit_at_cat_low n 8 b i h)
     ∙ sym (bit_at_cat_low (bit_xor m n) 8 (bit_xor a b) i h ∙ bit_at_xor a b i))
     (λ h. bit_at_xor (m * 2 ^ 8 + a) (n * 2 ^ 8 + b) i ∙ ap (λ x. (x + bit_at (n * 2 ^ 8 + b) i) % 2) (bit_at_cat_high m 8 a i ha h) ∙ ap (λ y. (bit_at m (i - 8) + y) % 2) (bit_at_cat_high n 8 b i hb h)
@@ -108,13 +99,13 @@ tops_none : (bs : List ℕ) → Below 128 bs → bit_and (pack bs) (pack (map (�
 tops_none [] h = refl
 tops_none (b ∷ bs) (h, hs) =
     let e = top_low b h in let rest = tops_none bs hs in
-    let cat = and_cat (pack bs) b (pack (map (λ _. 128) bs)) 128 (omega arith) (omega arith) (omega (arith, e)) in
+    let cat = and_parts 8 (pack bs) b (pack (map (λ _. 128) bs)) 128 (omega arith) (omega arith) (omega (arith, e)) in
     cat ∙ ap (λ n. n * 2 ^ 8 + bit_and b 128) rest ∙ ap (λ n. 0 * 2 ^ 8 + n) e
 
 none_tops : (bs : List ℕ) → Below 256 bs → bit_and (pack bs) (pack (map (λ _. 128) bs)) ≡ 0 → Below 128 bs
 none_tops [] h e = tt
 none_tops (b ∷ bs) (h, hs) e =
-    let parts : bit_and (pack bs) (pack (map (λ _. 128) bs)) * 2 ^ 8 + bit_and b 128 ≡ 0 = sym (and_cat (pack bs) b (pack (map (λ _. 128) bs)) 128 h (omega arith) (top_small b h)) ∙ e in
+    let parts : bit_and (pack bs) (pack (map (λ _. 128) bs)) * 2 ^ 8 + bit_and b 128 ≡ 0 = sym (and_parts 8 (pack bs) b (pack (map (λ _. 128) bs)) 128 h (omega arith) (top_small b h)) ∙ e in
     let top : bit_and b 128 ≡ 0 = omega (arith, parts) in
     let rest : bit_and (pack bs) (pack (map (λ _. 128) bs)) ≡ 0 = omega (arith, parts) in (
       by_cases (ltb b 128) (λ k. grind (arith, nat_tests)) (λ k. let t = top_high b h (grind (arith, nat_tests)) in absurd (omega (arith, t, top))),
@@ -199,10 +190,10 @@ and_masked ms [] h = refl
 and_masked [] (b ∷ bs) h = and_zero_r (pack (b ∷ bs))
 and_masked (m ∷ ms) (b ∷ bs) (h, hs) =
     let here = kept m b h in
-    and_cat (pack bs) b (mask_of ms) (cond m 255 0) h (mask_small m) (subst (λ n. n < 2 ^ 8) (sym here) (kept_small m b h))
+    and_parts 8 (pack bs) b (mask_of ms) (cond m 255 0) h (mask_small m) (subst (λ n. n < 2 ^ 8) (sym here) (kept_small m b h))
     ∙ ap (λ n. n * 2 ^ 8 + bit_and b (cond m 255 0)) (and_masked ms bs hs) ∙ ap (λ n. pack (masked ms bs) * 2 ^ 8 + n) here
 
-by_eight : (P : List ℕ → Type 0) → ((b0 b1 b2 b3 b4 b5 b6 b7 : ℕ) → P (b0 ∷ b1 ∷ b2 ∷ b3 ∷ b4 ∷ b5 ∷ b6 ∷ b7 ∷ [])) → (bs : List ℕ) → length bs ≡ 8 → P bs
+pub by_eight : (P : List ℕ → Type 0) → ((b0 b1 b2 b3 b4 b5 b6 b7 : ℕ) → P (b0 ∷ b1 ∷ b2 ∷ b3 ∷ b4 ∷ b5 ∷ b6 ∷ b7 ∷ [])) → (bs : List ℕ) → length bs ≡ 8 → P bs
 by_eight P f [] h = absurd (omega (arith, h))
 by_eight P f (b0 ∷ []) h = absurd (omega (arith, h))
 by_eight P f (b0 ∷ b1 ∷ []) h = absurd (omega (arith, h))

@@ -3,12 +3,15 @@ pub mod Commands
 pub mod Digits
 pub mod Eight
 pub mod Endings
+pub mod FirstDigit
 pub mod GoodLines
 pub mod Lines
 pub mod Numbers
+pub mod Parts
 pub mod Rest
 pub mod Runs
 pub mod Signs
+pub mod Spelling
 pub mod Texts
 pub mod Told
 pub mod WorkedRows

@@ -1,4 +1,5 @@
 pub mod Arguments
+pub mod Decimal
 pub mod Fault
 pub mod Program
 pub mod Reading

@@ -2,6 +2,7 @@
 #![tactic(auto)]
 
 mod arguments;
+mod decimal;
 mod ending;
 mod error_line;
 mod fault;
