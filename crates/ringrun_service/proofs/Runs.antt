@@ -1,5 +1,5 @@
--- Runs of the script's commands, batch by batch, and what they print.
-use Rattle.std.proofs.Common.{◌≡◌, ℕ, ℤ, ◌-◌, ◌^◌, List, [], ◌∷◌, ◌++◌, map, flat_map, Option, Vec, refl, sym, ap, ◌∙◌, arith, append_assoc}
+-- Runs of the script's commands, one by one, and what they print.
+use Rattle.std.proofs.Common.{◌≡◌, ℕ, ℤ, ◌-◌, ◌^◌, List, [], ◌∷◌, ◌++◌, flat_map, Option, Vec, refl, sym, ap, ◌∙◌, arith, append-nil, append_assoc}
 use Rattle.std.specs.Global.{Global}
 use Rattle.std.proofs.lemmas.List.{take_all}
 use Rattle.ringbuffer.specs.Contents.{keep_last, IsWithin}
@@ -30,35 +30,26 @@ reply_plain limit l Dequeue = refl
 reply_plain limit l Skip = refl
 reply_plain limit l Clear = refl
 
-all_plain : (limit : Option ℕ) (l : List ℤ) (cs : List (Command ℤ)) → after_all limit l (map plain cs) ≡ after_all limit l cs
-all_plain limit l [] = refl
-all_plain limit l (c ∷ cs) = ap (λ m. after_all limit m (map plain cs)) (after_plain limit l c) ∙ all_plain limit (after_one limit l c) cs
-
-replies_plain : (limit : Option ℕ) (l : List ℤ) (cs : List (Command ℤ)) → replies_to limit l (map plain cs) ≡ replies_to limit l cs
-replies_plain limit l [] = refl
-replies_plain limit l (c ∷ cs) =
-    ap (λ m. reply_to limit l (plain c) ∷ replies_to limit m (map plain cs)) (after_plain limit l c)
-    ∙ ap (λ r. r ∷ replies_to limit (after_one limit l c) (map plain cs)) (reply_plain limit l c)
-    ∙ ap (λ rs. reply_to limit l c ∷ rs) (replies_plain limit (after_one limit l c) cs)
-
 lines-append : (xs ys : List (Reply ℤ)) → flat_map reply_line (xs ++ ys) ≡ flat_map reply_line xs ++ flat_map reply_line ys
 lines-append [] ys = refl
 lines-append (x ∷ xs) ys = ap (λ t. reply_line x ++ t) (lines-append xs ys) ∙ sym (append_assoc (reply_line x) (flat_map reply_line xs) (flat_map reply_line ys))
 
--- one more batch
-pub batch_replies : RunsJoin ℤ → (limit : Option ℕ) (start now : List ℤ) (done batch : List (Command ℤ)) (replies : List (Reply ℤ)) (old new : List ℕ)
-    → now ≡ after_all limit start done → old ≡ flat_map reply_line (replies_to limit start done) → replies ≡ replies_to limit now batch → new ≡ old ++ flat_map reply_line replies
-    → new ≡ flat_map reply_line (replies_to limit start (done ++ map plain batch))
-batch_replies join limit start now done batch replies old new here text said more =
-    more ∙ ap (λ t. t ++ flat_map reply_line replies) text
-    ∙ ap (λ rs. flat_map reply_line (replies_to limit start done) ++ flat_map reply_line rs) (said ∙ ap (λ l. replies_to limit l batch) here ∙ sym (replies_plain limit (after_all limit start done) batch))
-    ∙ sym (lines-append (replies_to limit start done) (replies_to limit (after_all limit start done) (map plain batch)))
-    ∙ ap (flat_map reply_line) (sym (join limit start done (map plain batch)).1)
+-- one more command
+pub line_replies : RunsJoin ℤ → (limit kept_limit : Option ℕ) (start now : List ℤ) (done : List (Command ℤ)) (command : Command ℤ) (reply : Reply ℤ) (old new : List ℕ) → kept_limit ≡ limit
+    → now ≡ after_all limit start done → old ≡ flat_map reply_line (replies_to limit start done) → reply ≡ reply_to kept_limit now command → new ≡ old ++ reply_line reply
+    → new ≡ flat_map reply_line (replies_to limit start (done ++ plain command ∷ []))
+line_replies join limit kept_limit start now done command reply old new same here text said more =
+    let lines = flat_map reply_line (replies_to limit start done) in let last = reply_to limit (after_all limit start done) (plain command) in
+    more ∙ ap (λ t. t ++ reply_line reply) text
+    ∙ ap (λ r. lines ++ reply_line r) (said ∙ ap (λ m. reply_to m now command) same ∙ ap (λ l. reply_to limit l command) here ∙ sym (reply_plain limit (after_all limit start done) command))
+    ∙ ap (λ t. lines ++ t) (sym (append-nil (reply_line last)))
+    ∙ sym (lines-append (replies_to limit start done) (last ∷ []))
+    ∙ ap (flat_map reply_line) (sym (join limit start done (plain command ∷ [])).1)
 
-pub batch_contents : RunsJoin ℤ → (limit : Option ℕ) (start now after : List ℤ) (done batch : List (Command ℤ))
-    → now ≡ after_all limit start done → after ≡ after_all limit now batch → after ≡ after_all limit start (done ++ map plain batch)
-batch_contents join limit start now after done batch here there =
-    there ∙ ap (λ l. after_all limit l batch) here ∙ sym (all_plain limit (after_all limit start done) batch) ∙ sym (join limit start done (map plain batch)).0
+pub line_contents : RunsJoin ℤ → (limit kept_limit : Option ℕ) (start now after : List ℤ) (done : List (Command ℤ)) (command : Command ℤ) → kept_limit ≡ limit
+    → now ≡ after_all limit start done → after ≡ after_one kept_limit now command → after ≡ after_all limit start (done ++ plain command ∷ [])
+line_contents join limit kept_limit start now after done command same here there =
+    there ∙ ap (λ m. after_one m now command) same ∙ ap (λ l. after_one limit l command) here ∙ sym (after_plain limit (after_all limit start done) command) ∙ sym (join limit start done (plain command ∷ [])).0
 
 -- the items behind the replies
 pub printed : MeaningsAgree ℤ → (limit : Option ℕ) (start now : List ℤ) (done : List (Command ℤ)) (old new : List ℕ) → IsWithin start limit

@@ -5,7 +5,7 @@ ghost use Rattle.std.specs.IoError.{error_kind};
 ghost use Rattle.ringrun_service.specs.Fault.{status_of};
 ghost use Rattle.ringrun_service.specs.declared.fault.Fault.TheVariants.{NoMemory};
 
-use ringbuffer::RunFault;
+use ringbuffer::Refused;
 use std::alloc::{AllocError, AllocFailed};
 use std::io::ErrorKind;
 use std::{fmt, io};
@@ -81,10 +81,10 @@ impl<T: Drop> From<AllocFailed<T>> for Fault {
     }
 }
 
-impl<T: Drop> From<RunFault<T>> for Fault {
+impl<T: Drop> From<Refused<T>> for Fault {
     ghost from_gives = { λ _ fault. fault ≡ NoMemory };
 
-    fn from(_: RunFault<T>) -> Fault {
+    fn from(_: Refused<T>) -> Fault {
         Fault::NoMemory
     }
 }

@@ -7,22 +7,12 @@ ghost use Rattle.ringrun_service.specs.Report.{item_text, items_line, reply_line
 use ringbuffer::{Reply, RingBuffer, RingBufferIterator};
 use std::alloc::AllocError;
 
-/// Puts a line for each of `replies` at the end of `text`.
+/// Puts the line of `reply` at the end of `text`.
 ///
 /// # Errors
 ///
 /// Where memory was refused.
-pub fn push_replies(text: &mut String, replies: &[Reply<i64>]) -> Result<(), AllocError>
-    ensures { OnOk result (string_bytes text.new
-        ≡ string_bytes text.old ++ flat_map reply_line replies.now) }
-{
-    for reply in replies {
-        push_reply(text, reply)?;
-    }
-    Ok(())
-}
-
-fn push_reply(text: &mut String, reply: &Reply<i64>) -> Result<(), AllocError>
+pub fn push_reply(text: &mut String, reply: &Reply<i64>) -> Result<(), AllocError>
     ensures { OnOk result (string_bytes text.new ≡ string_bytes text.old ++ reply_line reply.now) }
 {
     match reply {

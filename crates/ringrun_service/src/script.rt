@@ -14,9 +14,6 @@ use crate::fault::Fault;
 use ringbuffer::Command;
 use std::alloc::{AllocError, Global};
 
-// How many commands are made at a time.
-const BATCH: usize = 1024;
-
 // A number of at most 19 digits is below 2^64.
 const SAFE_DIGITS: usize = 19;
 
@@ -37,63 +34,18 @@ impl<'a> Script<'a> {
         Script { text, rest: text }
     }
 
-    /// Reads the next lines, and returns the commands that they write. A line without words writes none.
-    ///
-    /// # Errors
-    ///
-    /// `NotACommand` for the first line whose words are no command, and `NoMemory` where memory was refused before such a line.
-    /// The line is then left to read.
-    pub fn read_batch(&mut self, alloc: Global) -> Result<Vec<Command<i64>>, Fault>
-        requires { IsRest self.old }
-        ensures rest { IsRest self.new }
-        ensures commands { IfOk result (λ commands. script_left self.old
-            ≡ with_front (map plain commands.items) (script_left self.new)) }
-        ensures passed { (commands : List (Command ℤ))
-            × (script_left self.old ≡ with_front commands (script_left self.new)) }
-        ensures bad { IfErr result
-            (λ fault. IfNotACommand fault (λ line. script_left self.old ≡ Err line)) }
-        ensures faults { IfErr result IsInScript }
-        ensures shorter { OnOk result (0 < length self.old.rest.now
-            → length self.new.rest.now < length self.old.rest.now) }
-    {
-        // A command takes a byte at least.
-        let mut commands = Vec::with_capacity(alloc, BATCH.min(self.rest.len()))?;
-        while commands.len() < BATCH && !self.rest.is_empty() {
-            if let Some(command) = self.read_line(alloc, true)? {
-                commands.push(command)?;
-            }
-        }
-        Ok(commands)
-    }
-
-    /// Reads all lines that are left, and keeps nothing of them. It takes no memory.
-    ///
-    /// # Errors
-    ///
-    /// `NotACommand` for the first line that is none.
-    pub fn check(&mut self, alloc: Global) -> Result<(), Fault>
-        requires { IsRest self.old }
-        ensures good { OnOk result ((commands : List (Command ℤ))
-            × (script_left self.old ≡ Ok commands)) }
-        ensures bad { IfErr result
-            (λ fault. IfNotACommand fault (λ line. script_left self.old ≡ Err line)) }
-        ensures fault { IfErr result NamesALine }
-        ensures read { OnOk result (length self.new.rest.now ≡ 0) }
-    {
-        while !self.rest.is_empty() {
-            drop(self.read_line(alloc, false)?);
-        }
-        Ok(())
-    }
-
     /// Reads the next line, and returns the command that it writes if it has words. Unless it `keeps_items`, an extension has
     /// none and takes no memory.
     ///
     /// # Errors
     ///
-    /// As `read_batch`. The line is then left to read.
+    /// `NotACommand` where its words are no command, and `NoMemory` where memory was refused. The line is then left to read.
     #[inline(always)]
-    fn read_line(&mut self, alloc: Global, keeps_items: bool) -> Result<Option<Command<i64>>, Fault>
+    pub fn read_line(
+        &mut self,
+        alloc: Global,
+        keeps_items: bool,
+    ) -> Result<Option<Command<i64>>, Fault>
         requires { IsRest self.old }
         ensures rest { IsRest self.new }
         ensures command { keeps_items ≡ true → IfOk result
@@ -115,6 +67,26 @@ impl<'a> Script<'a> {
         };
         self.end_line(rest)?;
         Ok(Some(command))
+    }
+
+    /// Reads all lines that are left, and keeps nothing of them. It takes no memory.
+    ///
+    /// # Errors
+    ///
+    /// `NotACommand` for the first line that is none.
+    pub fn check(&mut self, alloc: Global) -> Result<(), Fault>
+        requires { IsRest self.old }
+        ensures good { OnOk result ((commands : List (Command ℤ))
+            × (script_left self.old ≡ Ok commands)) }
+        ensures bad { IfErr result
+            (λ fault. IfNotACommand fault (λ line. script_left self.old ≡ Err line)) }
+        ensures fault { IfErr result NamesALine }
+        ensures read { OnOk result (length self.new.rest.now ≡ 0) }
+    {
+        while !self.rest.is_empty() {
+            drop(self.read_line(alloc, false)?);
+        }
+        Ok(())
     }
 
     /// Goes on behind the first line that is left, which `rest` ends.

@@ -16,7 +16,7 @@ use crate::fault::Fault;
 use crate::report;
 use crate::script::Script;
 use ringbuffer::{
-    AllocRingBuffer, ConstGenericRingBuffer, GrowableAllocRingBuffer, RingBuffer, run, runs_join,
+    AllocRingBuffer, ConstGenericRingBuffer, GrowableAllocRingBuffer, RingBuffer, apply, runs_join,
 };
 use std::alloc::Global;
 use std::io;
@@ -217,8 +217,8 @@ fn answer_script<R: RingBuffer<i64>>(
     answer
 }
 
-/// Returns the text that the replies of `ring` to `script` make. It runs in batches, so that commands and replies take little
-/// memory.
+/// Returns the text that the replies of `ring` to `script` make. Each line is run as soon as it is read, so that no command
+/// and no reply is kept.
 fn run_script<R: RingBuffer<i64>>(
     ring: &mut R,
     alloc: Global,
@@ -240,9 +240,11 @@ fn run_script<R: RingBuffer<i64>>(
     runs_join::<i64>();
     let mut text = String::new(alloc);
     while !script.rest.is_empty() {
-        let commands = script.read_batch(alloc)?;
-        let replies = run(alloc, ring, commands)?;
-        report::push_replies(&mut text, replies.as_slice())?;
+        let Some(command) = script.read_line(alloc, true)? else {
+            continue;
+        };
+        let reply = apply(ring, command)?;
+        report::push_reply(&mut text, &reply)?;
     }
     report::push_items(&mut text, ring)?;
     Ok(text)

@@ -1,4 +1,4 @@
--- Each batch takes a line at least. The ring stands, and the text reads, as after one run of the commands so far.
+-- Each turn takes a line. The ring stands, and the text reads, as after one run of the commands so far.
 use Rattle.std.proofs.Common.{◌≡◌, ℤ, List, length, flat_map}
 use Rattle.std.specs.Prelude.{string_bytes}
 use Rattle.ringbuffer.specs.Meaning.{after_all, replies_to}
