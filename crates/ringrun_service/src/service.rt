@@ -88,14 +88,14 @@ fn attempt<I: Read, O: Write>(
     ensures written_last { (¬ IsAtEnd (I.remaining input.new)) → output.new ≡ output.old }
 {
     let text = answer(alloc, words, input)?;
-    print(text.as_str(), output)
+    print(text.as_slice(), output)
 }
 
 /// Returns the text that the program prints. No byte of the input is read before the arguments are checked.
-fn answer<I: Read>(alloc: Global, words: &[String], input: &mut I) -> Result<String, Fault>
+fn answer<I: Read>(alloc: Global, words: &[String], input: &mut I) -> Result<Vec<u8>, Fault>
     ensures text { IfOk result (λ text. (a : Arguments) × AsksFor (map string_bytes words.now) a
         × IfSome (I.remaining input.old)
-        (λ bytes. Prints (limit_of a.kind a.capacity) bytes (string_bytes text))) }
+        (λ bytes. Prints (limit_of a.kind a.capacity) bytes text.items)) }
     ensures bad { IfErr result (λ fault. IfNotACommand fault
         (λ line. IfSome (I.remaining input.old) (IsBad line))) }
     ensures arguments { IsErrOf result Fault.BadArguments
@@ -113,9 +113,9 @@ fn answer<I: Read>(alloc: Global, words: &[String], input: &mut I) -> Result<Str
     }
 }
 
-fn answer_by_array<I: Read>(alloc: Global, capacity: usize, input: &mut I) -> Result<String, Fault>
+fn answer_by_array<I: Read>(alloc: Global, capacity: usize, input: &mut I) -> Result<Vec<u8>, Fault>
     ensures text { IfOk result (λ text. IfSome (I.remaining input.old)
-        (λ bytes. Prints (Some capacity) bytes (string_bytes text))) }
+        (λ bytes. Prints (Some capacity) bytes text.items)) }
     ensures bad { IfErr result (λ fault. IfNotACommand fault
         (λ line. IfSome (I.remaining input.old) (IsBad line))) }
     ensures arguments { IsErrOf result Fault.BadArguments ↔ (¬ IsOffered Kind.Array capacity) }
@@ -137,11 +137,11 @@ fn answer_by_array<I: Read>(alloc: Global, capacity: usize, input: &mut I) -> Re
 fn answer_by_array_of<const CAP: usize, I: Read>(
     alloc: Global,
     input: &mut I,
-) -> Result<String, Fault>
+) -> Result<Vec<u8>, Fault>
     requires some { 0 < CAP }
     requires few { CAP < 2 ^ 16 }
     ensures text { IfOk result (λ text. IfSome (I.remaining input.old)
-        (λ bytes. Prints (Some CAP) bytes (string_bytes text))) }
+        (λ bytes. Prints (Some CAP) bytes text.items)) }
     ensures bad { IfErr result (λ fault. IfNotACommand fault
         (λ line. IfSome (I.remaining input.old) (IsBad line))) }
     ensures faults { IfErr result (λ fault. fault ≢ Fault.BadArguments) }
@@ -150,9 +150,9 @@ fn answer_by_array_of<const CAP: usize, I: Read>(
     answer_by(&mut ConstGenericRingBuffer::<i64, CAP>::new(), alloc, input)
 }
 
-fn answer_by_heap<I: Read>(alloc: Global, capacity: usize, input: &mut I) -> Result<String, Fault>
+fn answer_by_heap<I: Read>(alloc: Global, capacity: usize, input: &mut I) -> Result<Vec<u8>, Fault>
     ensures text { IfOk result (λ text. IfSome (I.remaining input.old)
-        (λ bytes. Prints (Some capacity) bytes (string_bytes text))) }
+        (λ bytes. Prints (Some capacity) bytes text.items)) }
     ensures bad { IfErr result (λ fault. IfNotACommand fault
         (λ line. IfSome (I.remaining input.old) (IsBad line))) }
     ensures arguments { IsErrOf result Fault.BadArguments ↔ (¬ IsOffered Kind.Heap capacity) }
@@ -168,9 +168,9 @@ fn answer_by_heap<I: Read>(alloc: Global, capacity: usize, input: &mut I) -> Res
     answer_by(&mut ring, alloc, input)
 }
 
-fn answer_by_grow<I: Read>(alloc: Global, capacity: usize, input: &mut I) -> Result<String, Fault>
+fn answer_by_grow<I: Read>(alloc: Global, capacity: usize, input: &mut I) -> Result<Vec<u8>, Fault>
     ensures text { IfOk result (λ text. IfSome (I.remaining input.old)
-        (λ bytes. Prints None bytes (string_bytes text))) }
+        (λ bytes. Prints None bytes text.items)) }
     ensures bad { IfErr result (λ fault. IfNotACommand fault
         (λ line. IfSome (I.remaining input.old) (IsBad line))) }
     ensures faults { IfErr result (λ fault. fault ≢ Fault.BadArguments) }
@@ -185,10 +185,10 @@ fn answer_by<R: RingBuffer<i64>, I: Read>(
     ring: &mut R,
     alloc: Global,
     input: &mut I,
-) -> Result<String, Fault>
+) -> Result<Vec<u8>, Fault>
     requires { R.contents ring.old ≡ [] }
     ensures text { IfOk result (λ text. IfSome (I.remaining input.old)
-        (λ bytes. Prints (R.limit ring.old) bytes (string_bytes text))) }
+        (λ bytes. Prints (R.limit ring.old) bytes text.items)) }
     ensures bad { IfErr result (λ fault. IfNotACommand fault
         (λ line. IfSome (I.remaining input.old) (IsBad line))) }
     ensures faults { IfErr result (λ fault. fault ≢ Fault.BadArguments) }
@@ -204,10 +204,10 @@ fn answer_script<R: RingBuffer<i64>>(
     ring: &mut R,
     alloc: Global,
     input: &[u8],
-) -> Result<String, Fault>
+) -> Result<Vec<u8>, Fault>
     requires { R.contents ring.old ≡ [] }
     ensures text { IfOk result
-        (λ text. Prints (R.limit ring.old) input.now (string_bytes text)) }
+        (λ text. Prints (R.limit ring.old) input.now text.items) }
     ensures bad { (line : ℕ) → IsErrOf result (Fault.NotACommand line) ↔ IsBad line input.now }
     ensures faults { IfErr result IsInScript }
 {
@@ -223,12 +223,12 @@ fn run_script<R: RingBuffer<i64>>(
     ring: &mut R,
     alloc: Global,
     script: &mut Script<'_>,
-) -> Result<String, Fault>
+) -> Result<Vec<u8>, Fault>
     requires { IsRest script.old }
     ensures rest { IsRest script.new }
     ensures text { IfOk result (λ text. (commands : List (Command ℤ))
         × (script_left script.old ≡ Ok commands)
-        × (string_bytes text ≡ printed_on (R.limit ring.old) (R.contents ring.old) commands)) }
+        × (text.items ≡ printed_on (R.limit ring.old) (R.contents ring.old) commands)) }
     ensures passed { (commands : List (Command ℤ))
         × (script_left script.old ≡ with_front commands (script_left script.new)) }
     ensures bad { IfErr result
@@ -238,7 +238,7 @@ fn run_script<R: RingBuffer<i64>>(
     // For the proof: the contents are within the limit.
     let _ = ring.len();
     runs_join::<i64>();
-    let mut text = String::new(alloc);
+    let mut text = Vec::new(alloc);
     while !script.rest.is_empty() {
         let Some(command) = script.read_line(alloc, true)? else {
             continue;
@@ -265,11 +265,11 @@ fn read_all<I: Read>(alloc: Global, input: &mut I) -> Result<Vec<u8>, Fault>
     Ok(bytes)
 }
 
-fn print<O: Write>(text: &str, output: &mut O) -> Result<(), Fault>
+fn print<O: Write>(text: &[u8], output: &mut O) -> Result<(), Fault>
     ensures ok { OnOk result (Appends (O.contents output.old) (O.contents output.new) text.now) }
     ensures err { IfErr result (λ fault. fault ≡ Fault.InputOrOutput) }
 {
-    if output.write_all(text.as_bytes()).is_err() || output.flush().is_err() {
+    if output.write_all(text).is_err() || output.flush().is_err() {
         return Err(Fault::InputOrOutput);
     }
     Ok(())

@@ -1,6 +1,5 @@
 -- The item goes from those to come to those so far.
 use Rattle.std.proofs.Common.{◌++◌, ap, sym, ◌∙◌, append_assoc, flat_map}
-use Rattle.std.specs.Prelude.{string_bytes}
 use Rattle.ringbuffer.specs.Walk.{iterator_to_come}
 use Rattle.ringrun_service.specs.Report.{item_text}
 use Rattle.ringrun_service.proofs.report.push_items.Goals as goal
@@ -9,6 +8,6 @@ pub loop-item-preserved : goal.loop-item-preserved
 loop-item-preserved g c =
     let rest = flat_map item_text (iterator_to_come g.R.RingBuffer.contents c.next.new.self) in
     ap (λ t. t ++ rest) c.in_ok-push_item.ensures
-    ∙ append_assoc (string_bytes c.loop-item.text) (item_text c.in-Some.item.now) (rest)
-    ∙ ap (λ xs. string_bytes c.loop-item.text ++ flat_map item_text xs) (sym c.in-Some.ensures.steps)
+    ∙ append_assoc (c.loop-item.text.items) (item_text c.in-Some.item.now) (rest)
+    ∙ ap (λ xs. c.loop-item.text.items ++ flat_map item_text xs) (sym c.in-Some.ensures.steps)
     ∙ c.loop-item.invariant

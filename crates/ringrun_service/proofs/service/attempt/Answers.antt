@@ -3,7 +3,7 @@ use Rattle.ringrun_service.proofs.Endings.{done}
 use Rattle.ringrun_service.proofs.service.attempt.Goals as goal
 
 pub returns-clause-done : goal.returns-clause-done
-returns-clause-done g c = done c.print.result _ _ _ _ _ _ c.in_ok-text.ensures.text c.as_str.ensures.value c.print.ensures.ok
+returns-clause-done g c = done c.print.result _ _ _ _ _ _ c.in_ok-text.ensures.text c.as_slice.ensures.value c.print.ensures.ok
 
 pub returns-in_err-text-clause-unwritten : goal.returns-in_err-text-clause-unwritten
 returns-in_err-text-clause-unwritten g c = search rules

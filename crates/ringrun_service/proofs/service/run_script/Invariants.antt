@@ -1,6 +1,5 @@
 -- Each turn takes a line. The ring stands, and the text reads, as after one run of the commands so far.
 use Rattle.std.proofs.Common.{◌≡◌, ℤ, List, length, flat_map}
-use Rattle.std.specs.Prelude.{string_bytes}
 use Rattle.ringbuffer.specs.Meaning.{after_all, replies_to}
 use Rattle.ringbuffer.specs.declared.Command.{Command}
 use Rattle.ringrun_service.specs.Report.{reply_line}
@@ -15,7 +14,7 @@ invariant-loop-alloc g l =
       rest : IsRest l.script;
       same_limit : limit l.ring ≡ limit l.fn.ring;
       run : (commands : List (Command ℤ)) × (script_left l.fn.script ≡ with_front commands (script_left l.script))
-          × (string_bytes l.text ≡ flat_map reply_line (replies_to (limit l.fn.ring) (contents l.fn.ring) commands))
+          × (l.text.items ≡ flat_map reply_line (replies_to (limit l.fn.ring) (contents l.fn.ring) commands))
           × (contents l.ring ≡ after_all (limit l.fn.ring) (contents l.fn.ring) commands);
     }
 
