@@ -397,15 +397,17 @@ fn refusals(
     panic!(rt; "refused at each step")
 }
 
-// The two scripts are as long and answered alike, and differ in the memory that the items of an extension take.
+// The two scripts are as long and answered alike. The items of an extension take memory on a growable ring alone.
 #[test]
 fn is_refused_an_extension(rt: HostRuntime) {
     let ending = prints("extended\nextended\ncleared\ndequeued none\nitems\n");
-    let with_items = "extend 1 2 3\n\nextend\nclear\ndequeue\n";
-    let with_items = refusals(&rt, &["heap", "2"], with_items, 32, ending);
-    let without_items = "extend      \n\nextend\nclear\ndequeue\n";
-    let without_items = refusals(&rt, &["heap", "2"], without_items, 32, ending);
-    assert!(rt; with_items > without_items);
+    for (arguments, takes_memory) in [(["heap", "2"], false), (["grow", "0"], true)] {
+        let with_items = "extend 1 2 3 4 5 6 7 8\n\nextend\nclear\ndequeue\n";
+        let with_items = refusals(&rt, &arguments, with_items, 32, ending);
+        let without_items = "extend                \n\nextend\nclear\ndequeue\n";
+        let without_items = refusals(&rt, &arguments, without_items, 32, ending);
+        assert_eq!(rt; with_items > without_items, takes_memory);
+    }
 }
 
 // There is room for reading, and none for the ring.
@@ -418,8 +420,8 @@ fn is_refused_a_ring(rt: HostRuntime) {
     }
 }
 
-// With room for the input, refusals come one after the other: for commands, replies, the ring and the text, of one batch and
-// the next. The line that is no command is behind them all.
+// With room for the input, refusals come one after the other, for the ring and the text. The line that is no command is behind
+// them all.
 #[test]
 fn names_a_line_behind_what_is_refused(rt: HostRuntime) {
     let lines = ("push 7\n\n", 3000);

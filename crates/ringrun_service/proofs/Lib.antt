@@ -3,6 +3,7 @@ pub mod Commands
 pub mod Digits
 pub mod Eight
 pub mod Endings
+pub mod Extensions
 pub mod FirstDigit
 pub mod GoodLines
 pub mod Lines

@@ -34,22 +34,30 @@ lines-append : (xs ys : List (Reply ℤ)) → flat_map reply_line (xs ++ ys) ≡
 lines-append [] ys = refl
 lines-append (x ∷ xs) ys = ap (λ t. reply_line x ++ t) (lines-append xs ys) ∙ sym (append_assoc (reply_line x) (flat_map reply_line xs) (flat_map reply_line ys))
 
--- one more command
-pub line_replies : RunsJoin ℤ → (limit kept_limit : Option ℕ) (start now : List ℤ) (done : List (Command ℤ)) (command : Command ℤ) (reply : Reply ℤ) (old new : List ℕ) → kept_limit ≡ limit
-    → now ≡ after_all limit start done → old ≡ flat_map reply_line (replies_to limit start done) → reply ≡ reply_to kept_limit now command → new ≡ old ++ reply_line reply
-    → new ≡ flat_map reply_line (replies_to limit start (done ++ plain command ∷ []))
-line_replies join limit kept_limit start now done command reply old new same here text said more =
-    let lines = flat_map reply_line (replies_to limit start done) in let last = reply_to limit (after_all limit start done) (plain command) in
-    more ∙ ap (λ t. t ++ reply_line reply) text
-    ∙ ap (λ r. lines ++ reply_line r) (said ∙ ap (λ m. reply_to m now command) same ∙ ap (λ l. reply_to limit l command) here ∙ sym (reply_plain limit (after_all limit start done) command))
-    ∙ ap (λ t. lines ++ t) (sym (append-nil (reply_line last)))
-    ∙ sym (lines-append (replies_to limit start done) (last ∷ []))
-    ∙ ap (flat_map reply_line) (sym (join limit start done (plain command ∷ [])).1)
+-- one command alone
+pub one_reply : (limit : Option ℕ) (l : List ℤ) (command : Command ℤ) (reply : Reply ℤ) (old new : List ℕ) → reply ≡ reply_to limit l command → new ≡ old ++ reply_line reply
+    → new ≡ old ++ flat_map reply_line (replies_to limit l (plain command ∷ []))
+one_reply limit l command reply old new said more =
+    more ∙ ap (λ r. old ++ reply_line r) (said ∙ sym (reply_plain limit l command)) ∙ ap (λ t. old ++ t) (sym (append-nil (reply_line (reply_to limit l (plain command)))))
 
-pub line_contents : RunsJoin ℤ → (limit kept_limit : Option ℕ) (start now after : List ℤ) (done : List (Command ℤ)) (command : Command ℤ) → kept_limit ≡ limit
-    → now ≡ after_all limit start done → after ≡ after_one kept_limit now command → after ≡ after_all limit start (done ++ plain command ∷ [])
-line_contents join limit kept_limit start now after done command same here there =
-    there ∙ ap (λ m. after_one m now command) same ∙ ap (λ l. after_one limit l command) here ∙ sym (after_plain limit (after_all limit start done) command) ∙ sym (join limit start done (plain command ∷ [])).0
+pub one_contents : (limit : Option ℕ) (l after : List ℤ) (command : Command ℤ) → after ≡ after_one limit l command → after ≡ after_all limit l (plain command ∷ [])
+one_contents limit l after command there = there ∙ sym (after_plain limit l command)
+
+-- the commands of one more line
+pub line_replies : RunsJoin ℤ → (limit kept_limit : Option ℕ) (start now : List ℤ) (done line : List (Command ℤ)) (old new : List ℕ) → kept_limit ≡ limit
+    → now ≡ after_all limit start done → old ≡ flat_map reply_line (replies_to limit start done) → new ≡ old ++ flat_map reply_line (replies_to kept_limit now line)
+    → new ≡ flat_map reply_line (replies_to limit start (done ++ line))
+line_replies join limit kept_limit start now done line old new same here text more =
+    let lines = flat_map reply_line (replies_to limit start done) in
+    more ∙ ap (λ t. t ++ flat_map reply_line (replies_to kept_limit now line)) text
+    ∙ ap (λ rs. lines ++ flat_map reply_line rs) (ap (λ m. replies_to m now line) same ∙ ap (λ l. replies_to limit l line) here)
+    ∙ sym (lines-append (replies_to limit start done) (replies_to limit (after_all limit start done) line))
+    ∙ ap (flat_map reply_line) (sym (join limit start done line).1)
+
+pub line_contents : RunsJoin ℤ → (limit kept_limit : Option ℕ) (start now after : List ℤ) (done line : List (Command ℤ)) → kept_limit ≡ limit
+    → now ≡ after_all limit start done → after ≡ after_all kept_limit now line → after ≡ after_all limit start (done ++ line)
+line_contents join limit kept_limit start now after done line same here there =
+    there ∙ ap (λ m. after_all m now line) same ∙ ap (λ l. after_all limit l line) here ∙ sym (join limit start done line).0
 
 -- the items behind the replies
 pub printed : MeaningsAgree ℤ → (limit : Option ℕ) (start now : List ℤ) (done : List (Command ℤ)) (old new : List ℕ) → IsWithin start limit

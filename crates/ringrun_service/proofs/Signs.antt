@@ -4,7 +4,9 @@ use Rattle.std.proofs.lemmas.Bool.Decides.{nat_tests}
 use Rattle.std.proofs.lemmas.Int.{to_z-of_z, to_z_pos}
 use mir.Val.{SFits, bool_byte, of_z, to_z}
 use Rattle.ringrun_service.proofs.Lines.{by_cases, some_is}
-use Rattle.ringrun_service.specs.Reading.{signed_of}
+use Rattle.std.specs.Option.{option_and_then, option_map}
+use Rattle.std.specs.Str.Parse.{starts_with_minus, without_leading_sign}
+use Rattle.ringrun_service.specs.Reading.{after_blanks, number_at, signed_at, signed_of, size_at, starts_blank}
 use Rattle.ringrun_service.specs.Script.{is_i64}
 
 pub too_large : (is_negative : Bool) (size : ℕ) → 2 ^ 63 - 1 + bool_byte is_negative < size → None ≡ signed_of is_negative size
@@ -50,3 +52,19 @@ before rest n = Some (n, rest)
 
 pub in_machine : (is_negative : Bool) (size : ℕ) (n : ℤ) (rest : List ℕ) → Some n ≡ signed_of is_negative size → before rest n ≡ before rest (to_z w64 (of_z w64 n))
 in_machine is_negative size n rest e = ap (before rest) (sym (to_z-of_z w64 n (in_range is_negative size n e)))
+
+-- ---- so is one that a text begins with
+
+mapped_fits : (signed : Option ℤ) (rest : List ℕ) (n : ℤ) (after : List ℕ) → ((m : ℤ) → Some m ≡ signed → SFits w64 m) → option_map {U = ℤ × List ℕ} (λ number. (number, rest)) signed ≡ Some (n, after) → SFits w64 n
+mapped_fits None rest n after fits e = absurd (cc)
+mapped_fits (Some m) rest n after fits e = subst (λ x. SFits w64 x) (ap (λ p. p.0) (some_is (m, rest) (n, after) e)) (fits m refl)
+
+joined_fits : (is_negative : Bool) (size : Option (ℕ × List ℕ)) (n : ℤ) (after : List ℕ) → option_and_then {U = ℤ × List ℕ} (λ read. option_map {U = ℤ × List ℕ} (λ number. (number, read.1)) (signed_of is_negative read.0)) size ≡ Some (n, after) → SFits w64 n
+joined_fits is_negative None n after e = absurd (cc)
+joined_fits is_negative (Some read) n after e = mapped_fits (signed_of is_negative read.0) read.1 n after (λ m h. in_range is_negative read.0 m h) e
+
+pub number_fits : (text : List ℕ) (n : ℤ) (after : List ℕ) → number_at text ≡ Some (n, after) → SFits w64 n
+unfolding number_at signed_at
+number_fits text n after = by_cases (starts_blank text)
+    (λ h. rw h (λ e. joined_fits (starts_with_minus (after_blanks text)) (size_at (without_leading_sign (after_blanks text))) n after e))
+    (λ h. rw h (λ e. absurd (cc)))

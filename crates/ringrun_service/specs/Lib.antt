@@ -1,6 +1,7 @@
 pub mod Arguments
 pub mod Decimal
 pub mod Fault
+pub mod Line
 pub mod Program
 pub mod Reading
 pub mod Rest

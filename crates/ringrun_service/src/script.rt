@@ -1,21 +1,31 @@
 //! A script: a command a line, its words apart by ASCII white space. It is read byte by byte.
 
-ghost use Rattle.std.specs.Prelude.{◌≡◌, ℤ, List, map, true, Err, Ok, ◌==◌, ◌-◌, ◌^◌, ◌%◌, ◌<◌, ◌≤◌, ◌&&◌, not, nat_lt, IfErr, IfOk, IfSome, IsOk, IsSome, MatchOption, None, OnOk, Some, SomeIff, false, length, take};
+ghost use Rattle.std.specs.Prelude.{◌≡◌, ℤ, ◌+◌, codes, List, true, Err, Ok, ◌==◌, ◌-◌, ◌^◌, ◌%◌, ◌<◌, ◌≤◌, ◌&&◌, not, nat_lt, IfErr, IfOk, IfSome, IsOk, IsSome, MatchOption, None, OnOk, Some, SomeIff, false, length, take};
 ghost use Rattle.std.specs.List.{list_all};
-ghost use Rattle.std.specs.Option.{option_to_list};
 ghost use Rattle.std.specs.Str.Parse.{AllDigits, digits_value};
-ghost use Rattle.ringrun_service.specs.Fault.{IfNotACommand, IsInScript, NamesALine};
-ghost use Rattle.ringrun_service.specs.Reading.{CommandAt, HasNoCommand, ReadsNumbers, after_blanks, after_end, after_name, digits_at, number_at, signed_of, size_at};
+ghost use Rattle.ringrun_service.specs.Fault.{IfNotACommand, NamesALine};
+ghost use Rattle.ringrun_service.specs.Line.{IsLine};
+ghost use Rattle.ringrun_service.specs.Reading.{CommandAt, HasNoCommand, NumbersAt, after_blanks, after_end, after_name, digits_at, number_at, signed_of, size_at};
 ghost use Rattle.ringrun_service.specs.Rest.{IsRest, next_number, script_left};
-ghost use Rattle.ringrun_service.specs.Script.{is_blank, plain, script_of, with_front};
+ghost use Rattle.ringrun_service.specs.Script.{is_blank, script_of, with_front};
 ghost use Rattle.ringbuffer.specs.declared.Command.{Command};
 
 use crate::fault::Fault;
 use ringbuffer::Command;
-use std::alloc::{AllocError, Global};
 
 // A number of at most 19 digits is below 2^64.
 const SAFE_DIGITS: usize = 19;
+
+/// What the next line of a script is.
+#[derive(Drop)]
+pub enum Line<'a> {
+    /// It has no words.
+    Blank,
+    /// It is a command, but no extension.
+    Command(Command<i64>),
+    /// It is an extension by the numbers that these bytes begin with. The line is left to read.
+    Extension(&'a [u8]),
+}
 
 /// A script that is read from its front, line by line.
 #[derive(Clone, Copy)]
@@ -34,39 +44,33 @@ impl<'a> Script<'a> {
         Script { text, rest: text }
     }
 
-    /// Reads the next line, and returns the command that it writes if it has words. Unless it `keeps_items`, an extension has
-    /// none and takes no memory.
+    /// Reads the next line. An extension's numbers are left to the caller, who goes on behind them by `end_line`, so that no
+    /// line takes memory.
     ///
     /// # Errors
     ///
-    /// `NotACommand` where its words are no command, and `NoMemory` where memory was refused. The line is then left to read.
+    /// `NotACommand` where its words are no command. The line is then left to read.
     #[inline(always)]
-    pub fn read_line(
-        &mut self,
-        alloc: Global,
-        keeps_items: bool,
-    ) -> Result<Option<Command<i64>>, Fault>
+    pub fn read_line(&mut self) -> Result<Line<'a>, Fault>
         requires { IsRest self.old }
         ensures rest { IsRest self.new }
-        ensures command { keeps_items ≡ true → IfOk result
-            (λ found. script_left self.old
-            ≡ with_front (map plain (option_to_list found)) (script_left self.new)) }
+        ensures line { IfOk result (λ line. IsLine line self.old self.new) }
         ensures passed { (commands : List (Command ℤ))
             × (script_left self.old ≡ with_front commands (script_left self.new)) }
         ensures bad { IfErr result
             (λ fault. IfNotACommand fault (λ line. script_left self.old ≡ Err line)) }
-        ensures faults { IfErr result IsInScript }
-        ensures no_memory { keeps_items ≡ false → IfErr result NamesALine }
-        ensures shorter { OnOk result (0 < length self.old.rest.now
-            → length self.new.rest.now < length self.old.rest.now) }
+        ensures faults { IfErr result NamesALine }
     {
         let words = skip_blanks(self.rest);
-        let Some((command, rest)) = read_command(alloc, keeps_items, words)? else {
+        let Some((command, rest)) = read_command(words) else {
+            if let Some(numbers) = strip_name(words, b"extend") {
+                return Ok(Line::Extension(numbers));
+            }
             self.end_line(words)?;
-            return Ok(None);
+            return Ok(Line::Blank);
         };
         self.end_line(rest)?;
-        Ok(Some(command))
+        Ok(Line::Command(command))
     }
 
     /// Reads all lines that are left, and keeps nothing of them. It takes no memory.
@@ -74,7 +78,7 @@ impl<'a> Script<'a> {
     /// # Errors
     ///
     /// `NotACommand` for the first line that is none.
-    pub fn check(&mut self, alloc: Global) -> Result<(), Fault>
+    pub fn check(&mut self) -> Result<(), Fault>
         requires { IsRest self.old }
         ensures good { OnOk result ((commands : List (Command ℤ))
             × (script_left self.old ≡ Ok commands)) }
@@ -84,7 +88,10 @@ impl<'a> Script<'a> {
         ensures read { OnOk result (length self.new.rest.now ≡ 0) }
     {
         while !self.rest.is_empty() {
-            drop(self.read_line(alloc, false)?);
+            let Line::Extension(numbers) = self.read_line()? else {
+                continue;
+            };
+            self.end_line(skip_numbers(numbers))?;
         }
         Ok(())
     }
@@ -95,7 +102,7 @@ impl<'a> Script<'a> {
     ///
     /// `NotACommand` where other words come before the line's end.
     #[inline(always)]
-    fn end_line(&mut self, rest: &'a [u8]) -> Result<(), Fault>
+    pub fn end_line(&mut self, rest: &'a [u8]) -> Result<(), Fault>
         ensures text { self.new.text ≡ self.old.text }
         ensures ok { OnOk result (after_end (after_blanks rest.now) ≡ Some self.new.rest.now) }
         ensures shorter { OnOk result (length self.new.rest.now ≤ length rest.now - 1) }
@@ -122,39 +129,28 @@ impl<'a> Script<'a> {
     }
 }
 
-/// Returns the command that begins `text`, if one does, and what follows the words that belong to it.
+/// Returns the command that begins `text`, if one does that is no extension, and what follows the words that belong to it.
 #[inline(always)]
-fn read_command(
-    alloc: Global,
-    keeps_items: bool,
-    text: &[u8],
-) -> Result<Option<(Command<i64>, &[u8])>, AllocError>
-    ensures command { IfOk result (λ found. MatchOption found (HasNoCommand text.now)
-        (λ read. CommandAt keeps_items text.now read.0 read.1.now)) }
-    ensures no_memory { keeps_items ≡ false → IsOk result }
-    ensures rest { IfOk result (λ found. IfSome found
-        (λ read. length read.1.now ≤ length text.now)) }
+fn read_command(text: &[u8]) -> Option<(Command<i64>, &[u8])>
+    ensures command { MatchOption result
+        (after_name (codes "extend") text.now ≡ None → HasNoCommand text.now)
+        (λ read. CommandAt true text.now read.0 read.1.now) }
+    ensures rest { IfSome result (λ read. length read.1.now ≤ length text.now) }
 {
     if let Some(rest) = strip_name(text, b"push") {
-        let Some((number, rest)) = split_number(rest) else {
-            return Ok(None);
-        };
-        return Ok(Some((Command::Push(number), rest)));
-    }
-    if let Some(rest) = strip_name(text, b"extend") {
-        let (items, rest) = read_numbers(alloc, keeps_items, rest)?;
-        return Ok(Some((Command::Extend(items), rest)));
+        let (number, rest) = split_number(rest)?;
+        return Some((Command::Push(number), rest));
     }
     if let Some(rest) = strip_name(text, b"dequeue") {
-        return Ok(Some((Command::Dequeue, rest)));
+        return Some((Command::Dequeue, rest));
     }
     if let Some(rest) = strip_name(text, b"skip") {
-        return Ok(Some((Command::Skip, rest)));
+        return Some((Command::Skip, rest));
     }
     if let Some(rest) = strip_name(text, b"clear") {
-        return Ok(Some((Command::Clear, rest)));
+        return Some((Command::Clear, rest));
     }
-    Ok(None)
+    None
 }
 
 /// Returns what follows `name` at the front of `text`, if it stands there.
@@ -167,27 +163,21 @@ fn strip_name<'a>(text: &'a [u8], name: &[u8]) -> Option<&'a [u8]>
     text.strip_prefix(name)
 }
 
-/// Returns the numbers at the front of `text`, or none of them unless it `keeps` them, and what follows them.
-fn read_numbers(alloc: Global, keeps: bool, text: &[u8]) -> Result<(Vec<i64>, &[u8]), AllocError>
-    ensures numbers { IfOk result
-        (λ read. ReadsNumbers keeps text.now read.0.items read.1.now) }
-    ensures no_memory { keeps ≡ false → IsOk result }
-    ensures rest { IfOk result (λ read. length read.1.now ≤ length text.now) }
+/// Returns what follows the numbers at the front of `text`.
+fn skip_numbers(text: &[u8]) -> &[u8]
+    ensures numbers { (numbers : List ℤ) × NumbersAt text.now numbers result.now
+        × (length numbers + length result.now ≤ length text.now) }
 {
-    let mut numbers = Vec::new(alloc);
     let mut rest = text;
-    while let Some((number, after)) = split_number(rest) {
-        if keeps {
-            numbers.push(number)?;
-        }
+    while let Some((_, after)) = split_number(rest) {
         rest = after;
     }
-    Ok((numbers, rest))
+    rest
 }
 
 /// Returns the number that follows the blanks at the front of `text`, and what follows it.
 #[inline(always)]
-fn split_number(text: &[u8]) -> Option<(i64, &[u8])>
+pub fn split_number(text: &[u8]) -> Option<(i64, &[u8])>
     ensures number { MatchOption result (number_at text.now ≡ None)
         (λ found. number_at text.now ≡ Some (found.0, found.1.now)) }
     ensures shorter { IfSome result (λ found. length found.1.now < length text.now) }

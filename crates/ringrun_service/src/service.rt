@@ -1,11 +1,16 @@
 //! The program's work, over any reader and writers.
 
-ghost use Rattle.std.specs.Prelude.{◌≡◌, ◌≢◌, ℕ, ℤ, ◌^◌, ◌<◌, ◌≤◌, ◌↔◌, Err, IfErr, IfOk, IfSome, IsErr, IsErrOf, List, None, Ok, OnOk, Some, [], length, map, string_bytes};
+ghost use Rattle.std.specs.Prelude.{◌≡◌, ◌≢◌, ℕ, ℤ, ◌+◌, ◌++◌, ◌^◌, ◌<◌, ◌≤◌, ◌↔◌, Err, IfErr, IfOk, IfSome, IsErr, IsErrOf, List, None, Ok, OnOk, Some, [], flat_map, length, map, string_bytes};
 ghost use Rattle.std.specs.Io.KnownBytes.{Appends, IsAtEnd};
+ghost use Rattle.ringbuffer.specs.Contents.{keep_last};
+ghost use Rattle.ringbuffer.specs.Meaning.{after_all, replies_to};
 ghost use Rattle.ringbuffer.specs.declared.Command.{Command};
 ghost use Rattle.ringrun_service.specs.Arguments.{AsksFor, AsksTooMuch, IsOffered, NamesRing};
 ghost use Rattle.ringrun_service.specs.Fault.{Begins, IfLinesRead, IfNotACommand, IsInScript, line_of, status_of};
+ghost use Rattle.ringrun_service.specs.Line.{IsShorter};
 ghost use Rattle.ringrun_service.specs.Program.{Answers, IsBad, Prints, Tells, limit_of, printed_on};
+ghost use Rattle.ringrun_service.specs.Reading.{NumbersAt};
+ghost use Rattle.ringrun_service.specs.Report.{reply_line};
 ghost use Rattle.ringrun_service.specs.Rest.{IsRest, script_left};
 ghost use Rattle.ringrun_service.specs.Script.{script_of, with_front};
 ghost use Rattle.ringrun_service.specs.declared.arguments.Arguments.{Arguments};
@@ -14,9 +19,10 @@ use crate::arguments::{Arguments, Kind};
 use crate::error_line::tell;
 use crate::fault::Fault;
 use crate::report;
-use crate::script::Script;
+use crate::script::{Line, Script, split_number};
 use ringbuffer::{
-    AllocRingBuffer, ConstGenericRingBuffer, GrowableAllocRingBuffer, RingBuffer, apply, runs_join,
+    AllocRingBuffer, ConstGenericRingBuffer, GrowableAllocRingBuffer, Reply, RingBuffer, apply,
+    runs_join,
 };
 use std::alloc::Global;
 use std::io;
@@ -213,12 +219,12 @@ fn answer_script<R: RingBuffer<i64>>(
 {
     let mut script = Script::new(input);
     let answer = run_script(ring, alloc, &mut script);
-    script.check(alloc)?;
+    script.check()?;
     answer
 }
 
-/// Returns the text that the replies of `ring` to `script` make. Each line is run as soon as it is read, so that no command
-/// and no reply is kept.
+/// Returns the text that the replies of `ring` to `script` make. Each line is run as it is read, so that no command and no
+/// reply is kept.
 fn run_script<R: RingBuffer<i64>>(
     ring: &mut R,
     alloc: Global,
@@ -240,14 +246,66 @@ fn run_script<R: RingBuffer<i64>>(
     runs_join::<i64>();
     let mut text = Vec::new(alloc);
     while !script.rest.is_empty() {
-        let Some(command) = script.read_line(alloc, true)? else {
-            continue;
-        };
-        let reply = apply(ring, command)?;
-        report::push_reply(&mut text, &reply)?;
+        run_line(ring, script, &mut text)?;
     }
     report::push_items(&mut text, ring)?;
     Ok(text)
+}
+
+/// Runs the next line of `script`, and puts the line of the reply at the end of `text`.
+#[inline(always)]
+fn run_line<R: RingBuffer<i64>>(
+    ring: &mut R,
+    script: &mut Script<'_>,
+    text: &mut Vec<u8>,
+) -> Result<(), Fault>
+    requires { IsRest script.old }
+    ensures rest { IsRest script.new }
+    ensures limit { R.limit ring.new ≡ R.limit ring.old }
+    ensures run { OnOk result ((commands : List (Command ℤ))
+        × (script_left script.old ≡ with_front commands (script_left script.new))
+        × (text.new.items ≡ text.old.items ++ flat_map reply_line (replies_to (R.limit ring.old)
+        (R.contents ring.old) commands))
+        × (R.contents ring.new ≡ after_all (R.limit ring.old) (R.contents ring.old) commands)) }
+    ensures passed { (commands : List (Command ℤ))
+        × (script_left script.old ≡ with_front commands (script_left script.new)) }
+    ensures bad { IfErr result
+        (λ fault. IfNotACommand fault (λ line. script_left script.old ≡ Err line)) }
+    ensures faults { IfErr result IsInScript }
+    ensures shorter { OnOk result (IsShorter script.old script.new) }
+{
+    match script.read_line()? {
+        Line::Blank => Ok(()),
+        Line::Command(command) => {
+            let reply = apply(ring, command)?;
+            Ok(report::push_reply(text, &reply)?)
+        }
+        Line::Extension(numbers) => {
+            let rest = push_numbers(ring, numbers)?;
+            script.end_line(rest)?;
+            Ok(report::push_reply(text, &Reply::Extended)?)
+        }
+    }
+}
+
+/// Pushes the numbers at the front of `text` as they are read, so that no vector is made of them, and returns what follows them.
+fn push_numbers<'a, R: RingBuffer<i64>>(ring: &mut R, text: &'a [u8]) -> Result<&'a [u8], Fault>
+    ensures pushed { IfOk result (λ rest. (numbers : List ℤ) × NumbersAt text.now numbers rest.now
+        × (length numbers + length rest.now ≤ length text.now)
+        × (R.contents ring.new ≡ keep_last (R.limit ring.old) (R.contents ring.old ++ numbers))) }
+    ensures limit { R.limit ring.new ≡ R.limit ring.old }
+    ensures faults { IfErr result (λ fault. fault ≡ Fault.NoMemory) }
+{
+    // For the proof: the contents are within the limit.
+    let _ = ring.len();
+    let mut rest = text;
+    while let Some((number, after)) = split_number(rest) {
+        if ring.push(number).is_err() {
+            return Err(Fault::NoMemory);
+        }
+        rest = after;
+    }
+    Ok(rest)
 }
 
 /// Returns the whole input.

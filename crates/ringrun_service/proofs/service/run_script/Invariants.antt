@@ -7,8 +7,8 @@ use Rattle.ringrun_service.specs.Rest.{IsRest, script_left}
 use Rattle.ringrun_service.specs.Script.{with_front}
 use Rattle.ringrun_service.proofs.service.run_script.Given as goal
 
-abbrev pub invariant-loop-alloc : goal.invariant-loop-alloc
-invariant-loop-alloc g l =
+abbrev pub invariant-loop-ring : goal.invariant-loop-ring
+invariant-loop-ring g l =
     let contents = g.R.RingBuffer.contents in let limit = g.R.RingBuffer.limit in
     record {
       rest : IsRest l.script;
@@ -18,5 +18,5 @@ invariant-loop-alloc g l =
           × (contents l.ring ≡ after_all (limit l.fn.ring) (contents l.fn.ring) commands);
     }
 
-abbrev pub decreases-loop-alloc : goal.decreases-loop-alloc
-decreases-loop-alloc g l = length l.script.rest.now
+abbrev pub decreases-loop-ring : goal.decreases-loop-ring
+decreases-loop-ring g l = length l.script.rest.now

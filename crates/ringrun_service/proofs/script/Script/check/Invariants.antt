@@ -5,11 +5,11 @@ use Rattle.ringrun_service.specs.Rest.{IsRest, script_left}
 use Rattle.ringrun_service.specs.Script.{with_front}
 use Rattle.ringrun_service.proofs.script.Script.check.Given as goal
 
-abbrev pub invariant-loop-alloc : goal.invariant-loop-alloc
-invariant-loop-alloc l = record {
+abbrev pub invariant-loop-self : goal.invariant-loop-self
+invariant-loop-self l = record {
   rest : IsRest l.self;
   read : (commands : List (Command ℤ)) × (script_left l.initial.self ≡ with_front commands (script_left l.self));
 }
 
-abbrev pub decreases-loop-alloc : goal.decreases-loop-alloc
-decreases-loop-alloc l = length l.self.rest.now
+abbrev pub decreases-loop-self : goal.decreases-loop-self
+decreases-loop-self l = length l.self.rest.now
