@@ -34,3 +34,8 @@ pub feed_at_once : (text : List ℕ) → 1 ≤ length text → get_or text 0 0 �
 unfolding after_blanks
 feed_at_once [] h e = absurd (omega arith)
 feed_at_once (b ∷ bs) h e = subst (λ c. after_end (after_blanks (c ∷ bs)) ≡ Some (take (length (b ∷ bs) - 1) bs)) (sym e) (ap Some (sym (take_rest (b ∷ bs) 1)))
+
+pub space_at_once : (text : List ℕ) → 1 ≤ length text → get_or text 0 0 ≡ 32 → after_blanks (take (length text - 1) (drop 1 text)) ≡ after_blanks text
+unfolding after_blanks
+space_at_once [] h e = absurd (omega arith)
+space_at_once (b ∷ bs) h e = subst (λ c. after_blanks (take (length (c ∷ bs) - 1) bs) ≡ after_blanks (c ∷ bs)) (sym e) (ap after_blanks (take_rest (32 ∷ bs) 1))

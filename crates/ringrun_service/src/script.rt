@@ -1,6 +1,6 @@
 //! A script: a command a line, its words apart by ASCII white space. It is read byte by byte.
 
-ghost use Rattle.std.specs.Prelude.{◌≡◌, ℤ, ◌+◌, codes, List, true, Err, Ok, ◌==◌, ◌-◌, ◌^◌, ◌%◌, ◌<◌, ◌≤◌, ◌&&◌, not, nat_lt, IfErr, IfOk, IfSome, IsOk, IsSome, MatchOption, None, OnOk, Some, SomeIff, false, length, take};
+ghost use Rattle.std.specs.Prelude.{◌≡◌, ℤ, ◌+◌, codes, List, true, Err, Ok, ◌==◌, ◌-◌, ◌^◌, ◌%◌, ◌<◌, ◌≤◌, ◌&&◌, not, nat_lt, IfErr, IfOk, IfSome, IsSome, MatchOption, None, OnOk, Some, SomeIff, length, take};
 ghost use Rattle.std.specs.List.{list_all};
 ghost use Rattle.std.specs.Str.Parse.{AllDigits, digits_value};
 ghost use Rattle.ringrun_service.specs.Fault.{IfNotACommand, NamesALine};
@@ -182,7 +182,7 @@ pub fn split_number(text: &[u8]) -> Option<(i64, &[u8])>
         (λ found. number_at text.now ≡ Some (found.0, found.1.now)) }
     ensures shorter { IfSome result (λ found. length found.1.now < length text.now) }
 {
-    let word = skip_blanks(text);
+    let word = skip_space(text);
     if word.len() == text.len() {
         return None;
     }
@@ -301,6 +301,18 @@ fn after_line(text: &[u8]) -> Option<&[u8]>
         [b'\n', rest @ ..] => Some(rest),
         _ => None,
     }
+}
+
+/// Returns what `skip_blanks` does. Most words stand behind one space, which is told by one comparison.
+#[inline(always)]
+fn skip_space(text: &[u8]) -> &[u8]
+    ensures rest { result.now ≡ after_blanks text.now }
+    ensures within { length result.now ≤ length text.now }
+{
+    if let [b' ', rest @ ..] = text {
+        return skip_blanks(rest);
+    }
+    skip_blanks(text)
 }
 
 /// Returns what follows the blanks at the front of `text`.
