@@ -3,6 +3,7 @@
 //! A test is a list of calls with their answers, rows of items, a call and what that leaves, or a function that is generic
 //! over the ring. A macro of `ring_test_support` calls such a function on a new ring of each type.
 
+mod blocks;
 mod both_ends;
 mod bytes;
 mod collections;

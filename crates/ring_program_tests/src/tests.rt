@@ -505,14 +505,26 @@ fn refusals(
     panic!(rt; "refused at each step")
 }
 
-// The two scripts are as long and answered alike. The items of an extension take memory on a growable ring alone.
+// The two scripts of a case are as long and answered alike. The items of an extension take memory on a growable ring alone.
 #[test]
 fn is_refused_an_extension(rt: HostRuntime) {
     let ending = prints("extended\nextended\ncleared\ndequeued none\nitems\n");
-    for (arguments, takes_memory) in [(["heap", "2"], false), (["grow", "0"], true)] {
-        let with_items = "extend 1 2 3 4 5 6 7 8\n\nextend\nclear\ndequeue\n";
+    let cases = [
+        (
+            ["heap", "2"],
+            "extend 1 2 3\n\nextend\nclear\ndequeue\n",
+            "extend      \n\nextend\nclear\ndequeue\n",
+            false,
+        ),
+        (
+            ["grow", "0"],
+            "extend 1 2 3 4 5 6 7 8\n\nextend\nclear\ndequeue\n",
+            "extend                \n\nextend\nclear\ndequeue\n",
+            true,
+        ),
+    ];
+    for (arguments, with_items, without_items, takes_memory) in cases {
         let with_items = refusals(&rt, &arguments, with_items, 32, ending);
-        let without_items = "extend                \n\nextend\nclear\ndequeue\n";
         let without_items = refusals(&rt, &arguments, without_items, 32, ending);
         assert_eq!(rt; with_items > without_items, takes_memory);
     }

@@ -5,7 +5,6 @@ ghost use Rattle.std.specs.Borrow.{sem};
 ghost use Rattle.std.specs.Cmp.Lexicographic.{lists_per, pointwise};
 ghost use Rattle.std.specs.Iterator.{Drains, IsFinite, IsFiniteIterable, YieldsThen};
 ghost use Rattle.std.specs.List.{AllZip};
-ghost use Rattle.std.specs.VecDeque.{deque_capacity, deque_len};
 ghost use Rattle.std.proofs.lemmas.Cmp.{lists_equiv};
 ghost use Rattle.ring_core.proofs.Limits.{counts_none};
 ghost use Rattle.ring_core.specs.Contents.{keep_last};
@@ -155,22 +154,14 @@ impl<T: Drop> GrowableAllocRingBuffer<T> {
     }
 }
 
-// A call on fewer items goes to the deque one at a time.
+// A call on fewer items makes no vector of the deque's memory, and no turn.
 const FEW: usize = 16;
 
-// Fewer items are dropped from the deque one at a time.
-const FEW_TO_DROP: usize = 32;
+// Copies of fewer items are pushed one at a time.
+const FEW_COPIES: usize = 8;
 
-// So many bytes are moved in the time that it takes to push or to pop an item.
-const BYTES_FOR_AN_ITEM: usize = 16;
-
-// Returns whether the `held` items move fast beside `count` of them that are pushed or popped one at a time: a vector of the
-// deque's memory, for which they may have to move, then does better. The other answer would merely be slower.
-#[inline]
-fn moves_fast<T>(count: usize, held: usize) -> bool {
-    let bytes = held.saturating_mul(item_size::<T>().max(1));
-    bytes <= count.saturating_mul(BYTES_FOR_AN_ITEM)
-}
+// Larger items, in bytes, take longer to move than to pop.
+const MOVES_FAST: usize = 16;
 
 // Puts what a source gives behind the items of a vector while there is room. Returns the source, and the item that found
 // none. The vector is a value here and not behind a reference, so that its fields stay in registers.
@@ -210,18 +201,6 @@ fn pour_behind<T, I: Iterator<Item = T>>(
         deque.push_back_reserved(item);
     }
     (deque, items, None)
-}
-
-// Puts copies of a slice's items behind those of a deque that has room for them. The deque is a value here, as in `pour`.
-fn with_copies<T: Copy + Drop>(deque: VecDeque<T>, items: &[T]) -> VecDeque<T>
-    requires { deque_len deque + length items.now ≤ deque_capacity deque }
-    ensures { result.items ≡ deque.items ++ items.now }
-{
-    let mut deque = deque;
-    for i in 0..items.len() {
-        deque.push_back_reserved(items[i]);
-    }
-    deque
 }
 
 // Fills the room of an empty vector with clones.
@@ -487,19 +466,35 @@ impl<T: Copy + Drop> GrowableAllocRingBuffer<T> {
         ensures err { OnErr result (self.new ≡ self.old) }
     {
         if items.len() < FEW || items.len() < self.deque.len() {
-            self.deque.reserve(items.len())?;
-            if items.len() < FEW || !moves_fast::<T>(items.len(), self.deque.len()) {
-                let alloc = *self.deque.allocator();
-                let deque = mem::replace(&mut self.deque, VecDeque::new(alloc));
-                self.deque = with_copies(deque, items);
-                return Ok(());
-            }
+            return self.push_copies(items);
         }
-        // A vector copies a slice at once.
+        // A vector copies a slice at once, and moves no more items for that than come.
         let mut room = self.take_vec();
         let copied = room.extend_from_slice(items);
         self.deque = VecDeque::from_vec(room);
         copied
+    }
+
+    // Does what `extend_from_slice` does, and moves no item but where the deque grows.
+    fn push_copies(&mut self, items: &[T]) -> Result<(), AllocError>
+        ensures ok { OnOk result (self.new ≡ self.old ++ items.now) }
+        ensures err { OnErr result (self.new ≡ self.old) }
+    {
+        self.deque.reserve(items.len())?;
+        if items.len() < FEW_COPIES {
+            for i in 0..items.len() {
+                self.deque.push_back_reserved(items[i]);
+            }
+            return Ok(());
+        }
+        // The deque's own loop goes straight on to the end of its memory, and becomes vector code. There is room, so it is
+        // never refused.
+        let held = self.deque.len();
+        if let Err(error) = self.deque.extend(items.iter().copied()) {
+            self.deque.truncate(held);
+            return Err(error);
+        }
+        Ok(())
     }
 
     /// Returns copies of the items, oldest first, in new memory, as `to_vec` returns clones. Takes O(n).
@@ -534,20 +529,19 @@ impl<T: Copy + Drop> GrowableAllocRingBuffer<T> {
         count
     }
 
-    // Drops the first items. A vector moves all of them to the block's start, and the others on to their places.
+    // Drops the first items. Many small ones are turned behind the others, or the others before them, by moves of the
+    // fewer; to let the last ones go then takes no step for each.
     fn drop_first(&mut self, count: usize)
         requires { count ≤ length self.old }
         ensures { self.new ≡ drop count self.old }
     {
-        let held = self.deque.len();
-        if count < FEW_TO_DROP || !moves_fast::<T>(count, held) {
+        if count < FEW || item_size::<T>() > MOVES_FAST {
             self.deque.drain(..count);
             return;
         }
-        let mut items = self.take_vec();
-        items.copy_within(count.., 0);
-        items.truncate(held - count);
-        self.deque = VecDeque::from_vec(items);
+        let rest = self.deque.len() - count;
+        self.deque.rotate_left(count);
+        self.deque.truncate(rest);
     }
 }
 

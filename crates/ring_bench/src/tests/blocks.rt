@@ -1,0 +1,171 @@
+//! Blocks of items into growable rings and out of them, on both sides of each choice that lengths and sizes make there.
+
+use super::assert_equal;
+use ringbuffer::{GrowableAllocRingBuffer, RingBuffer};
+use std::alloc::{AllocError, Global};
+use std::fmt::Debug;
+use std::process::Abort;
+
+/// An item by its number.
+trait Numbered: Copy + PartialEq + Debug + Drop {
+    fn numbered(number: usize) -> Self;
+}
+
+impl Numbered for u8 {
+    fn numbered(number: usize) -> u8 {
+        // No block's length is a multiple of 251, so an item that lies in another's place is seen.
+        (number % 251) as u8
+    }
+}
+
+impl Numbered for u64 {
+    fn numbered(number: usize) -> u64 {
+        number as u64
+    }
+}
+
+impl Numbered for [u64; 2] {
+    fn numbered(number: usize) -> [u64; 2] {
+        [number as u64; 2]
+    }
+}
+
+impl Numbered for [u64; 3] {
+    fn numbered(number: usize) -> [u64; 3] {
+        [number as u64; 3]
+    }
+}
+
+/// How many items a ring holds, and how many come or go: few or not, as many as it holds or not, and more or fewer than half
+/// of these.
+const ROWS: &[(usize, usize)] = &[
+    (0, 7),
+    (0, 8),
+    (0, 15),
+    (0, 16),
+    (7, 8),
+    (8, 7),
+    (15, 15),
+    (15, 16),
+    (16, 15),
+    (16, 16),
+    (17, 16),
+    (31, 32),
+    (32, 31),
+    (63, 32),
+    (64, 31),
+    (64, 32),
+    (65, 33),
+    (300, 7),
+    (300, 8),
+    (300, 31),
+    (300, 32),
+    (300, 149),
+    (300, 150),
+    (300, 151),
+    (300, 299),
+];
+
+/// Returns the items with the numbers from `first` on.
+fn block<T: Numbered>(alloc: Global, first: usize, count: usize) -> Result<Vec<T>, AllocError> {
+    let mut items = Vec::with_capacity(alloc, count)?;
+    for i in 0..count {
+        items.push(T::numbered(first.saturating_add(i)))?;
+    }
+    Ok(items)
+}
+
+/// Returns a ring of the items with the numbers from 0 on, which began with room for `capacity` items and as many pushes
+/// and dequeues as `start` says.
+fn ring_of<T: Numbered>(
+    rt: &impl Abort,
+    alloc: Global,
+    capacity: usize,
+    start: usize,
+    held: usize,
+) -> Result<GrowableAllocRingBuffer<T>, AllocError> {
+    let mut ring = GrowableAllocRingBuffer::with_capacity(alloc, capacity)?;
+    for _ in 0..start {
+        assert_equal(rt, ring.push(T::numbered(0)), Ok(None));
+        assert_equal(rt, ring.dequeue(), Some(T::numbered(0)));
+    }
+    for number in 0..held {
+        assert_equal(rt, ring.push(T::numbered(number)), Ok(None));
+    }
+    Ok(ring)
+}
+
+/// Finds `count` items in a ring, with the numbers from `first` on.
+fn assert_numbers<T: Numbered>(
+    rt: &impl Abort,
+    ring: &GrowableAllocRingBuffer<T>,
+    first: usize,
+    count: usize,
+) {
+    assert_equal(rt, ring.len(), count);
+    for i in 0..count {
+        let wanted = T::numbered(first.saturating_add(i));
+        assert_equal(rt, (i, ring.get(i).copied()), (i, Some(wanted)));
+    }
+}
+
+/// Brings `count` items to rings of `held`, by a slice and by a source, and takes as many out of one.
+fn assert_blocks<T: Numbered>(
+    rt: &impl Abort,
+    alloc: Global,
+    capacity: usize,
+    start: usize,
+    held: usize,
+    count: usize,
+) -> Result<(), AllocError> {
+    let all = held.saturating_add(count);
+    let items = block::<T>(alloc, held, count)?;
+
+    let mut by_slice = ring_of(rt, alloc, capacity, start, held)?;
+    by_slice.extend_from_slice(items.as_slice())?;
+    assert_numbers(rt, &by_slice, 0, all);
+
+    let mut by_source = ring_of(rt, alloc, capacity, start, held)?;
+    by_source.extend(items.iter().copied())?;
+    assert_numbers(rt, &by_source, 0, all);
+
+    let mut ring = ring_of(rt, alloc, capacity, start, held)?;
+    let mut output = block::<T>(alloc, all, count)?;
+    let taken = count.min(held);
+    assert_equal(rt, ring.dequeue_into(output.as_mut_slice()), taken);
+    assert_numbers(rt, &ring, taken, held.saturating_sub(taken));
+    for (i, item) in output.iter().enumerate() {
+        let number = if i < taken { i } else { all.saturating_add(i) };
+        assert_equal(rt, (i, *item), (i, T::numbered(number)));
+    }
+    Ok(())
+}
+
+/// Brings and takes the items of each row, where the ring has no room for them and where it has, and where its items begin
+/// in the first slot, in the middle, and seven slots before the end, which they go round.
+fn assert_all_blocks<T: Numbered>(rt: &impl Abort, alloc: Global) -> Result<(), AllocError> {
+    for (held, count) in ROWS {
+        for capacity in [*held, held.saturating_add(*count)] {
+            for start in [0, capacity / 2, capacity.saturating_sub(7)] {
+                assert_blocks::<T>(rt, alloc, capacity, start, *held, *count)?;
+            }
+        }
+    }
+    Ok(())
+}
+
+#[test]
+fn blocks_of_bytes_come_and_go(rt: HostRuntime) -> Result<(), AllocError> {
+    assert_all_blocks::<u8>(&rt, rt.alloc())
+}
+
+#[test]
+fn blocks_of_words_come_and_go(rt: HostRuntime) -> Result<(), AllocError> {
+    assert_all_blocks::<u64>(&rt, rt.alloc())
+}
+
+#[test]
+fn blocks_of_large_items_come_and_go(rt: HostRuntime) -> Result<(), AllocError> {
+    assert_all_blocks::<[u64; 2]>(&rt, rt.alloc())?;
+    assert_all_blocks::<[u64; 3]>(&rt, rt.alloc())
+}
