@@ -167,8 +167,8 @@ impl BufRead for GrowableAllocRingBuffer<u8> {
         ensures bytes { DropsConsumable (Some self.old) (Some self.new) None amount }
         ensures rest { self.new ≡ drop amount self.old }
     {
-        let kept = self.len().saturating_sub(amount);
-        self.keep_newest(kept);
+        let count = amount.min(self.len());
+        self.drop_first(count);
     }
 }
 

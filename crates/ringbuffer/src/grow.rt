@@ -1,6 +1,6 @@
 //! The ring without a limit, over a deque.
 
-ghost use Rattle.std.specs.Prelude.{◌≡◌, ◌↔◌, ◌+◌, ◌-◌, ◌%◌, ◌<◌, ◌≤◌, [], ◌∷◌, ◌++◌, All, IfOk, IsOk, IsSome, List, MatchResult, None, OnErr, OnOk, Some, drop, length, min, option_to_list, refl, slice_get, slice_set, take};
+ghost use Rattle.std.specs.Prelude.{◌≡◌, ◌↔◌, ◌-◌, ◌%◌, ◌<◌, ◌≤◌, [], ◌∷◌, ◌++◌, All, IfOk, IsOk, IsSome, List, MatchResult, None, OnErr, OnOk, Some, drop, length, min, option_to_list, refl, slice_get, slice_set, take};
 ghost use Rattle.std.specs.Borrow.{sem};
 ghost use Rattle.std.specs.Cmp.Lexicographic.{lists_per, pointwise};
 ghost use Rattle.std.specs.Iterator.{Drains, IsFinite, IsFiniteIterable, YieldsThen};
@@ -116,8 +116,8 @@ impl<T: Drop> GrowableAllocRingBuffer<T> {
         mem::replace(&mut self.deque, VecDeque::new(alloc)).into_vec()
     }
 
-    // Puts in what a source gives, at least as many items as `least` says, while there is room. It is made first where as many
-    // come as there are: a vector then takes them in fewer steps. Returns the source, and the item that found none.
+    // Puts in what a source gives, while there is room. Where it says that at least as many items come as there are, room for
+    // them is made first: a vector then takes them in fewer steps. Returns the source, and the item that found none.
     fn pour_in<I: Iterator<Item = T>>(&mut self, items: I, least: usize) -> (I, Option<T>)
         requires { I.can_next items × IsFinite (I.remaining items) }
         ensures { (xs : List T) × (self.new ≡ self.old ++ xs)
@@ -154,14 +154,17 @@ impl<T: Drop> GrowableAllocRingBuffer<T> {
     }
 }
 
-// A call on fewer items makes no vector of the deque's memory, and no turn.
+// An extension by fewer items makes no vector of the deque's memory.
 const FEW: usize = 16;
 
 // Copies of fewer items are pushed one at a time.
 const FEW_COPIES: usize = 8;
 
-// Larger items, in bytes, take longer to move than to pop.
-const MOVES_FAST: usize = 16;
+// As many items, and more, leave by turns.
+const MANY: usize = 32;
+
+// Items of more bytes leave by pops: a turn copies all their bytes.
+const MOST_BYTES_TURNED: usize = 16;
 
 // Puts what a source gives behind the items of a vector while there is room. Returns the source, and the item that found
 // none. The vector is a value here and not behind a reference, so that its fields stay in registers.
@@ -529,19 +532,39 @@ impl<T: Copy + Drop> GrowableAllocRingBuffer<T> {
         count
     }
 
-    // Drops the first items. Many small ones are turned behind the others, or the others before them, by moves of the
-    // fewer; to let the last ones go then takes no step for each.
-    fn drop_first(&mut self, count: usize)
+    // Drops the first items. Most of many small ones go by turns, and the last by pops: the others then lie where pops alone
+    // would leave them, also where that is the end of the deque's memory.
+    pub(crate) fn drop_first(&mut self, count: usize)
         requires { count ≤ length self.old }
         ensures { self.new ≡ drop count self.old }
     {
-        if count < FEW || item_size::<T>() > MOVES_FAST {
-            self.deque.drain(..count);
-            return;
+        let by_turns = count >= MANY && item_size::<T>() <= MOST_BYTES_TURNED;
+        let left = if by_turns {
+            self.drop_by_turns(count)
+        } else {
+            count
+        };
+        self.deque.drain(..left);
+    }
+
+    // Drops some of the first items, and returns how many of `count` are left to drop. A turn moves items behind the others,
+    // no more than there are of these, and cuts them off there, which takes no step for each. Out of line, since LLVM unrolls
+    // the pops where it sees how few are left, into more instructions for each.
+    #[inline(never)]
+    fn drop_by_turns(&mut self, count: usize) -> usize
+        requires { count ≤ length self.old }
+        ensures bound { result ≤ count }
+        ensures rest { self.new ≡ drop (count - result) self.old }
+    {
+        let mut left = count;
+        while left >= MANY {
+            let step = (left - 1).min(self.deque.len() / 2);
+            let rest = self.deque.len() - step;
+            self.deque.rotate_left(step);
+            self.deque.truncate(rest);
+            left -= step;
         }
-        let rest = self.deque.len() - count;
-        self.deque.rotate_left(count);
-        self.deque.truncate(rest);
+        left
     }
 }
 

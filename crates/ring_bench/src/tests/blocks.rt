@@ -4,6 +4,7 @@ use super::assert_equal;
 use ringbuffer::{GrowableAllocRingBuffer, RingBuffer};
 use std::alloc::{AllocError, Global};
 use std::fmt::Debug;
+use std::io::BufRead;
 use std::process::Abort;
 
 /// An item by its number.
@@ -24,20 +25,25 @@ impl Numbered for u64 {
     }
 }
 
+/// All alike, and no bytes.
+impl Numbered for () {
+    fn numbered(_number: usize) {}
+}
+
+impl Numbered for [u8; 17] {
+    fn numbered(number: usize) -> [u8; 17] {
+        [(number % 251) as u8; 17]
+    }
+}
+
 impl Numbered for [u64; 2] {
     fn numbered(number: usize) -> [u64; 2] {
         [number as u64; 2]
     }
 }
 
-impl Numbered for [u64; 3] {
-    fn numbered(number: usize) -> [u64; 3] {
-        [number as u64; 3]
-    }
-}
-
 /// How many items a ring holds, and how many come or go: few or not, as many as it holds or not, and more or fewer than half
-/// of these.
+/// of what it holds.
 const ROWS: &[(usize, usize)] = &[
     (0, 7),
     (0, 8),
@@ -50,12 +56,16 @@ const ROWS: &[(usize, usize)] = &[
     (16, 15),
     (16, 16),
     (17, 16),
-    (31, 32),
+    (31, 31),
     (32, 31),
+    (32, 32),
+    (32, 33),
+    (33, 32),
+    (62, 32),
     (63, 32),
-    (64, 31),
     (64, 32),
-    (65, 33),
+    (64, 33),
+    (64, 63),
     (300, 7),
     (300, 8),
     (300, 31),
@@ -63,7 +73,9 @@ const ROWS: &[(usize, usize)] = &[
     (300, 149),
     (300, 150),
     (300, 151),
+    (300, 181),
     (300, 299),
+    (300, 300),
 ];
 
 /// Returns the items with the numbers from `first` on.
@@ -141,14 +153,82 @@ fn assert_blocks<T: Numbered>(
     Ok(())
 }
 
+/// Takes `count` items out of a ring of `held` by a block, and out of another by its deque's `drain`, which pops them. Both
+/// then lie alike, and ask for as much memory for as many more items as there is no room for.
+fn assert_lies_as_popped<T: Numbered>(
+    rt: &impl Abort,
+    alloc: Global,
+    capacity: usize,
+    start: usize,
+    held: usize,
+    count: usize,
+) -> Result<(), AllocError> {
+    let mut ring = ring_of::<T>(rt, alloc, capacity, start, held)?;
+    let mut output = block::<T>(alloc, 0, count)?;
+    ring.dequeue_into(output.as_mut_slice());
+
+    let mut popped = ring_of::<T>(rt, alloc, capacity, start, held)?;
+    let deque = popped.as_mut();
+    let taken = count.min(deque.len());
+    deque.drain(..taken);
+
+    assert_equal(rt, ring.as_slices(), popped.as_slices());
+    let room = ring.capacity().saturating_sub(ring.len());
+    let more = block::<T>(alloc, held, room.min(700).saturating_add(1))?;
+    ring.extend_from_slice(more.as_slice())?;
+    popped.extend_from_slice(more.as_slice())?;
+    assert_equal(rt, ring.as_slices(), popped.as_slices());
+    assert_equal(rt, ring.capacity(), popped.capacity());
+    Ok(())
+}
+
 /// Brings and takes the items of each row, where the ring has no room for them and where it has, and where its items begin
-/// in the first slot, in the middle, and seven slots before the end, which they go round.
+/// in the first slot, in the middle, seven slots before the end, which they go round, and as far before it as the block that
+/// goes is long.
 fn assert_all_blocks<T: Numbered>(rt: &impl Abort, alloc: Global) -> Result<(), AllocError> {
     for (held, count) in ROWS {
         for capacity in [*held, held.saturating_add(*count)] {
-            for start in [0, capacity / 2, capacity.saturating_sub(7)] {
+            let before_end = [7, *count, count.saturating_sub(1)];
+            for start in [0, capacity / 2] {
                 assert_blocks::<T>(rt, alloc, capacity, start, *held, *count)?;
+                assert_lies_as_popped::<T>(rt, alloc, capacity, start, *held, *count)?;
             }
+            for places in before_end {
+                let start = capacity.saturating_sub(places);
+                assert_blocks::<T>(rt, alloc, capacity, start, *held, *count)?;
+                assert_lies_as_popped::<T>(rt, alloc, capacity, start, *held, *count)?;
+            }
+        }
+    }
+    Ok(())
+}
+
+/// As `assert_lies_as_popped` does, by `consume` in place of a block.
+fn assert_lies_as_popped_after_consume(
+    rt: &impl Abort,
+    alloc: Global,
+    capacity: usize,
+    start: usize,
+    held: usize,
+    count: usize,
+) -> Result<(), AllocError> {
+    let mut ring = ring_of::<u8>(rt, alloc, capacity, start, held)?;
+    ring.consume(count);
+
+    let mut popped = ring_of::<u8>(rt, alloc, capacity, start, held)?;
+    let deque = popped.as_mut();
+    let taken = count.min(deque.len());
+    deque.drain(..taken);
+
+    assert_equal(rt, ring.as_slices(), popped.as_slices());
+    Ok(())
+}
+
+#[test]
+fn consumed_bytes_go_as_popped_ones(rt: HostRuntime) -> Result<(), AllocError> {
+    for (held, count) in ROWS {
+        for start in [0, 7, held.saturating_sub(*count)] {
+            assert_lies_as_popped_after_consume(&rt, rt.alloc(), *held, start, *held, *count)?;
         }
     }
     Ok(())
@@ -167,5 +247,10 @@ fn blocks_of_words_come_and_go(rt: HostRuntime) -> Result<(), AllocError> {
 #[test]
 fn blocks_of_large_items_come_and_go(rt: HostRuntime) -> Result<(), AllocError> {
     assert_all_blocks::<[u64; 2]>(&rt, rt.alloc())?;
-    assert_all_blocks::<[u64; 3]>(&rt, rt.alloc())
+    assert_all_blocks::<[u8; 17]>(&rt, rt.alloc())
+}
+
+#[test]
+fn blocks_of_items_without_bytes_come_and_go(rt: HostRuntime) -> Result<(), AllocError> {
+    assert_all_blocks::<()>(&rt, rt.alloc())
 }

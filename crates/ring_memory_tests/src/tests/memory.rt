@@ -166,10 +166,14 @@ fn a_refused_slice_leaves_a_growable_ring(rt: HostRuntime) -> Result<(), AllocEr
     let mut ring = GrowableAllocRingBuffer::with_capacity(rt.alloc(), 3)?;
     push_all(&rt, &mut ring, &[1, 2]);
     let drought = drought(&rt, 0);
-    let refused = ring.extend_from_slice(&[3, 4, 5]);
+    let few = ring.extend_from_slice(&[3, 4, 5]);
+    let more = ring.extend_from_slice(&[3; 8]);
+    let many = ring.extend_from_slice(&[3; 16]);
     let fitting = ring.extend_from_slice(&[6]);
     drop(drought);
-    assert!(rt; refused.is_err());
+    assert!(rt; few.is_err());
+    assert!(rt; more.is_err());
+    assert!(rt; many.is_err());
     assert!(rt; fitting.is_ok());
     assert_holds(&rt, &ring, &[1, 2, 6]);
     Ok(())
