@@ -153,28 +153,33 @@ fn assert_blocks<T: Numbered>(
     Ok(())
 }
 
-/// Takes `count` items out of a ring of `held` by a block, and out of another by its deque's `drain`, which pops them. Both
-/// then lie alike, and ask for as much memory for as many more items as there is no room for.
-fn assert_lies_as_popped<T: Numbered>(
+/// Returns a ring as `ring_of` makes it, out of which its deque's `drain` has popped `count` items.
+fn popped_of<T: Numbered>(
     rt: &impl Abort,
     alloc: Global,
     capacity: usize,
     start: usize,
     held: usize,
     count: usize,
-) -> Result<(), AllocError> {
-    let mut ring = ring_of::<T>(rt, alloc, capacity, start, held)?;
-    let mut output = block::<T>(alloc, 0, count)?;
-    ring.dequeue_into(output.as_mut_slice());
-
-    let mut popped = ring_of::<T>(rt, alloc, capacity, start, held)?;
-    let deque = popped.as_mut();
+) -> Result<GrowableAllocRingBuffer<T>, AllocError> {
+    let mut ring = ring_of(rt, alloc, capacity, start, held)?;
+    let deque = ring.as_mut();
     let taken = count.min(deque.len());
     deque.drain(..taken);
+    Ok(ring)
+}
 
+/// Finds the same items in both rings, and in as many slices. Brings one more to each than there is room for: they then lie
+/// alike too, and have asked for as much memory.
+fn assert_lie_alike<T: Numbered>(
+    rt: &impl Abort,
+    alloc: Global,
+    mut ring: GrowableAllocRingBuffer<T>,
+    mut popped: GrowableAllocRingBuffer<T>,
+) -> Result<(), AllocError> {
     assert_equal(rt, ring.as_slices(), popped.as_slices());
     let room = ring.capacity().saturating_sub(ring.len());
-    let more = block::<T>(alloc, held, room.min(700).saturating_add(1))?;
+    let more = block::<T>(alloc, 1000, room.saturating_add(1))?;
     ring.extend_from_slice(more.as_slice())?;
     popped.extend_from_slice(more.as_slice())?;
     assert_equal(rt, ring.as_slices(), popped.as_slices());
@@ -182,53 +187,47 @@ fn assert_lies_as_popped<T: Numbered>(
     Ok(())
 }
 
-/// Brings and takes the items of each row, where the ring has no room for them and where it has, and where its items begin
-/// in the first slot, in the middle, seven slots before the end, which they go round, and as far before it as the block that
-/// goes is long.
+/// Returns where the items of a ring begin: in the first slot, in the middle, seven slots before the end, which they go
+/// round, and as many before it as `count` says, or one fewer.
+fn starts(capacity: usize, count: usize) -> [usize; 5] {
+    [
+        0,
+        capacity / 2,
+        capacity.saturating_sub(7),
+        capacity.saturating_sub(count),
+        capacity.saturating_sub(count.saturating_sub(1)),
+    ]
+}
+
+/// Brings and takes the items of each row, where the ring has no room for them and where it has, from each start. What a
+/// block leaves lies as what is popped does.
 fn assert_all_blocks<T: Numbered>(rt: &impl Abort, alloc: Global) -> Result<(), AllocError> {
     for (held, count) in ROWS {
         for capacity in [*held, held.saturating_add(*count)] {
-            let before_end = [7, *count, count.saturating_sub(1)];
-            for start in [0, capacity / 2] {
+            for start in starts(capacity, *count) {
                 assert_blocks::<T>(rt, alloc, capacity, start, *held, *count)?;
-                assert_lies_as_popped::<T>(rt, alloc, capacity, start, *held, *count)?;
-            }
-            for places in before_end {
-                let start = capacity.saturating_sub(places);
-                assert_blocks::<T>(rt, alloc, capacity, start, *held, *count)?;
-                assert_lies_as_popped::<T>(rt, alloc, capacity, start, *held, *count)?;
+
+                let mut ring = ring_of::<T>(rt, alloc, capacity, start, *held)?;
+                let mut output = block::<T>(alloc, 0, *count)?;
+                ring.dequeue_into(output.as_mut_slice());
+                let popped = popped_of(rt, alloc, capacity, start, *held, *count)?;
+                assert_lie_alike(rt, alloc, ring, popped)?;
             }
         }
     }
     Ok(())
 }
 
-/// As `assert_lies_as_popped` does, by `consume` in place of a block.
-fn assert_lies_as_popped_after_consume(
-    rt: &impl Abort,
-    alloc: Global,
-    capacity: usize,
-    start: usize,
-    held: usize,
-    count: usize,
-) -> Result<(), AllocError> {
-    let mut ring = ring_of::<u8>(rt, alloc, capacity, start, held)?;
-    ring.consume(count);
-
-    let mut popped = ring_of::<u8>(rt, alloc, capacity, start, held)?;
-    let deque = popped.as_mut();
-    let taken = count.min(deque.len());
-    deque.drain(..taken);
-
-    assert_equal(rt, ring.as_slices(), popped.as_slices());
-    Ok(())
-}
-
 #[test]
 fn consumed_bytes_go_as_popped_ones(rt: HostRuntime) -> Result<(), AllocError> {
     for (held, count) in ROWS {
-        for start in [0, 7, held.saturating_sub(*count)] {
-            assert_lies_as_popped_after_consume(&rt, rt.alloc(), *held, start, *held, *count)?;
+        for capacity in [*held, held.saturating_add(*count)] {
+            for start in starts(capacity, *count) {
+                let mut ring = ring_of::<u8>(&rt, rt.alloc(), capacity, start, *held)?;
+                ring.consume(*count);
+                let popped = popped_of(&rt, rt.alloc(), capacity, start, *held, *count)?;
+                assert_lie_alike(&rt, rt.alloc(), ring, popped)?;
+            }
         }
     }
     Ok(())
