@@ -25,22 +25,20 @@ impl<T> Bounded<T> {
         self.capacity - self.items.len()
     }
 
-    /// Puts the item last. The oldest gives way if there is no room.
+    /// Puts the item last, and returns the oldest if it gave way.
     #[inline]
-    pub fn push(&mut self, item: T) {
-        if self.items.len() == self.capacity {
-            self.items.pop_front();
-        }
+    pub fn push(&mut self, item: T) -> Option<T> {
+        let old = if self.items.len() == self.capacity { self.items.pop_front() } else { None };
         self.items.push_back(item);
+        old
     }
 
-    /// Puts the item first. The newest gives way if there is no room.
+    /// Puts the item first, and returns the newest if it gave way.
     #[inline]
-    pub fn push_front(&mut self, item: T) {
-        if self.items.len() == self.capacity {
-            self.items.pop_back();
-        }
+    pub fn push_front(&mut self, item: T) -> Option<T> {
+        let old = if self.items.len() == self.capacity { self.items.pop_back() } else { None };
         self.items.push_front(item);
+        old
     }
 }
 

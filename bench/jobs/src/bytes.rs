@@ -1,6 +1,7 @@
 //! Bytes on their way, and the last bytes of a stream, over `VecDeque`: the crate's rings are no readers or writers.
 
 use crate::bounded::{take_into, Bounded};
+use std::collections::VecDeque;
 use std::io::{BufRead, Read, Result, Write};
 
 /// Bytes on their way, oldest first. A write takes as many as there is room for, and overwrites none. A read takes bytes from
@@ -65,14 +66,9 @@ impl LastBytes {
         LastBytes { bytes: Bounded::new(capacity) }
     }
 
-    /// Returns the oldest byte that is kept.
-    pub fn oldest(&self) -> Option<u8> {
-        self.bytes.items.front().copied()
-    }
-
-    /// Returns the newest byte.
-    pub fn newest(&self) -> Option<u8> {
-        self.bytes.items.back().copied()
+    /// Returns the bytes that are kept, oldest first.
+    pub fn bytes(&self) -> &VecDeque<u8> {
+        &self.bytes.items
     }
 }
 

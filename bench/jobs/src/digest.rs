@@ -32,6 +32,40 @@ impl Digest {
         self.add(number.unwrap_or(FACTOR));
     }
 
+    /// Adds each of these numbers.
+    pub fn add_each(&mut self, numbers: &[u64]) {
+        for number in numbers {
+            self.add(*number);
+        }
+    }
+
+    /// Adds each of these signed numbers.
+    pub fn add_each_signed(&mut self, numbers: &[i64]) {
+        for number in numbers {
+            self.add_signed(*number);
+        }
+    }
+
+    /// Adds the bits of each of these floats.
+    pub fn add_floats(&mut self, numbers: &[f64]) {
+        for number in numbers {
+            self.add(number.to_bits());
+        }
+    }
+
+    /// Adds samples of 16 bits, four at a time.
+    pub fn add_samples(&mut self, samples: &[i16]) {
+        self.add(samples.len() as u64);
+        let (fours, rest) = samples.as_chunks::<4>();
+        for four in fours {
+            let [a, b, c, d] = four.map(|sample| u64::from(sample as u16));
+            self.add(a | b << 16 | c << 32 | d << 48);
+        }
+        for sample in rest {
+            self.add(u64::from(*sample as u16));
+        }
+    }
+
     /// Adds bytes, eight at a time.
     pub fn add_bytes(&mut self, bytes: &[u8]) {
         let mut state = mixed(self.state, bytes.len() as u64);
@@ -53,5 +87,5 @@ impl Digest {
 
 #[inline]
 fn mixed(state: u64, number: u64) -> u64 {
-    (state ^ number).wrapping_mul(FACTOR).rotate_left(23)
+    (state ^ number).rotate_left(23).wrapping_mul(FACTOR)
 }

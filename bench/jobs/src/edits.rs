@@ -5,7 +5,7 @@ use crate::commands::{run as run_commands, run_into, Command, Reply};
 use crate::digest::Digest;
 use crate::overwriting::Overwriting;
 use crate::random::Random;
-use ringbuffer::{AllocRingBuffer, ConstGenericRingBuffer, GrowableAllocRingBuffer};
+use ringbuffer::{AllocRingBuffer, ConstGenericRingBuffer, GrowableAllocRingBuffer, RingBuffer};
 use std::collections::VecDeque;
 
 /// How many commands a run has.
@@ -31,9 +31,9 @@ pub fn run(seed: u64, rounds: u32) -> u64 {
     let mut array = ConstGenericRingBuffer::<u64, 100>::new();
     let mut queue = GrowableAllocRingBuffer::new();
     let mut replies: Vec<Option<Reply<u64>>> = (0..COMMANDS).map(|_| None).collect();
-    refill(&mut large, 65536, &mut random);
-    refill(&mut small, 1000, &mut random);
-    refill(&mut list, 20000, &mut random);
+    refill(&mut large, 65536, &mut random, &mut digest);
+    refill(&mut small, 1000, &mut random, &mut digest);
+    refill(&mut list, 20000, &mut random, &mut digest);
     let mut now = 0;
     for round in 0..rounds {
         exchange(&mut large.items, 8, &mut random, &mut digest);
@@ -41,15 +41,18 @@ pub fn run(seed: u64, rounds: u32) -> u64 {
         exchange(&mut list.items, 16, &mut random, &mut digest);
         turn(&mut small.items, &mut random, &mut digest);
         cut(&mut small.items, &mut random, &mut digest);
-        refill(&mut small, 20, &mut random);
+        refill(&mut small, 20, &mut random, &mut digest);
         if round % 16 == 0 {
             turn(&mut large.items, &mut random, &mut digest);
             cut(&mut large.items, &mut random, &mut digest);
             keep_most(&mut large.items, &mut random, &mut digest);
-            refill(&mut large, 20000, &mut random);
+            refill(&mut large, 20000, &mut random, &mut digest);
+            digest_items(large.items.iter(), &mut digest);
+            digest_items(list.items.iter(), &mut digest);
+            digest_items(times.items.iter(), &mut digest);
         }
         keep_most(&mut small.items, &mut random, &mut digest);
-        refill(&mut small, 100, &mut random);
+        refill(&mut small, 100, &mut random, &mut digest);
         now = find_times(&mut times, now, &mut random, &mut digest);
         undo_some(&mut history, &mut random, &mut digest);
         work_both_ends(&mut list, &mut random, &mut digest);
@@ -58,15 +61,28 @@ pub fn run(seed: u64, rounds: u32) -> u64 {
         run_all(&mut queue, &mut random, &mut digest);
         run_in_place(&mut array, &mut replies, &mut random, &mut digest);
         keep_newest(&mut queue, 5000);
+        digest_items(small.items.iter(), &mut digest);
+        digest_items(array.iter(), &mut digest);
+        digest_items(heap.iter(), &mut digest);
+        digest_items(queue.iter(), &mut digest);
     }
     digest.value()
 }
 
 /// Pushes so many random numbers.
-fn refill(ring: &mut Bounded<u64>, count: usize, random: &mut Random) {
+fn refill(ring: &mut Bounded<u64>, count: usize, random: &mut Random, digest: &mut Digest) {
     for _ in 0..count {
-        ring.push(random.number());
+        digest.add_option(ring.push(random.number()));
     }
+}
+
+/// Adds each item of a walk over a ring to the digest.
+#[inline(never)]
+fn digest_items<'a>(items: impl ExactSizeIterator<Item = &'a u64>, digest: &mut Digest) {
+    let mut digested = *digest;
+    digested.add(items.len() as u64);
+    items.for_each(|item| digested.add(*item));
+    *digest = digested;
 }
 
 /// Takes items out at random indexes, and puts others in.
@@ -124,7 +140,7 @@ fn find_times(times: &mut Bounded<u64>, now: u64, random: &mut Random, digest: &
     let mut now = now;
     for _ in 0..512 {
         now = now.wrapping_add(random.below(100) as u64);
-        times.push(now);
+        digest.add_option(times.push(now));
     }
     for _ in 0..128 {
         let time = now.wrapping_sub(random.below(4000000) as u64);
@@ -149,7 +165,8 @@ fn undo_some(history: &mut Bounded<Change>, random: &mut Random, digest: &mut Di
         }
         for _ in 0..random.below(10) {
             if let Some(change) = history.items.pop_back() {
-                digest.add(change.at[0] ^ change.text[3] ^ change.at[2]);
+                digest.add_each(&change.at);
+                digest.add_each(&change.text);
             }
         }
     }
@@ -160,9 +177,9 @@ fn undo_some(history: &mut Bounded<Change>, random: &mut Random, digest: &mut Di
 fn work_both_ends(ring: &mut Bounded<u64>, random: &mut Random, digest: &mut Digest) {
     for _ in 0..256 {
         let number = random.number();
-        ring.push_front(number);
+        digest.add_option(ring.push_front(number));
         digest.add_option(ring.items.pop_back());
-        ring.push(number);
+        digest.add_option(ring.push(number));
         digest.add_option(ring.items.pop_front());
     }
 }

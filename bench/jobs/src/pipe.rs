@@ -18,9 +18,12 @@ pub fn run(seed: u64, rounds: u32) -> u64 {
     let mut text = Vec::with_capacity(16 * WORDS as usize);
     let mut pipes = Pipes::new();
     let mut buffer = vec![0; MOST];
-    for _ in 0..rounds {
+    for round in 0..rounds {
         write_text(&mut text, &mut random);
         pipes.relay(&text, &mut random, &mut buffer, &mut digest).unwrap();
+        if round % 4 == 0 {
+            pipes.digest_last(&mut digest);
+        }
     }
     digest.value()
 }
@@ -86,18 +89,26 @@ impl Pipes {
         log(&mut self.last, text, random, 4096, digest)?;
         log(&mut self.last_in_array, text, random, 4096, digest)?;
         log(&mut self.last, few, random, 7, digest)?;
-        digest.add_option(self.last.newest().map(u64::from));
-        digest.add_option(self.last_in_array.oldest().map(u64::from));
         read_lines(&mut self.lines, rest, &mut self.line, digest)?;
         read_blocks(&mut self.lines, rest, random, digest)
     }
+
+    /// Adds all bytes that the logs keep to the digest.
+    fn digest_last(&self, digest: &mut Digest) {
+        let (first, second) = self.last.bytes().as_slices();
+        digest.add_bytes(first);
+        digest.add_bytes(second);
+        for byte in self.last_in_array.bytes() {
+            digest.add(u64::from(*byte));
+        }
+    }
 }
 
-/// Adds the number of bytes that came out to the digest, and the last eight of them.
+/// Adds the number of bytes that came out to the digest, and all of them.
 #[inline]
 fn digest_piece(bytes: &[u8], digest: &mut Digest) {
     digest.add(bytes.len() as u64);
-    digest.add_bytes(&bytes[bytes.len().saturating_sub(8)..]);
+    digest.add_bytes(bytes);
 }
 
 /// Writes a text to a ring in pieces of up to `most` bytes, and reads about as many as were written.
@@ -145,7 +156,7 @@ fn read_lines(ring: &mut Pipe, text: &[u8], line: &mut String, digest: &mut Dige
         for _ in 0..8 {
             line.clear();
             digest.add(ring.read_line(line)? as u64);
-            digest.add_option(line.bytes().next().map(u64::from));
+            digest.add_bytes(line.as_bytes());
         }
     }
     Ok(())
@@ -159,18 +170,14 @@ fn read_blocks(ring: &mut Pipe, text: &[u8], random: &mut Random, digest: &mut D
         digest.add(ring.write(piece)? as u64);
         for _ in 0..2 {
             let mut left = random.below(800);
-            let mut sum = 0u64;
             for _ in 0..2 {
                 let bytes = ring.fill_buf()?;
                 let count = bytes.len().min(left);
-                for byte in &bytes[..count] {
-                    sum = sum.wrapping_add(u64::from(*byte));
-                }
+                digest.add_bytes(&bytes[..count]);
                 ring.consume(count);
                 left -= count;
             }
             digest.add(left as u64);
-            digest.add(sum);
         }
     }
     Ok(())

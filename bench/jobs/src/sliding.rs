@@ -1,5 +1,6 @@
 //! Windows with what their samples add up to, their least sample, or what their items combine to, kept by hand.
 
+use crate::overwriting::Overwriting;
 use ringbuffer::{AllocRingBuffer, GrowableAllocRingBuffer, RingBuffer};
 use std::collections::VecDeque;
 use std::marker::PhantomData;
@@ -17,13 +18,13 @@ impl<R: RingBuffer<i64>> WindowSum<R> {
         WindowSum { ring, capacity, sum: 0 }
     }
 
+    /// Takes in a sample, and returns the oldest if it gave way.
     #[inline]
-    pub fn push(&mut self, sample: i64) {
-        if self.ring.len() == self.capacity {
-            self.dequeue();
-        }
+    pub fn push(&mut self, sample: i64) -> Option<i64> {
+        let old = if self.ring.len() == self.capacity { self.dequeue() } else { None };
         self.ring.push(sample);
         self.sum += i128::from(sample);
+        old
     }
 
     #[inline]
@@ -54,17 +55,17 @@ impl WindowMoments {
         WindowMoments { ring: AllocRingBuffer::new(capacity), sum: 0, squares: 0 }
     }
 
+    /// Takes in a sample, and returns the oldest if it gave way.
     #[inline]
-    pub fn push(&mut self, sample: i32) {
-        if self.ring.is_full() {
-            if let Some(oldest) = self.ring.dequeue() {
-                self.sum -= i64::from(oldest);
-                self.squares -= square(oldest);
-            }
+    pub fn push(&mut self, sample: i32) -> Option<i32> {
+        let old = self.ring.push_over(sample);
+        if let Some(oldest) = old {
+            self.sum -= i64::from(oldest);
+            self.squares -= square(oldest);
         }
-        self.ring.push(sample);
         self.sum += i64::from(sample);
         self.squares += square(sample);
+        old
     }
 
     /// Returns the variance of the samples times the square of their number.
@@ -217,13 +218,13 @@ impl<M: Monoid> WindowFold<M> {
         WindowFold { older: Vec::new(), newer: Vec::new(), of_newer: M::NEUTRAL, capacity }
     }
 
+    /// Takes in an item, and returns the oldest if it gave way.
     #[inline]
-    pub fn push(&mut self, item: M) {
-        if self.len() == self.capacity {
-            self.dequeue();
-        }
+    pub fn push(&mut self, item: M) -> Option<M> {
+        let old = if self.len() == self.capacity { self.dequeue() } else { None };
         self.of_newer = self.of_newer.combine(&item);
         self.newer.push(item);
+        old
     }
 
     #[inline]

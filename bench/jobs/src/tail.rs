@@ -2,11 +2,11 @@
 
 use crate::digest::Digest;
 use crate::fold_hasher::FoldHasher;
+use crate::overwriting::Overwriting;
 use crate::random::Random;
 use ringbuffer::{AllocRingBuffer, RingBuffer};
 use std::fmt::Write;
 use std::hash::{Hash, Hasher};
-use std::hint::black_box;
 
 /// How many different lines a round has.
 const LINES: u32 = 256;
@@ -67,13 +67,14 @@ pub fn run(seed: u64, rounds: u32) -> u64 {
         for _ in 0..PUSHES {
             tail.push(lines.line(&mut random));
         }
-        digest.add(bytes_of(&tail));
-        for _ in 0..PUSHES {
-            log.push(lines.line(&mut random));
+        digest_lengths(&tail, &mut digest);
+        for number in 0..PUSHES {
+            let old = log.push_over(lines.line(&mut random));
+            digest_push(old, number % 4 == 0, &mut digest);
         }
         last = look(&log, &last, &lines, &mut random, &mut digest);
         for number in 0..100 {
-            recent.push(lines.line(&mut random));
+            digest_push(recent.push_over(lines.line(&mut random)), true, &mut digest);
             if number % 10 == 0 {
                 compare(&recent, &kept, &mut digest);
                 keep(&recent, &mut kept);
@@ -85,10 +86,22 @@ pub fn run(seed: u64, rounds: u32) -> u64 {
     digest.value()
 }
 
-/// Returns how many bytes the lines of a log have.
+/// Adds how many bytes each line of a log has to the digest.
 #[inline(never)]
-fn bytes_of(tail: &AllocRingBuffer<String>) -> u64 {
-    tail.iter().map(|line| line.len() as u64).sum()
+fn digest_lengths(tail: &AllocRingBuffer<String>, digest: &mut Digest) {
+    for line in tail.iter() {
+        digest.add(line.len() as u64);
+    }
+}
+
+/// Adds the line that gave way for another to the digest, if one did: all its bytes, or only how many they are.
+#[inline]
+fn digest_push(old: Option<String>, is_whole: bool, digest: &mut Digest) {
+    match old {
+        Some(old) if is_whole => digest.add_bytes(old.as_bytes()),
+        Some(old) => digest.add(old.len() as u64),
+        None => {}
+    }
 }
 
 /// Reads the newest lines, searches for lines, compares with the last snapshot, and returns a new one.
@@ -113,8 +126,11 @@ fn look(
     let snapshot = log.clone();
     compare(log, &snapshot, digest);
     digest.add(hash_of(log));
-    let copies = black_box(log.to_vec());
+    let copies = log.to_vec();
     digest.add(copies.len() as u64);
+    for line in &copies {
+        digest.add_bytes(line.as_bytes());
+    }
     snapshot
 }
 
@@ -138,7 +154,9 @@ fn keep(log: &AllocRingBuffer<String>, kept: &mut AllocRingBuffer<String>) {
 #[inline(never)]
 fn compare(log: &AllocRingBuffer<String>, other: &AllocRingBuffer<String>, digest: &mut Digest) {
     digest.add(u64::from(log == other));
-    digest.add(u64::from(log.iter().cmp(other.iter()).is_lt()));
+    let order = log.iter().cmp(other.iter());
+    digest.add(u64::from(order.is_lt()));
+    digest.add(u64::from(order.is_gt()));
 }
 
 /// Keeps the newest lines, and takes half of them out.
@@ -149,6 +167,6 @@ fn drain_some(log: &mut AllocRingBuffer<String>, digest: &mut Digest) {
     }
     let count = log.len() / 2;
     for line in log.drain().take(count) {
-        digest.add(line.len() as u64);
+        digest.add_bytes(line.as_bytes());
     }
 }

@@ -123,7 +123,7 @@ fn folds(random: &mut Random, rounds: u32, digest: &mut Digest) {
 fn slide_sum<R: RingBuffer<i64>>(window: &mut WindowSum<R>, samples: &[i64], most: usize, digest: &mut Digest) {
     let mut digested = *digest;
     for sample in samples {
-        window.push(*sample);
+        digested.add_option(window.push(*sample).map(|old| old as u64));
         if window.len() > most {
             digested.add_option(window.dequeue().map(|oldest| oldest as u64));
         }
@@ -140,7 +140,7 @@ fn slide_moments(window: &mut WindowMoments, samples: &[i64], digest: &mut Diges
         let Ok(sample) = i32::try_from(*sample) else {
             continue;
         };
-        window.push(sample);
+        digested.add_option(window.push(sample).map(|old| old as u64));
         digested.add(window.scaled_variance().unsigned_abs() as u64);
     }
     *digest = digested;
@@ -193,10 +193,28 @@ fn slide_tide(window: &mut WindowLeast<Ascending>, tide: u32, digest: &mut Diges
 fn slide_hash(window: &mut WindowFold<PolynomialHash>, samples: &[i64], digest: &mut Digest) {
     let mut digested = *digest;
     for sample in samples {
-        window.push(PolynomialHash::of_byte(*sample as u8));
+        let old = window.push(PolynomialHash::of_byte(*sample as u8));
+        digested.add_option(old.map(|old| old.hash));
         digested.add(window.fold().hash);
     }
     *digest = digested;
+}
+
+/// Adds each entry of a matrix to the digest.
+#[inline]
+fn digest_matrix(matrix: &Matrix, digest: &mut Digest) {
+    for entry in [matrix.a, matrix.b, matrix.c, matrix.d] {
+        digest.add(entry);
+    }
+}
+
+/// Adds a matrix that left a window to the digest, if one did.
+#[inline]
+fn digest_gone(gone: Option<Matrix>, digest: &mut Digest) {
+    match gone {
+        Some(matrix) => digest_matrix(&matrix, digest),
+        None => digest.add_option(None),
+    }
 }
 
 /// Pushes matrices onto a window, takes the oldest out where there are more than `most`, and reads their product each
@@ -205,12 +223,11 @@ fn slide_hash(window: &mut WindowFold<PolynomialHash>, samples: &[i64], digest: 
 fn slide_product(window: &mut WindowFold<Matrix>, samples: &[i64], most: usize, digest: &mut Digest) {
     let mut digested = *digest;
     for sample in samples {
-        window.push(Matrix { a: 1, b: *sample as u64, c: 1, d: 3 });
+        digest_gone(window.push(Matrix { a: 1, b: *sample as u64, c: 1, d: 3 }), &mut digested);
         if window.len() > most {
-            digested.add_option(window.dequeue().map(|oldest| oldest.b));
+            digest_gone(window.dequeue(), &mut digested);
         }
-        let product = window.fold();
-        digested.add(product.a ^ product.d);
+        digest_matrix(&window.fold(), &mut digested);
     }
     *digest = digested;
 }

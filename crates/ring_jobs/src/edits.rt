@@ -1,13 +1,13 @@
 //! Histories, queues and lists that change at both ends and in the middle, and runs of commands.
 
-ghost use Rattle.std.specs.Prelude.{◌<◌, ◌≤◌};
+ghost use Rattle.std.specs.Prelude.{◌<◌};
 
 use crate::digest::Digest;
 use crate::random::Random;
 use ring_uses::undo::History;
 use ringbuffer::{
     AllocRingBuffer, Command, ConstGenericRingBuffer, DoubleEndedRing, GrowableAllocRingBuffer,
-    Reply, RingBuffer, binary_search, retain, run as run_commands, run_into,
+    Reply, RingBuffer, RingBufferExt, binary_search, retain, run as run_commands, run_into,
 };
 use std::alloc::{AllocError, Global};
 
@@ -34,9 +34,9 @@ pub fn run(alloc: Global, seed: u64, rounds: u32) -> Result<u64, AllocError> {
     let mut array = ConstGenericRingBuffer::<u64, 100>::new();
     let mut queue = GrowableAllocRingBuffer::new(alloc);
     let mut replies = places(alloc)?;
-    refill(&mut large, 65536, &mut random);
-    refill(&mut small, 1000, &mut random);
-    refill(&mut list, 20000, &mut random);
+    refill(&mut large, 65536, &mut random, &mut digest);
+    refill(&mut small, 1000, &mut random, &mut digest);
+    refill(&mut list, 20000, &mut random, &mut digest);
     let mut now = 0u64;
     for round in 0..rounds {
         exchange(&mut large, 8, &mut random, &mut digest);
@@ -44,15 +44,18 @@ pub fn run(alloc: Global, seed: u64, rounds: u32) -> Result<u64, AllocError> {
         exchange(&mut list, 16, &mut random, &mut digest);
         turn(&mut small, &mut random, &mut digest);
         cut(&mut small, &mut random, &mut digest);
-        refill(&mut small, 20, &mut random);
+        refill(&mut small, 20, &mut random, &mut digest);
         if round % 16 == 0 {
             turn(&mut large, &mut random, &mut digest);
             cut(&mut large, &mut random, &mut digest);
             keep_most(&mut large, &mut random, &mut digest);
-            refill(&mut large, 20000, &mut random);
+            refill(&mut large, 20000, &mut random, &mut digest);
+            digest_slices(large.as_slices(), &mut digest);
+            digest_slices(list.as_slices(), &mut digest);
+            digest_slices(times.as_slices(), &mut digest);
         }
         keep_most(&mut small, &mut random, &mut digest);
-        refill(&mut small, 100, &mut random);
+        refill(&mut small, 100, &mut random, &mut digest);
         now = find_times(&mut times, now, &mut random, &mut digest);
         undo_some(&mut history, &mut random, &mut digest);
         work_both_ends(&mut list, &mut random, &mut digest);
@@ -61,15 +64,43 @@ pub fn run(alloc: Global, seed: u64, rounds: u32) -> Result<u64, AllocError> {
         run_all(alloc, &mut queue, &mut random, &mut digest)?;
         run_in_place(alloc, &mut array, &mut replies, &mut random, &mut digest)?;
         queue.keep_newest(5000);
+        digest_items(&small, &mut digest);
+        digest_items(&array, &mut digest);
+        digest_slices(heap.as_slices(), &mut digest);
+        digest_slices(queue.as_slices(), &mut digest);
     }
     Ok(digest.value())
 }
 
 /// Pushes so many random numbers.
-fn refill<R: RingBuffer<u64>>(ring: &mut R, count: usize, random: &mut Random) {
+fn refill<R: RingBuffer<u64>>(
+    ring: &mut R,
+    count: usize,
+    random: &mut Random,
+    digest: &mut Digest,
+) {
     for _ in 0..count {
-        let _ = ring.push(random.number());
+        digest.add_push(ring.push(random.number()));
     }
+}
+
+/// Adds each item of a ring to the digest.
+#[inline(never)]
+fn digest_items<R: RingBuffer<u64>>(ring: &R, digest: &mut Digest) {
+    let mut digested = *digest;
+    digested.add(ring.len() as u64);
+    for item in ring.iter() {
+        digested.add(*item);
+    }
+    *digest = digested;
+}
+
+/// Adds each item of a ring that lies in two slices to the digest.
+fn digest_slices(items: (&[u64], &[u64]), digest: &mut Digest) {
+    let (first, second) = items;
+    digest.add((first.len() as u64).wrapping_add(second.len() as u64));
+    digest.add_each(first);
+    digest.add_each(second);
 }
 
 /// Takes items out at random indexes, and puts others in.
@@ -138,7 +169,7 @@ fn find_times(
     let mut now = now;
     for _ in 0..512 {
         now = now.wrapping_add(random.below(100) as u64);
-        let _ = times.push(now);
+        digest.add_push(times.push(now));
     }
     for _ in 0..128 {
         let time = now.wrapping_sub(random.below(4000000) as u64);
@@ -163,7 +194,8 @@ fn undo_some(history: &mut History<Change>, random: &mut Random, digest: &mut Di
         }
         for _ in 0..random.below(10) {
             if let Some(change) = history.undo() {
-                digest.add(change.at[0] ^ change.text[3] ^ change.at[2]);
+                digest.add_each(&change.at);
+                digest.add_each(&change.text);
             }
         }
     }
@@ -174,9 +206,9 @@ fn undo_some(history: &mut History<Change>, random: &mut Random, digest: &mut Di
 fn work_both_ends<R: DoubleEndedRing<u64>>(ring: &mut R, random: &mut Random, digest: &mut Digest) {
     for _ in 0..256 {
         let number = random.number();
-        let _ = ring.push_front(number);
+        digest.add_push(ring.push_front(number));
         digest.add_option(ring.pop_back());
-        let _ = ring.push(number);
+        digest.add_push(ring.push(number));
         digest.add_option(ring.dequeue());
     }
 }

@@ -1,12 +1,12 @@
 //! Bytes on their way through rings, in pieces, and read line by line.
 
-ghost use Rattle.std.specs.Prelude.{◌<◌, ◌≤◌, length};
+ghost use Rattle.std.specs.Prelude.{◌<◌};
 
 use crate::digest::Digest;
 use crate::random::Random;
 use ring_uses::pipe::Pipe;
 use ringbuffer::{
-    AllocRingBuffer, ConstGenericRingBuffer, GrowableAllocRingBuffer, LastBytes, RingBuffer,
+    AllocRingBuffer, ConstGenericRingBuffer, GrowableAllocRingBuffer, LastBytes, RingBufferExt,
 };
 use std::alloc::{AllocError, Global};
 use std::io;
@@ -25,10 +25,13 @@ pub fn run(alloc: Global, seed: u64, rounds: u32) -> Result<u64, AllocError> {
     let mut text = Vec::with_capacity(alloc, 16 * WORDS as usize)?;
     let mut pipes = Pipes::new(alloc)?;
     let mut buffer = vec![in alloc; 0u8; MOST]?;
-    for _ in 0..rounds {
+    for round in 0..rounds {
         write_text(&mut text, &mut random)?;
         // A pipe that fails took no memory, so its bytes stay.
         let _ = pipes.relay(text.as_slice(), &mut random, &mut buffer, &mut digest);
+        if round % 4 == 0 {
+            pipes.digest_last(&mut digest);
+        }
     }
     Ok(digest.value())
 }
@@ -101,15 +104,18 @@ impl Pipes {
         log(&mut self.last, text, random, 4096, digest)?;
         log(&mut self.last_in_array, text, random, 4096, digest)?;
         log(&mut self.last, few, random, 7, digest)?;
-        digest.add_option(self.last.ring().back().map(|byte| u64::from(*byte)));
-        digest.add_option(
-            self.last_in_array
-                .ring()
-                .front()
-                .map(|byte| u64::from(*byte)),
-        );
         read_lines(&mut self.lines, rest, &mut self.line, digest)?;
         read_blocks(&mut self.lines, rest, random, digest)
+    }
+
+    /// Adds all bytes that the logs keep to the digest.
+    fn digest_last(&self, digest: &mut Digest) {
+        let (first, second) = self.last.ring().as_slices();
+        digest.add_bytes(first);
+        digest.add_bytes(second);
+        for byte in self.last_in_array.ring().iter() {
+            digest.add(u64::from(*byte));
+        }
     }
 }
 
@@ -140,12 +146,12 @@ fn send_on(
     }
 }
 
-/// Adds the number of bytes that came out to the digest, and the last eight of them.
+/// Adds the number of bytes that came out to the digest, and all of them.
 #[inline]
 fn digest_piece(buffer: &[u8], count: usize, digest: &mut Digest) {
     digest.add(count as u64);
     if count <= buffer.len() {
-        digest.add_bytes(&buffer[count.saturating_sub(8)..count]);
+        digest.add_bytes(&buffer[..count]);
     }
 }
 
@@ -215,7 +221,7 @@ fn read_lines(
         for _ in 0..8 {
             line.clear();
             digest.add(ring.read_line(line)? as u64);
-            digest.add_option(line.as_bytes().first().map(|byte| u64::from(*byte)));
+            digest.add_bytes(line.as_bytes());
         }
     }
     Ok(())
@@ -234,18 +240,14 @@ fn read_blocks(
         digest.add(ring.write(piece)? as u64);
         for _ in 0..2 {
             let mut left = random.below(800);
-            let mut sum = 0u64;
             for _ in 0..2 {
                 let bytes = ring.fill_buf()?;
                 let count = bytes.len().min(left);
-                for byte in &bytes[..count] {
-                    sum = sum.wrapping_add(u64::from(*byte));
-                }
+                digest.add_bytes(&bytes[..count]);
                 ring.consume(count);
                 left = left.saturating_sub(count);
             }
             digest.add(left as u64);
-            digest.add(sum);
         }
     }
     Ok(())

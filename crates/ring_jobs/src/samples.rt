@@ -1,6 +1,6 @@
 //! Blocks of samples of a signal: pushed by slices, read at delays and by blocks, copied, compared.
 
-ghost use Rattle.std.specs.Prelude.{◌<◌, ◌≤◌, ◌^◌};
+ghost use Rattle.std.specs.Prelude.{◌<◌};
 
 use crate::digest::Digest;
 use crate::random::Random;
@@ -59,7 +59,8 @@ pub fn run(alloc: Global, seed: u64, rounds: u32) -> Result<u64, AllocError> {
     let mut wide = AllocRingBuffer::new(alloc, 48000)?;
     let mut queue = GrowableAllocRingBuffer::new(alloc);
     for round in 0..rounds {
-        for _ in 0..16 {
+        let reads_all = round % 4 == 0;
+        for number in 0..16 {
             blocks.renew(&mut random)?;
             read_at_delays(
                 &mut delay,
@@ -67,9 +68,11 @@ pub fn run(alloc: Global, seed: u64, rounds: u32) -> Result<u64, AllocError> {
                 &mut random,
                 &mut digest,
             );
-            filter(&mut signal, blocks.floats.as_slice(), &mut digest);
+            let is_whole = reads_all && number == 15;
+            filter(&mut signal, blocks.floats.as_slice(), is_whole, &mut digest);
             history.extend_from_slice(blocks.bits64.as_slice());
-            read_back(&mut wide, blocks.bits64.as_slice(), &mut digest);
+            let is_whole = is_whole && round % 64 == 16;
+            read_back(&mut wide, blocks.bits64.as_slice(), is_whole, &mut digest);
             pass_on(
                 &mut queue,
                 blocks.bits64.as_slice(),
@@ -80,9 +83,14 @@ pub fn run(alloc: Global, seed: u64, rounds: u32) -> Result<u64, AllocError> {
         }
         snapshot(&history, &mut kept, &mut digest)?;
         copy_out(alloc, &blocks, &mut digest)?;
-        if round % 4 == 0 {
+        if reads_all {
+            digest_items(&kept, &mut digest);
             history.fill(i64::from(round))?;
             signal.fill(f64::from(round))?;
+            digest_items(&history, &mut digest);
+            let (first, second) = signal.as_slices();
+            digest.add_floats(first);
+            digest.add_floats(second);
         }
     }
     Ok(digest.value())
@@ -97,64 +105,60 @@ fn read_at_delays(
     digest: &mut Digest,
 ) {
     ring.extend_from_slice(block);
-    let mut sum = 0u64;
+    let mut digested = *digest;
     for _ in 0..64 {
         let delay = -1 - random.below(480) as isize;
         if let Some(sample) = ring.get_signed(delay) {
-            sum = sum.wrapping_add(i64::from(*sample).cast_unsigned());
+            digested.add_signed(i64::from(*sample));
         }
     }
-    digest.add(sum);
     let mut output = [0i16; 256];
-    digest.add(ring.copy_to_slice(&mut output) as u64);
-    digest_last(&output, digest);
+    digested.add(ring.copy_to_slice(&mut output) as u64);
+    digested.add_samples(&output);
     let mut oldest = [0i16; 64];
-    digest.add(ring.dequeue_into(&mut oldest) as u64);
-    digest_last(&oldest, digest);
+    digested.add(ring.dequeue_into(&mut oldest) as u64);
+    digested.add_samples(&oldest);
+    *digest = digested;
 }
 
-/// Adds the first and the last sample of a block to the digest.
-#[inline]
-fn digest_last(block: &[i16], digest: &mut Digest) {
-    digest.add_option(
-        block
-            .first()
-            .map(|sample| i64::from(*sample).cast_unsigned()),
-    );
-    digest.add_option(
-        block
-            .last()
-            .map(|sample| i64::from(*sample).cast_unsigned()),
-    );
-}
-
-/// Pushes a block, one sample after the other, and adds up the newest samples.
+/// Pushes a block, one sample after the other, and adds up the newest samples. Now and then it reads all samples.
 #[inline(never)]
-fn filter(ring: &mut AllocRingBuffer<f64>, block: &[f64], digest: &mut Digest) {
+fn filter(ring: &mut AllocRingBuffer<f64>, block: &[f64], is_whole: bool, digest: &mut Digest) {
     let _ = ring.extend(block.iter().copied());
     let (first, second) = ring.as_slices();
-    digest.add((first.len() as u64).wrapping_add(second.len() as u64));
+    digest.add(first.len() as u64);
+    digest.add(second.len() as u64);
     digest.add_option(first.first().map(|sample| f64_to_bits_with_nan(*sample)));
+    if is_whole {
+        digest.add_floats(first);
+        digest.add_floats(second);
+    }
     let mut sum = 0.0;
+    let mut digested = *digest;
     for sample in ring.range(ring.len().saturating_sub(64)..) {
         sum += *sample;
+        digested.add(f64_to_bits_with_nan(*sample));
     }
-    digest.add(f64_to_bits_with_nan(sum));
+    digested.add(f64_to_bits_with_nan(sum));
+    *digest = digested;
 }
 
-/// Pushes a block, and lays the ring out in one piece.
+/// Pushes a block, and lays the ring out in one piece. Now and then it reads all samples.
 #[inline(never)]
-fn read_back(ring: &mut AllocRingBuffer<i64>, block: &[i64], digest: &mut Digest) {
+fn read_back(ring: &mut AllocRingBuffer<i64>, block: &[i64], is_whole: bool, digest: &mut Digest) {
     ring.extend_from_slice(block);
     if ring.len() % 16 == 0 {
         let samples = ring.make_contiguous();
         digest.add_option(samples.first().map(|sample| sample.cast_unsigned()));
+        if is_whole {
+            digest.add_each_signed(samples);
+        }
     }
-    let mut sum = 0i64;
+    let mut digested = *digest;
     for sample in ring.range(..256) {
-        sum = sum.wrapping_add(*sample);
+        digested.add_signed(*sample);
     }
-    digest.add_signed(sum);
+    *digest = digested;
 }
 
 /// Puts a block into a queue, and takes blocks out while it holds more than some thousand samples.
@@ -174,27 +178,33 @@ fn pass_on(
         }
         let count = queue.dequeue_into(&mut output[..64 + random.below(449)]);
         digest.add(count as u64);
-        digest.add_option(output.first().map(|sample| sample.cast_unsigned()));
+        digest.add_each_signed(&output[..count.min(BLOCK)]);
     }
     Ok(())
 }
 
-/// Makes small rings of the first samples of a block, pushes a few of the others onto each, and adds up what they hold.
+/// Makes small rings of 40 samples of a block, each nine later than the one before, pushes the next few samples onto each,
+/// and adds up what they hold, each sample in other bits.
 #[inline(never)]
 fn digest_few(block: &[i64], digest: &mut Digest) {
-    let (first, rest) = block.split_at(block.len().min(40));
-    for few in rest.chunks(9) {
+    let mut digested = *digest;
+    let mut rest = block;
+    for few in block.split_at(block.len().min(40)).1.chunks(9) {
         let mut ring = ConstGenericRingBuffer::<i64, 48>::new();
-        ring.extend_from_slice(first);
+        ring.extend_from_slice(rest.split_at(rest.len().min(40)).0);
+        rest = rest.split_at(rest.len().min(9)).1;
         for sample in few {
-            let _ = ring.push(*sample);
+            if let Ok(Some(old)) = ring.push(*sample) {
+                digested.add_signed(old);
+            }
         }
-        let mut sum = 0i64;
+        let mut sum = 0u64;
         for sample in &ring {
-            sum = sum.wrapping_add(*sample);
+            sum = sum.rotate_left(1).wrapping_add(sample.cast_unsigned());
         }
-        digest.add_signed(sum);
+        digested.add(sum);
     }
+    *digest = digested;
 }
 
 /// Clones a ring, compares it with its clone and with the last one that was kept, and keeps it.
@@ -214,19 +224,28 @@ fn snapshot(
     ring.clone_into(kept)
 }
 
+/// Adds each sample of a ring to the digest.
+fn digest_items(ring: &ConstGenericRingBuffer<i64, 1000>, digest: &mut Digest) {
+    let mut digested = *digest;
+    for sample in ring.iter() {
+        digested.add_signed(*sample);
+    }
+    *digest = digested;
+}
+
 /// Makes rings of the samples of a block, and copies them out.
 #[inline(never)]
 fn copy_out(alloc: Global, blocks: &Blocks, digest: &mut Digest) -> Result<(), AllocError> {
     let samples = blocks.bits64.as_slice();
     let array = ConstGenericRingBuffer::<i64, 1000>::from_slice(samples)?;
     digest.add_option(array.back().map(|sample| sample.cast_unsigned()));
-    digest.add(array.to_vec(alloc)?.len() as u64);
+    digest.add_each_signed(array.to_vec(alloc)?.as_slice());
     if samples.is_empty() {
         return Ok(());
     }
     let heap = AllocRingBuffer::from_slice(alloc, samples)?;
     digest.add_option(heap.back().map(|sample| sample.cast_unsigned()));
-    digest.add(heap.to_vec_copied(alloc)?.len() as u64);
+    digest.add_each_signed(heap.to_vec_copied(alloc)?.as_slice());
     digest.add(u64::from(heap.contains(&7)));
     digest.add(u64::from(array.contains(&7)));
     Ok(())

@@ -1,6 +1,6 @@
 //! Scripts of commands for the program `ringrun`.
 
-ghost use Rattle.std.specs.Prelude.{◌<◌, ◌≤◌};
+ghost use Rattle.std.specs.Prelude.{◌<◌};
 
 use crate::random::Random;
 use std::alloc::{AllocError, Global};

@@ -73,13 +73,14 @@ pub fn run(alloc: Global, seed: u64, rounds: u32) -> Result<u64, AllocError> {
         for _ in 0..PUSHES {
             tail.feed(lines.line(&mut random)?);
         }
-        digest.add(bytes_of(&tail));
-        for _ in 0..PUSHES {
-            let _ = log.push(lines.line(&mut random)?);
+        digest_lengths(&tail, &mut digest);
+        for number in 0..PUSHES {
+            let pushed = log.push(lines.line(&mut random)?);
+            digest_push(pushed, number % 4 == 0, &mut digest);
         }
         last = look(alloc, &log, &last, &lines, &mut random, &mut digest)?;
         for number in 0..100 {
-            let _ = recent.push(lines.line(&mut random)?);
+            digest_push(recent.push(lines.line(&mut random)?), true, &mut digest);
             if number % 10 == 0 {
                 compare(&recent, &kept, &mut digest);
                 keep(&recent, &mut kept)?;
@@ -91,14 +92,27 @@ pub fn run(alloc: Global, seed: u64, rounds: u32) -> Result<u64, AllocError> {
     Ok(digest.value())
 }
 
-/// Returns how many bytes the lines of a log have.
+/// Adds how many bytes each line of a log has to the digest.
 #[inline(never)]
-fn bytes_of(tail: &LogTail) -> u64 {
-    let mut bytes = 0u64;
+fn digest_lengths(tail: &LogTail, digest: &mut Digest) {
+    let mut digested = *digest;
     for line in tail.iter() {
-        bytes = bytes.wrapping_add(line.len() as u64);
+        digested.add(line.len() as u64);
     }
-    bytes
+    *digest = digested;
+}
+
+/// Adds the line that gave way for another to the digest, if one did: all its bytes, or only how many they are.
+#[inline]
+fn digest_push(pushed: Result<Option<String>, String>, is_whole: bool, digest: &mut Digest) {
+    let Ok(Some(old)) = pushed else {
+        return;
+    };
+    if is_whole {
+        digest.add_bytes(old.as_bytes());
+    } else {
+        digest.add(old.len() as u64);
+    }
 }
 
 /// Reads the newest lines, searches for lines, compares with the last snapshot, and returns a new one.
@@ -128,6 +142,9 @@ fn look(
     digest.add(hasher.finish());
     let copies = log.to_vec(alloc)?;
     digest.add(copies.len() as u64);
+    for line in &copies {
+        digest.add_bytes(line.as_bytes());
+    }
     Ok(snapshot)
 }
 
@@ -146,7 +163,9 @@ fn keep(
 #[inline(never)]
 fn compare(log: &AllocRingBuffer<String>, other: &AllocRingBuffer<String>, digest: &mut Digest) {
     digest.add(u64::from(log == other));
-    digest.add(u64::from(log.cmp(other).is_lt()));
+    let order = log.cmp(other);
+    digest.add(u64::from(order.is_lt()));
+    digest.add(u64::from(order.is_gt()));
 }
 
 /// Keeps the newest 500 lines, and takes out half of those.
@@ -155,6 +174,6 @@ fn drain_some(log: &mut AllocRingBuffer<String>, digest: &mut Digest) {
     log.keep_newest(500);
     let count = log.len() / 2;
     for line in log.drain().take(count) {
-        digest.add(line.len() as u64);
+        digest.add_bytes(line.as_bytes());
     }
 }

@@ -1,6 +1,6 @@
 //! Windows over a series of samples: sums, moments, the least, the greatest, and folds, each read after each push.
 
-ghost use Rattle.std.specs.Prelude.{◌<◌, ◌≤◌};
+ghost use Rattle.std.specs.Prelude.{◌<◌};
 
 use crate::digest::Digest;
 use crate::random::Random;
@@ -166,7 +166,7 @@ fn slide_sum<R: RingBuffer<i64>>(
 ) {
     let mut digested = *digest;
     for sample in samples {
-        let _ = window.push(*sample);
+        digested.add_signed_push(window.push(*sample));
         if window.len() > most {
             digested.add_option(window.dequeue().map(i64::cast_unsigned));
         }
@@ -183,7 +183,9 @@ fn slide_moments(window: &mut AllocWindowMoments, samples: &[i64], digest: &mut 
         let Ok(sample) = i32::try_from(*sample) else {
             continue;
         };
-        let _ = window.push(sample);
+        if let Ok(old) = window.push(sample) {
+            digested.add_option(old.map(|old| i64::from(old).cast_unsigned()));
+        }
         if window.fits_variance()
             && let Some(variance) = window.variance()
         {
@@ -235,10 +237,30 @@ fn slide_hash(window: &mut AllocWindowFold<PolynomialHash>, samples: &[i64], dig
     let mut digested = *digest;
     for sample in samples {
         let byte = (sample.cast_unsigned() & 255) as u8;
-        let _ = window.push(PolynomialHash::of_byte(byte));
+        if let Ok(old) = window.push(PolynomialHash::of_byte(byte)) {
+            digested.add_option(old.map(|old| old.hash()));
+        }
         digested.add(window.fold().hash());
     }
     *digest = digested;
+}
+
+/// Adds each entry of a matrix to the digest.
+#[inline]
+fn digest_matrix(matrix: &Matrix, digest: &mut Digest) {
+    digest.add(matrix.a);
+    digest.add(matrix.b);
+    digest.add(matrix.c);
+    digest.add(matrix.d);
+}
+
+/// Adds a matrix that left a window to the digest, if one did.
+#[inline]
+fn digest_gone(gone: Option<Matrix>, digest: &mut Digest) {
+    match gone {
+        Some(matrix) => digest_matrix(&matrix, digest),
+        None => digest.add_option(None),
+    }
 }
 
 /// Pushes matrices onto a window, takes the oldest out where there are more than `most`, and reads their product each
@@ -259,12 +281,13 @@ fn slide_product<R: RingBuffer<Kept<Matrix>>>(
             c: 1,
             d: 3,
         };
-        let _ = window.push(matrix);
-        if window.len() > most {
-            digested.add_option(window.dequeue().map(|oldest| oldest.b));
+        if let Ok(old) = window.push(matrix) {
+            digest_gone(old, &mut digested);
         }
-        let product = window.fold();
-        digested.add(product.a ^ product.d);
+        if window.len() > most {
+            digest_gone(window.dequeue(), &mut digested);
+        }
+        digest_matrix(&window.fold(), &mut digested);
     }
     *digest = digested;
 }
