@@ -9,6 +9,7 @@ pub mod HeldRange
 pub mod Items
 pub mod Lending
 pub mod Limits
+pub mod Mapped
 pub mod MovedItems
 pub mod Picking
 pub mod Reading

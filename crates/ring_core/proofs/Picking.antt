@@ -1,7 +1,7 @@
 -- What stands while the items of a ring are asked about in turn, and those picked come behind the others.
 use Rattle.ring_core.proofs.Words.{◌≡◌, ℕ, ◌+◌, ◌<◌, ◌≤◌, Bool, true, false, List, [], ◌∷◌, ◌++◌, length, drop, slice_get, Option, None, Some, IsSome, refl, sym, ap, ◌∙◌, append-nil, append_assoc, arith, length-append, IsWithin, keep_last}
 use Rattle.std.specs.List.{items_where_true}
-use Rattle.std.specs.List.Retain.{ReturnsInTurn}
+use Rattle.std.specs.List.Retain.{IsFiltered, ReturnsInTurn}
 use Rattle.ring_core.proofs.Limits.{keep_last_within}
 use Rattle.ring_core.specs.Filtering.{FiltersPart}
 
@@ -34,6 +34,10 @@ module _ {A : Type 0} where
   some_first [] picked some = absurd (omega arith)
   some_first (x ∷ rest) picked some = refl
 
+  nothing_in : (xs : List A) → length xs ≡ 0 → xs ≡ []
+  nothing_in [] none = refl
+  nothing_in (x ∷ xs) none = absurd (omega (arith, none))
+
 module _ {A P : Type 0} (R : P → A → Bool → P → Type 0) where
   -- one more answer
   returns-push : (p q u : P) (bs : List Bool) (xs : List A) (b : Bool) (x : A) → length bs ≡ length xs → ReturnsInTurn R p bs xs q → R q x b u
@@ -62,6 +66,13 @@ module _ {A P : Type 0} (R : P → A → Bool → P → Type 0) where
     -- while not all were asked about, there is a first item
     pub first_is_some : turns < length old → IsSome (slice_get now 0)
     first_is_some more = rw at.left (some_first at.rest _ (omega (arith, at.counted, ap length at.parts, length-append at.asked at.rest)))
+
+    -- all were asked about
+    pub all_asked : length old ≤ turns → IsFiltered R p old now
+    all_asked all =
+        let none : at.rest ≡ [] = nothing_in at.rest (omega (arith, at.counted, ap length at.parts, length-append at.asked at.rest)) in
+        let old_is : old ≡ at.asked = at.parts ∙ ap (λ l. at.asked ++ l) none ∙ append-nil at.asked in
+        rw old_is (at.answers, q, at.answered, at.told, at.left ∙ ap (λ l. l ++ items_where_true at.answers at.asked) none)
 
     -- x is the next item, which is taken out and asked about
     module _ (more : turns < length old) (x : A) (first : slice_get now 0 ≡ Some x) where

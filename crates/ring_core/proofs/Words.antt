@@ -9,7 +9,7 @@ pub use Rattle.ring_core.specs.declared.runs.Command.{Command}
 pub use Rattle.ring_core.specs.declared.runs.Command.TheVariants.{Clear, Dequeue, Extend, Push, Skip}
 pub use Rattle.ring_core.specs.declared.runs.Refused.{Refused}
 pub use Rattle.ring_core.specs.declared.runs.Reply.{Reply}
-pub use Rattle.std.proofs.Common.{All, Bool, Bor, Global, IfSome, IsNone, IsSome, IsTrue, List, MatchOption, MutBor, None, Option, Some, [], add-one, add-zero, ap, append-nil, append_assoc, arith, drop, false, filter, get_or, if◌then◌else◌, inl, inr, length, length-append, length-drop, map, map-id, max, min, nat_le, nat_lt, refl, replicate, rules, set, slice_get, slice_set, suc, sym, take, true, vec_capacity, zero, zero-add, ℕ, ◌&&◌, ◌*◌, ◌++◌, ◌+◌, ◌-◌, ◌<◌, ◌==◌, ◌↔◌, ◌∙◌, ◌∷◌, ◌≡◌, ◌≤◌}
+pub use Rattle.std.proofs.Common.{All, Bool, Bor, Global, IfSome, IsNone, IsSome, IsTrue, List, MatchOption, MutBor, None, Option, Some, [], add-one, add-zero, ap, append-nil, append_assoc, arith, drop, false, filter, get_or, if◌then◌else◌, inl, inr, length, length-append, length-drop, map, map-id, max, min, nat_le, nat_lt, refl, replicate, rules, set, slice_get, slice_set, subst, suc, sym, take, true, vec_capacity, zero, zero-add, ℕ, ◌&&◌, ◌*◌, ◌++◌, ◌+◌, ◌-◌, ◌<◌, ◌==◌, ◌↔◌, ◌∙◌, ◌∷◌, ◌≡◌, ◌≤◌}
 pub use Rattle.std.proofs.Math.Nat.{mod-eq_of_lt, zero-mod}
 pub use Rattle.std.proofs.Math.Seq.{drop-append_seam, drop-cons, set-append_seam, take-length, take-nil, take-suc-set}
 pub use Rattle.std.proofs.lemmas.Bool.{cases_Bool, cases_lt, eqb-true, false≢true, le-ltb, lt-ltb}

@@ -43,6 +43,16 @@ abbrev pub signed_index_at : ℕ → ℤ → ℕ
 signed_index_at n (pos i) = i % n
 signed_index_at n (negsuc i) = n - (1 + i % n)
 
+-- a position with a sign, from -n on and below n, which does not wrap
+abbrev pub IsInRange : ℕ → ℤ → Type 0
+IsInRange n (pos i) = i < n
+IsInRange n (negsuc i) = i < n
+
+-- the index that such a position names
+abbrev pub index_in_range : ℕ → ℤ → ℕ
+index_in_range n (pos i) = i
+index_in_range n (negsuc i) = n - (1 + i)
+
 -- a count of slot changes went from a to b where the items went from old to new and `put` of them were put in:
 -- it never falls, and rises by at most the items put in plus those removed
 abbrev pub ChangesSlots : {A : Type 0} → ℕ → List A → ℕ → List A → ℕ → Type 0

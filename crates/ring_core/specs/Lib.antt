@@ -3,6 +3,7 @@ pub mod Cursor
 pub mod Extension
 pub mod Filtering
 pub mod History
+pub mod Mapping
 pub mod Meaning
 pub mod Replies
 pub mod Stream

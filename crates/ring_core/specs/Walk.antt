@@ -1,5 +1,7 @@
 -- What the walks over a ring have still to come.
-use Rattle.std.specs.Prelude.{◌≡◌, ℕ, IsSome, Option, List, length, max, take, drop}
+use Rattle.std.specs.Prelude.{◌≡◌, ℕ, Bool, IsSome, Option, List, length, max, take, drop}
+use Rattle.std.specs.Borrow.{Bor}
+use Rattle.std.specs.Fn.{Called, CalledAt, Mut}
 use Rattle.std.specs.List.{remove_range}
 use Rattle.std.specs.Iterator.{YieldsFirst, YieldsFirstRef, YieldsLast, YieldsLastRef}
 use Rattle.std.specs.Iterator.Runs.{YieldsInOrder, YieldsInReverse, YieldsRefsInOrder, YieldsRefsInReverse}
@@ -22,6 +24,14 @@ items_between start end xs = to_come xs (start_index start) (end_index end (leng
 -- the items of a list at the other indexes
 abbrev pub items_outside : {A : Type 0} → Bound ℕ → Bound ℕ → List A → List A
 items_outside start end xs = remove_range xs (start_index start) (max (start_index start) (end_index end (length xs)))
+
+-- R holds of what is left of a walk, and of each test of an item that calls of f answer, which leave f as it was
+abbrev pub ByTest : {T F : Type 0} → Mut F (Bor T × Unit {0}) Bool → F → List T → ((T → Bool) → List T → Type 0) → Type 0
+ByTest {T} {F} g f left R = (test : T → Bool) (xs : List T) → left ≡ xs → ((x : Bor T) (b : Bool) (q : F) → Called g f (x, tt) b q → (q ≡ f) × (b ≡ test x.now)) → R test xs
+
+-- the same, where f takes a reference to what the walk gives
+abbrev pub ByTestAt : {T F : Type 0} → Mut F (Bor (Bor T) × Unit {0}) Bool → F → List T → ((T → Bool) → List T → Type 0) → Type 0
+ByTestAt {T} {F} g f left R = (test : T → Bool) (xs : List T) → left ≡ xs → ((x : Bor T) (b : Bool) (q : F) → CalledAt g f x b q → (q ≡ f) × (b ≡ test x.now)) → R test xs
 
 module _ {T RB : Type 0} (contents : RB → List T) where
   -- what a reading walk has still to come

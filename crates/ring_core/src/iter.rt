@@ -1,12 +1,13 @@
 //! Walks over any ring buffer: reading, writing, and taking the items out.
 
-ghost use Rattle.std.specs.Prelude.{◌≡◌, ◌+◌, ◌-◌, ◌↔◌, [], drop, length, max, min, IfSome, IsNone, Some, slice_get};
+ghost use Rattle.std.specs.Prelude.{◌≡◌, ◌+◌, ◌-◌, ◌↔◌, true, false, [], drop, find, position, length, max, min, IfSome, IsNone, Some, slice_get};
 ghost use Rattle.std.specs.Borrow.{sem};
-ghost use Rattle.std.specs.Iterator.{YieldsFirstRef, YieldsLastRef, UpTo, at_most, item_count};
+ghost use Rattle.std.specs.List.{list_any, list_all};
+ghost use Rattle.std.specs.Iterator.{CallableWhile, CallableWhileAt, ChecksAll, ChecksAny, FindsItem, FindsPosition, YieldsFirstRef, YieldsLastRef, UpTo, at_most, item_count};
 ghost use Rattle.std.specs.Iterator.SizeHint.{IsWithinCount};
 ghost use Rattle.std.specs.Range.Bound.{end_index, start_index};
 ghost use Rattle.std.specs.Option.{option_copied, option_copied_mut};
-ghost use Rattle.ring_core.specs.Walk.{DrainsFirst, DrainsInOrder, DrainsInReverse, DrainsLast, ReadsInOrder, ReadsInReverse, StartsOver, UnpacksFirst, UnpacksInOrder, UnpacksInReverse, UnpacksLast, drain_to_come, into_iter_to_come, iterator_to_come, cursor_to_come, items_between};
+ghost use Rattle.ring_core.specs.Walk.{ByTest, ByTestAt, DrainsFirst, DrainsInOrder, DrainsInReverse, DrainsLast, ReadsInOrder, ReadsInReverse, StartsOver, UnpacksFirst, UnpacksInOrder, UnpacksInReverse, UnpacksLast, drain_to_come, into_iter_to_come, iterator_to_come, cursor_to_come, items_between};
 
 use crate::double_ended::DoubleEndedRing;
 use crate::ring::RingBuffer;
@@ -122,6 +123,47 @@ impl<'rb, T: Drop, RB: RingBuffer<T>> RingBufferIterator<'rb, T, RB> {
         ensures { result ≡ length (iterator_to_come RB.contents self.entry) }
     {
         self.len()
+    }
+
+    /// Returns whether an item that is left passes a test, and stops at the first that does.
+    pub fn any<F: FnMut(&'rb T) -> bool>(&mut self, f: F) -> bool
+        requires { CallableWhile (YieldsFirstRef (iterator_to_come RB.contents)) F.FnMut false self.old f }
+        ensures ran { ChecksAny (YieldsFirstRef (iterator_to_come RB.contents)) F.FnMut self.old f result self.new }
+        ensures value { ByTest F.FnMut f (iterator_to_come RB.contents self.old)
+            (λ test xs. result ≡ list_any test xs) }
+    {
+        Iterator::any(self, f)
+    }
+
+    /// Returns whether each item that is left passes a test, and stops at the first that fails.
+    pub fn all<F: FnMut(&'rb T) -> bool>(&mut self, f: F) -> bool
+        requires { CallableWhile (YieldsFirstRef (iterator_to_come RB.contents)) F.FnMut true self.old f }
+        ensures ran { ChecksAll (YieldsFirstRef (iterator_to_come RB.contents)) F.FnMut self.old f result self.new }
+        ensures value { ByTest F.FnMut f (iterator_to_come RB.contents self.old)
+            (λ test xs. result ≡ list_all test xs) }
+    {
+        Iterator::all(self, f)
+    }
+
+    /// Returns how many items that are left come before the first that passes a test.
+    pub fn position<F: FnMut(&'rb T) -> bool>(&mut self, f: F) -> Option<usize>
+        requires { CallableWhile (YieldsFirstRef (iterator_to_come RB.contents)) F.FnMut false self.old f }
+        ensures ran { FindsPosition (YieldsFirstRef (iterator_to_come RB.contents)) F.FnMut self.old f result self.new }
+        ensures value { ByTest F.FnMut f (iterator_to_come RB.contents self.old)
+            (λ test xs. result ≡ position test xs) }
+    {
+        let _ = self.len();
+        Iterator::position(self, f)
+    }
+
+    /// Returns the first item that is left and passes a test.
+    pub fn find<F: FnMut(&&'rb T) -> bool>(&mut self, f: F) -> Option<&'rb T>
+        requires { CallableWhileAt (YieldsFirstRef (iterator_to_come RB.contents)) F.FnMut false self.old f }
+        ensures ran { FindsItem (YieldsFirstRef (iterator_to_come RB.contents)) F.FnMut self.old f result self.new }
+        ensures value { ByTestAt F.FnMut f (iterator_to_come RB.contents self.old)
+            (λ test xs. option_copied result ≡ find test xs) }
+    {
+        Iterator::find(self, f)
     }
 }
 

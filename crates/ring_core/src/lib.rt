@@ -5,6 +5,7 @@
 mod double_ended;
 mod iter;
 mod last_bytes;
+mod mapping;
 mod moving;
 mod retaining;
 mod ring;
@@ -18,8 +19,9 @@ pub use iter::{
     RingBufferMutIterator, range_within,
 };
 pub use last_bytes::LastBytes;
+pub use mapping::map_each;
 pub use moving::move_all;
-pub use retaining::retain;
+pub use retaining::{dequeue_while, retain};
 pub use ring::RingBuffer;
 pub use runs::{Command, Refused, Reply, RunFault, Stopped, apply, run, run_into, runs_join};
 pub use searching::{binary_search, partition_point};

@@ -1,10 +1,12 @@
-//! Keeping the items of a ring that a test picks.
+//! Dropping the items of a ring that a test picks.
 
-ghost use Rattle.std.specs.Prelude.{◌≡◌, IfErr, IsOk, IsSome, OnOk, length};
+ghost use Rattle.std.specs.Prelude.{◌≡◌, ◌≤◌, IfErr, IsOk, IsSome, OnOk, drop, filter, length};
+ghost use Rattle.std.specs.List.{prefix_len};
 ghost use Rattle.std.specs.Fn.{CalledAt};
 ghost use Rattle.std.specs.List.Retain.{IsFiltered};
 ghost use Rattle.ring_core.specs.Contents.{Counts};
-ghost use Rattle.ring_core.specs.Filtering.{FiltersPart};
+ghost use Rattle.ring_core.specs.Filtering.{FiltersPart, PassesFirst};
+ghost use Rattle.ring_core.specs.Mapping.{ByMap};
 
 use crate::ring::RingBuffer;
 
@@ -23,6 +25,8 @@ pub fn retain<T: Drop, R: RingBuffer<T>, F: FnMut(&T) -> bool>(
     requires { F.IsAlwaysCallable keep }
     ensures filtered { OnOk result
         (IsFiltered (CalledAt F.FnMut) keep (R.contents ring.old) (R.contents ring.new)) }
+    ensures value { OnOk result (ByMap (CalledAt F.FnMut) keep
+        (λ keeps. R.contents ring.new ≡ filter keeps (R.contents ring.old))) }
     ensures refused { IfErr result
         (FiltersPart (CalledAt F.FnMut) keep (R.contents ring.old) (R.contents ring.new)) }
     ensures succeeds { IsSome (R.limit ring.old) → IsOk result }
@@ -40,4 +44,33 @@ pub fn retain<T: Drop, R: RingBuffer<T>, F: FnMut(&T) -> bool>(
         }
     }
     Ok(())
+}
+
+/// Drops the oldest items while `test` returns `true` of them, and returns how many. It asks about the items in order, and of
+/// the first that it keeps last. This call is the library's own: the Rust crate has none like it.
+///
+/// ```rust
+/// dequeue_while(events, |event| event.time < time)
+/// ```
+pub fn dequeue_while<T: Drop, R: RingBuffer<T>, F: FnMut(&T) -> bool>(
+    ring: &mut R,
+    mut test: F,
+) -> usize
+    requires { F.IsAlwaysCallable test }
+    ensures rest { R.contents ring.new ≡ drop result (R.contents ring.old) }
+    ensures within { result ≤ length (R.contents ring.old) }
+    ensures called { PassesFirst (CalledAt F.FnMut) test result (R.contents ring.old) }
+    ensures value { ByMap (CalledAt F.FnMut) test
+        (λ passes. result ≡ prefix_len passes (R.contents ring.old)) }
+    ensures limit { R.limit ring.new ≡ R.limit ring.old }
+    ensures changes { Counts R.limit R.contents R.slot_changes ring.old ring.new 0 }
+{
+    let len = ring.len();
+    for count in 0..len {
+        if !test(ring.front().unwrap()) {
+            return count;
+        }
+        ring.skip();
+    }
+    len
 }

@@ -1,11 +1,11 @@
 //! The trait that every ring buffer implements.
 
-ghost use Rattle.std.specs.Prelude.{◌≡◌, ℕ, ◌+◌, ◌-◌, ◌<◌, ◌≤◌, ◌↔◌, List, [], ◌∷◌, ◌++◌, drop, length, All, Contains, IfOk, IfErr, IfSome, IsNone, IsOk, IsSome, IsTrue, OnErr, OnOk, Option, None, slice_get, slice_set};
+ghost use Rattle.std.specs.Prelude.{◌≡◌, ℕ, ◌+◌, ◌-◌, ◌<◌, ◌≤◌, ◌↔◌, List, [], drop, length, All, IfOk, IfSome, IsNone, IsOk, IsSome, IsTrue, OnErr, OnOk, Option, slice_get, slice_set};
 ghost use Rattle.std.specs.Borrow.{LendsIf, sem};
 ghost use Rattle.std.specs.Iterator.{IsFiniteIterable};
 ghost use Rattle.std.specs.List.{AllZip, FoldsTo, IsAnyAnswer, list_any};
 ghost use Rattle.std.specs.Option.{option_copied, option_copied_mut};
-ghost use Rattle.ring_core.specs.Contents.{Counts, IsWithin, Pushes, keep_last, overwritten, index_at, signed_index_at};
+ghost use Rattle.ring_core.specs.Contents.{Counts, IsInRange, IsWithin, Pushes, index_at, index_in_range, signed_index_at};
 ghost use Rattle.ring_core.specs.Extension.{Extends};
 
 use std::alloc::{AllocError, Global};
@@ -200,8 +200,10 @@ pub trait RingBuffer<T: Drop>: Sized {
 
     /// Returns the item at a position, which is taken modulo the length, or `None` if the ring is empty.
     fn get(&self, index: usize) -> Option<&T>
-        ensures { option_copied result
-            ≡ slice_get (contents self.now) (index_at (length (contents self.now)) index) };
+        ensures value { option_copied result
+            ≡ slice_get (contents self.now) (index_at (length (contents self.now)) index) }
+        ensures in_range { index < length (contents self.now)
+            → option_copied result ≡ slice_get (contents self.now) index };
 
     /// Returns the item at a position that may be negative, and is taken modulo the length: -1 is the newest. Returns `None`
     /// if the ring is empty.
@@ -210,8 +212,10 @@ pub trait RingBuffer<T: Drop>: Sized {
     /// let newest = ring.get_signed(-1).copied();
     /// ```
     fn get_signed(&self, index: isize) -> Option<&T>
-        ensures { option_copied result
-            ≡ slice_get (contents self.now) (signed_index_at (length (contents self.now)) index) };
+        ensures value { option_copied result
+            ≡ slice_get (contents self.now) (signed_index_at (length (contents self.now)) index) }
+        ensures in_range { IsInRange (length (contents self.now)) index → option_copied result
+            ≡ slice_get (contents self.now) (index_in_range (length (contents self.now)) index) };
 
     /// Lends the item that `get` returns, for writing. A write changes that place alone.
     fn get_mut(&mut self, index: usize) -> Option<&mut T>
@@ -220,7 +224,9 @@ pub trait RingBuffer<T: Drop>: Sized {
             (with_item self.old (index_at (length (contents self.old)) index)) self.old) }
         ensures value { option_copied_mut result
             ≡ slice_get (contents self.old) (index_at (length (contents self.old)) index) }
-        ensures none { IsNone result ↔ (contents self.old ≡ []) };
+        ensures none { IsNone result ↔ (contents self.old ≡ []) }
+        ensures in_range { index < length (contents self.old)
+            → index_at (length (contents self.old)) index ≡ index };
 
     /// Lends the item that `get_signed` returns, for writing. A write changes that place alone.
     fn get_mut_signed(&mut self, index: isize) -> Option<&mut T>
@@ -229,7 +235,10 @@ pub trait RingBuffer<T: Drop>: Sized {
             (with_item self.old (signed_index_at (length (contents self.old)) index)) self.old) }
         ensures value { option_copied_mut result
             ≡ slice_get (contents self.old) (signed_index_at (length (contents self.old)) index) }
-        ensures none { IsNone result ↔ (contents self.old ≡ []) };
+        ensures none { IsNone result ↔ (contents self.old ≡ []) }
+        ensures in_range { IsInRange (length (contents self.old)) index
+            → signed_index_at (length (contents self.old)) index
+            ≡ index_in_range (length (contents self.old)) index };
 
     /// Returns the oldest item. The next push overwrites it only if the ring is full and has a limit.
     fn peek(&self) -> Option<&T>

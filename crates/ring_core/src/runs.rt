@@ -1,6 +1,6 @@
 //! Commands for a ring as values, and runs of them on any lawful ring.
 
-ghost use Rattle.std.specs.Prelude.{◌≡◌, ℕ, suc, List, [], ◌∷◌, ◌++◌, ◌+◌, ◌-◌, ◌*◌, ◌<◌, ◌≤◌, IfErr, IfOk, IsOk, IsSome, OnOk, None, Some, length, map, replicate, slice_set, take, vec_capacity, vec_len};
+ghost use Rattle.std.specs.Prelude.{◌≡◌, ℕ, List, [], ◌∷◌, ◌++◌, ◌+◌, ◌-◌, ◌*◌, ◌<◌, ◌≤◌, IfErr, IfOk, IsOk, IsSome, OnOk, None, Some, length, map, replicate, slice_set, take, vec_capacity, vec_len};
 ghost use Rattle.ring_core.specs.Contents.{Counts};
 ghost use Rattle.ring_core.specs.History.{CountsFew, CountsTwice, KeepsToNumbers, MeaningsAgree, RunsJoinByNumber, contents_after, pushed, replies_of, steps};
 ghost use Rattle.ring_core.specs.Replies.{CanStore, Stores};

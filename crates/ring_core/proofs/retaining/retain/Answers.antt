@@ -1,7 +1,8 @@
 use Rattle.ring_core.proofs.Words.{◌++◌, ◌∷◌, ◌∙◌, [], ap, arith, drop, is_ok, length, length-append, length-drop, rules, sym, ◌<◌, ◌≡◌}
 use Rattle.std.proofs.Common.{of_calls}
-use Rattle.std.proofs.lemmas.Fn.{called_at}
-use Rattle.ring_core.proofs.Picking.{dropped, first_is_some, kept, nothing_asked, put_back, refused}
+use Rattle.std.specs.Fn.{CalledAt}
+use Rattle.std.proofs.lemmas.Fn.{called_at, filter_same}
+use Rattle.ring_core.proofs.Picking.{all_asked, dropped, first_is_some, kept, nothing_asked, put_back, refused}
 use Rattle.ring_core.proofs.retaining.retain.Goals as goal
 
 pub loop-init : goal.loop-init
@@ -52,3 +53,10 @@ returns-in-Err-clause-refused g c =
     let first = sym c.dequeue.ensures.value ∙ c.unwrap-item.ensures in
     let err = c.in-Err.ensures.err in
     rw (err.0, err.1, c.dequeue.ensures.rest) (refused _ at.picks (omega arith) c.unwrap-item.result first _ (called_at g.F.FnMut c.keep.ensures c.if-not-keep.false))
+
+pub returns-clause-filtered : goal.returns-clause-filtered
+returns-clause-filtered g c = all_asked _ c.loop.invariant.picks (omega arith)
+
+pub returns-clause-value : goal.returns-clause-value
+returns-clause-value g c =
+    λ keeps same. filter_same (CalledAt g.F.FnMut) keeps c.args.keep (λ x b q answer. let is = same x b q answer in (is.1, is.0)) _ _ (returns-clause-filtered g c)

@@ -5,4 +5,4 @@ use Rattle.ring_core.proofs.iter.RingBufferIteratorDoubleEndedIterator.next_back
 pub returns-clause-steps : goal.returns-clause-steps
 returns-clause-steps g c =
     let s = c.args.self.now in
-    to_come-next_back (g.RB.RingBuffer.contents s.ring.now) s.front s.back (c.min-end.result - 1) c.get.result (omega arith) (omega arith) c.get.ensures
+    to_come-next_back (g.RB.RingBuffer.contents s.ring.now) s.front s.back (c.min-end.result - 1) c.get.result (omega arith) (omega arith) c.get.ensures.value
