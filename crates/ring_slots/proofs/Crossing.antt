@@ -10,6 +10,7 @@ use Rattle.ring_slots.specs.block.Memory.{owned}
 use Rattle.ring_slots.specs.contracts.block.Deed as Deed
 use Rattle.ring_slots.specs.contracts.block.Owner as Owner
 use Rattle.ring_slots.specs.contracts.change_count.ChangeCount as ChangeCount
+use Rattle.ring_slots.specs.contracts.marks.Marks as Marks
 
 module _ (R : RattleType) where
   row-Keyless : IsSend R → (b o : ℕ) (cs : List (Option R.Denot)) → Keyless (row R b o cs)
@@ -51,3 +52,9 @@ ChangeCount-send = owning_send ChangeCount.the_type tt (λ d. tt) (λ k d w. tt)
 
 pub ChangeCount-sync : IsSync ChangeCount.the_row
 ChangeCount-sync = record { shared = λ d b o κ q. whole-keyless _ _ ChangeCount-send.owned q d b o }
+
+pub Marks-send : IsSend Marks.the_row
+Marks-send = owning_send Marks.the_type tt (λ d. tt) (λ k d w. tt)
+
+pub Marks-sync : IsSync Marks.the_row
+Marks-sync = record { shared = λ d b o κ q. whole-keyless _ _ Marks-send.owned q d b o }

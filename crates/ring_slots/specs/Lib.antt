@@ -1,4 +1,5 @@
 pub mod Slots
 pub mod array
 pub mod block
+pub mod copies
 pub mod heap

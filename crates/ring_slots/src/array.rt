@@ -1,9 +1,10 @@
 //! Slots that lie in the value itself.
-ghost use Rattle.std.specs.Prelude.{◌≡◌, ◌+◌, ◌<◌, ◌≤◌, ◌++◌, ℕ, List, drop, length, map, replicate, take, None, Some, refl, slice_index_or};
+ghost use Rattle.std.specs.Prelude.{◌≡◌, ◌+◌, ◌<◌, ◌≤◌, ◌++◌, List, drop, length, replicate, take, None, Some, refl, slice_index_or, slice_set};
 ghost use Rattle.std.specs.Borrow.{sem};
-ghost use Rattle.ring_slots.specs.Slots.{IsEmptyStretch, changed, filled, passed_down, passed_up, slot_at, with_items};
+ghost use Rattle.ring_slots.specs.Slots.{changed, passed_down, passed_up, slot_at};
 
 use crate::change_count::ChangeCount;
+use crate::full;
 use crate::passing::{pass_down, pass_up};
 use crate::place::{wrapped, wrapped_after, wrapped_next};
 use crate::slots::RingSlots;
@@ -11,15 +12,15 @@ use std::marker::Model;
 
 // An array in a struct of its own, so that a contract can say what a loan of one element leaves.
 #[derive(Drop)]
-struct Cells<X, const N: usize> {
-    xs: [X; N],
+pub(crate) struct Cells<X, const N: usize> {
+    pub(crate) xs: [X; N],
 }
 
 impl<X, const N: usize> Cells<X, N> {
     ghost use Rattle.ring_slots.specs.array.Lends.{lends_cell};
 
     #[inline]
-    fn at(&self, place: usize) -> &X
+    pub(crate) fn at(&self, place: usize) -> &X
         requires { place < N }
         ensures { result.now ≡ slice_index_or self.now.xs place result.now }
     {
@@ -27,7 +28,7 @@ impl<X, const N: usize> Cells<X, N> {
     }
 
     #[inline]
-    fn at_mut(&mut self, place: usize) -> &mut X
+    pub(crate) fn at_mut(&mut self, place: usize) -> &mut X
         requires { place < N }
         ensures* writes_back { sem 𝓛 (lends_cell X.row N.row self.entry place result) }
         ensures value { result.now ≡ slice_index_or self.old.xs place result.now }
@@ -37,7 +38,7 @@ impl<X, const N: usize> Cells<X, N> {
 
     // Puts an element before `len` of them from a place on, each of which moves one up, and returns the one that was last.
     #[inline]
-    fn pass_up(&mut self, from: usize, len: usize, x: X) -> X
+    pub(crate) fn pass_up(&mut self, from: usize, len: usize, x: X) -> X
         requires { from + len ≤ N }
         ensures { (ys : List X) × passed_up x result (take len (drop from self.old.xs)) ys
             × (self.new.xs ≡ take from self.old.xs ++ (ys ++ drop (from + len) self.old.xs)) }
@@ -49,13 +50,57 @@ impl<X, const N: usize> Cells<X, N> {
     // Puts an element behind `len` of them from a place on, each of which moves one down, and returns the one that was
     // first.
     #[inline]
-    fn pass_down(&mut self, from: usize, len: usize, x: X) -> X
+    pub(crate) fn pass_down(&mut self, from: usize, len: usize, x: X) -> X
         requires { from + len ≤ N }
         ensures { (ys : List X) × passed_down x result (take len (drop from self.old.xs)) ys
             × (self.new.xs ≡ take from self.old.xs ++ (ys ++ drop (from + len) self.old.xs)) }
     {
         let xs = &mut self.xs[..];
         pass_down(&mut xs[from..from + len], x)
+    }
+}
+
+impl<X: Copy, const N: usize> Cells<X, N> {
+    // Makes cells that all hold one element.
+    pub(crate) fn of(x: X) -> Self
+        ensures { result.xs ≡ replicate N x }
+    {
+        Cells { xs: [x; N] }
+    }
+
+    pub(crate) fn copied(&self) -> Self
+        ensures { result ≡ self.now }
+    {
+        Cells { xs: self.xs }
+    }
+
+    #[inline]
+    pub(crate) fn put(&mut self, place: usize, x: X)
+        requires { place < N }
+        ensures { self.new.xs ≡ slice_set self.old.xs place x }
+    {
+        self.xs[place] = x;
+    }
+
+    // Returns `len` elements from a place on.
+    #[inline]
+    pub(crate) fn slice(&self, from: usize, len: usize) -> &[X]
+        requires { from + len ≤ N }
+        ensures { result.now ≡ take len (drop from self.now.xs) }
+    {
+        let xs = &self.xs[..];
+        &xs[from..from + len]
+    }
+
+    // Writes copies of some elements over those from a place on.
+    #[inline]
+    pub(crate) fn put_slice(&mut self, from: usize, items: &[X])
+        requires { from + length items.now ≤ N }
+        ensures { self.new.xs ≡ take from self.old.xs
+            ++ (items.now ++ drop (from + length items.now) self.old.xs) }
+    {
+        let xs = &mut self.xs[..];
+        xs[from..from + items.len()].copy_from_slice(items);
     }
 }
 
@@ -69,33 +114,10 @@ impl<T, const N: usize> Cells<Option<T>, N> {
     }
 }
 
-impl<T: Copy, const N: usize> Cells<Option<T>, N> {
-    // Writes copies of some items into the elements from a place on.
-    #[inline]
-    fn copy_in(&mut self, from: usize, items: &[T])
-        requires { from + length items.now ≤ N }
-        ensures { self.new.xs ≡ filled self.old.xs from items.now }
-    {
-        let xs = &mut self.xs[..];
-        copy_each(&mut xs[from..from + items.len()], items);
-    }
-}
-
-// Writes copies of some items into as many elements.
-#[inline]
-fn copy_each<T: Copy>(cells: &mut [Option<T>], items: &[T])
-    requires { length cells.old ≡ length items.now }
-    ensures { cells.new ≡ map Some items.now }
-{
-    for k in 0..items.len() {
-        cells[k] = Some(items[k]);
-    }
-}
-
 /// `CAP` slots in an array, which take no memory of their own.
 ///
 /// A contract sees what each slot holds, and how many changes the slots have had. That count takes no bytes, begins at
-/// 0, and rises by the calls of `RingSlots` and by `put_copies` alone.
+/// 0, and rises by the calls of `RingSlots` alone.
 #[derive(Drop)]
 pub struct ArraySlots<T, const CAP: usize> {
     cells: Cells<Option<T>, CAP>,
@@ -135,19 +157,6 @@ impl<T, const CAP: usize> ArraySlots<T, CAP> {
     {
         self.changes = self.changes.after(1);
         self.cells.at_mut(place)
-    }
-}
-
-impl<T: Copy, const CAP: usize> ArraySlots<T, CAP> {
-    /// Puts copies of some items into empty slots that lie side by side from the place `from` on, each by one change.
-    /// Takes O(n) in these.
-    #[inline]
-    pub fn put_copies(&mut self, from: usize, items: &[T])
-        requires { IsEmptyStretch self.old.slots from (length items.now) }
-        ensures { self.new ≡ with_items self.old from items.now }
-    {
-        self.changes = self.changes.after(items.len());
-        self.cells.copy_in(from, items);
     }
 }
 
@@ -212,7 +221,7 @@ impl<T, const CAP: usize> RingSlots<T> for ArraySlots<T, CAP> {
 
     #[inline]
     fn get(&self, place: usize) -> &T {
-        self.cells.at(place).as_ref().unwrap()
+        full::item(self.cells.at(place))
     }
 
     #[inline]
@@ -239,6 +248,11 @@ impl<T, const CAP: usize> RingSlots<T> for ArraySlots<T, CAP> {
 
     #[inline]
     fn goes_by_stretch() -> bool {
+        false
+    }
+
+    #[inline]
+    fn goes_by_value() -> bool {
         false
     }
 

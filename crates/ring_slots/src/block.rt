@@ -121,24 +121,31 @@ impl<T> Owner<T> {
 
     /// Puts an item into an empty slot.
     #[inline]
-    pub(crate) fn put(&mut self, ptr: *mut T, place: usize, item: T)
+    pub(crate) fn put(&mut self, ptr: *mut T, size: usize, place: usize, item: T)
         requires at { ptr ≡ self.old.at }
+        requires size { size ≡ length self.old.slots }
         requires place { place < length self.old.slots }
         requires empty { slice_index_or self.old.slots place None ≡ None }
         ensures { self.new ≡ owner_with self.old place (Some item) }
     {
-        unsafe { ptr.add(place).write(item) }
+        let mut row = self.detach(ptr, size);
+        row.put(place, item);
+        self.attach(row, size);
     }
 
     /// Takes the item out of a full slot.
     #[inline]
-    pub(crate) fn take(&mut self, ptr: *mut T, place: usize) -> T
+    pub(crate) fn take(&mut self, ptr: *mut T, size: usize, place: usize) -> T
         requires at { ptr ≡ self.old.at }
+        requires size { size ≡ length self.old.slots }
         requires full { IsSome (slice_index_or self.old.slots place None) }
         ensures value { slice_index_or self.old.slots place None ≡ Some result }
         ensures after { self.new ≡ owner_with self.old place None }
     {
-        unsafe { ptr.add(place).read() }
+        let mut row = self.detach(ptr, size);
+        let item = row.take(place);
+        self.attach(row, size);
+        item
     }
 
     /// Returns the items of `len` full slots that lie side by side from the place `from` on.

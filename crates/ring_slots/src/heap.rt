@@ -1,5 +1,5 @@
 //! Slots on the heap.
-ghost use Rattle.std.specs.Prelude.{◌≡◌, ◌+◌, ◌-◌, ◌%◌, ◌^◌, ◌↔◌, ◌<◌, ◌≤◌, ℕ, min, length, replicate, None, Some, refl, IfOk, IsErr, IsTrue};
+ghost use Rattle.std.specs.Prelude.{◌≡◌, ◌+◌, ◌-◌, ◌^◌, ◌↔◌, ◌<◌, ◌≤◌, min, length, replicate, None, Some, refl, IfOk, IsErr, IsTrue};
 ghost use Rattle.std.specs.Borrow.{sem};
 ghost use Rattle.std.specs.Int.{IsNextPowerOfTwo};
 ghost use Rattle.std.specs.Mem.{type_size};
@@ -251,13 +251,15 @@ impl<T> RingSlots<T> for HeapSlots<T> {
         T: Drop,
     {
         self.changes = self.changes.after(1);
-        self.owner.put(self.ptr, place, item);
+        let size = HeapSlots::size(self);
+        self.owner.put(self.ptr, size, place, item);
     }
 
     #[inline]
     fn take(&mut self, place: usize) -> T {
         self.changes = self.changes.after(1);
-        self.owner.take(self.ptr, place)
+        let size = HeapSlots::size(self);
+        self.owner.take(self.ptr, size, place)
     }
 
     #[inline]
@@ -291,6 +293,11 @@ impl<T> RingSlots<T> for HeapSlots<T> {
 
     #[inline]
     fn goes_by_stretch() -> bool {
+        true
+    }
+
+    #[inline]
+    fn goes_by_value() -> bool {
         true
     }
 

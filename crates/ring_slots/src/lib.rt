@@ -4,12 +4,16 @@
 mod array;
 mod block;
 mod change_count;
+mod copies;
+mod full;
 mod heap;
+mod marks;
 mod passing;
 mod place;
 mod slots;
 
 pub use array::ArraySlots;
 pub use change_count::ChangeCount;
+pub use copies::CopySlots;
 pub use heap::{HeapSlots, item_size};
 pub use slots::RingSlots;

@@ -1,4 +1,4 @@
-//! What a ring asks of its slots, which both kinds of slots give.
+//! What a ring asks of its slots, which each kind of slots gives.
 ghost use Rattle.std.specs.Prelude.{◌≡◌, ◌+◌, ◌%◌, ◌<◌, ◌≤◌, ℕ, length, replicate, None, Some, IfSome};
 ghost use Rattle.std.specs.Borrow.{Lends, sem};
 ghost use Rattle.ring_slots.specs.Slots.{HoldsStretch, IsEmptyAt, IsFullAt, IsFullStretch, Passes, Slots, changed, passed_down, passed_up, slot_at};
@@ -101,8 +101,11 @@ pub trait RingSlots<T>: Sized {
         requires { IsFullStretch (seen self.old).slots from len }
         ensures { Passes (seen self.old) (seen self.new) from len (passed_down item result) };
 
-    /// Returns whether calls on many items do better to write the slots stretch by stretch, with the ring in a local.
+    /// Returns whether extensions do better to write the slots stretch by stretch.
     fn goes_by_stretch() -> bool;
+
+    /// Returns whether calls on many items do better to move the ring into a local.
+    fn goes_by_value() -> bool;
 
     /// Ends slots that are all empty.
     fn free(self)

@@ -1,0 +1,147 @@
+-- What slots of plain items show, once cells are written or marks change.
+use Rattle.ring_slots.proofs.Words.{◌≡◌, refl, sym, ap, ◌∙◌, Bool, true, false, List, [], ◌∷◌, ◌++◌, ℕ, zero, suc, ◌+◌, ◌<◌, ◌≤◌, arith, length, get_or, length-append, length-drop, length-replicate, length-take, replicate, set, take, cut, map, None, Some, IsSome, HoldsStretch, IsFullStretch}
+use Rattle.std.proofs.lemmas.Option.{slice_get-get_or}
+use Rattle.std.specs.Prelude.{if◌then◌else◌, slice_get}
+use Rattle.ring_slots.specs.Slots.{Passes, filled}
+use Rattle.ring_slots.specs.copies.Shown.{shown}
+use Rattle.ring_slots.proofs.SlotsInMemory.{full_within, item_of, stretch_long}
+
+module _ {X : Type 0} where
+  pub shown-nil : (fs : List Bool) → shown {X = X} fs [] ≡ []
+  shown-nil [] = refl
+  shown-nil (f ∷ fs) = refl
+
+  pub length-shown : (fs : List Bool) (xs : List X) → length fs ≡ length xs → length (shown fs xs) ≡ length xs
+  length-shown [] [] same = refl
+  length-shown [] (x ∷ xs) same = absurd (omega arith)
+  length-shown (f ∷ fs) [] same = absurd (omega arith)
+  length-shown (f ∷ fs) (x ∷ xs) same = ap suc (length-shown fs xs (omega arith))
+
+  -- an item written into a cell whose mark is set to full
+  pub shown-put : (fs : List Bool) (xs : List X) (k : ℕ) (x : X) → shown (set fs k true) (set xs k x) ≡ set (shown fs xs) k (Some x)
+  shown-put [] xs k x = refl
+  shown-put (f ∷ fs) [] zero x = refl
+  shown-put (f ∷ fs) [] (suc k) x = refl
+  shown-put (f ∷ fs) (y ∷ xs) zero x = refl
+  shown-put (f ∷ fs) (y ∷ xs) (suc k) x = ap (λ l. (if f then Some y else None) ∷ l) (shown-put fs xs k x)
+
+  -- a mark set to empty
+  pub shown-take : (fs : List Bool) (xs : List X) (k : ℕ) → shown (set fs k false) xs ≡ set (shown fs xs) k None
+  shown-take [] xs k = refl
+  shown-take (f ∷ fs) [] zero = refl
+  shown-take (f ∷ fs) [] (suc k) = refl
+  shown-take (f ∷ fs) (y ∷ xs) zero = refl
+  shown-take (f ∷ fs) (y ∷ xs) (suc k) = ap (λ l. (if f then Some y else None) ∷ l) (shown-take fs xs k)
+
+  -- an item written into the cell of a full slot
+  pub shown-write : (fs : List Bool) (xs : List X) (k : ℕ) (x : X) → get_or fs k false ≡ true → shown fs (set xs k x) ≡ set (shown fs xs) k (Some x)
+  shown-write [] xs k x full = refl
+  shown-write (f ∷ fs) [] zero x full = refl
+  shown-write (f ∷ fs) [] (suc k) x full = refl
+  shown-write (f ∷ fs) (y ∷ xs) zero x full = ap (λ (b : Bool). (if b then Some x else None) ∷ shown fs xs) full
+  shown-write (f ∷ fs) (y ∷ xs) (suc k) x full = ap (λ l. (if f then Some y else None) ∷ l) (shown-write fs xs k x full)
+
+  -- a full slot has its mark, and its cell's item
+  pub mark-full : (fs : List Bool) (xs : List X) (k : ℕ) → IsSome (get_or (shown fs xs) k None) → get_or fs k false ≡ true
+  mark-full [] xs k full = cc
+  mark-full (f ∷ fs) [] k full = cc
+  mark-full (true ∷ fs) (x ∷ xs) zero full = refl
+  mark-full (false ∷ fs) (x ∷ xs) zero full = cc
+  mark-full (f ∷ fs) (x ∷ xs) (suc k) full = mark-full fs xs k full
+
+  item-shown : (fs : List Bool) (xs : List X) (k : ℕ) → get_or fs k false ≡ true → get_or (shown fs xs) k None ≡ slice_get xs k
+  item-shown [] xs k full = cc
+  item-shown (f ∷ fs) [] k full = refl
+  item-shown (f ∷ fs) (x ∷ xs) zero full = ap (λ (b : Bool). if b then Some x else None) full
+  item-shown (f ∷ fs) (x ∷ xs) (suc k) full = item-shown fs xs k full
+
+  -- there is a cell where a slot is full
+  pub within : (fs : List Bool) (xs : List X) (k : ℕ) → length fs ≡ length xs → IsSome (get_or (shown fs xs) k None) → k < length xs
+  within fs xs k same full =
+      let (x, is) = item_of (get_or (shown fs xs) k None) full in let low = full_within (shown fs xs) k x is in omega (arith, low, length-shown fs xs same)
+
+  pub full-item : (fs : List Bool) (xs : List X) (k : ℕ) (x : X) → length fs ≡ length xs → IsSome (get_or (shown fs xs) k None) → x ≡ get_or xs k x → get_or (shown fs xs) k None ≡ Some x
+  full-item fs xs k x same full is =
+      item-shown fs xs k (mark-full fs xs k full) ∙ slice_get-get_or xs k x (within fs xs k same full) ∙ ap Some (sym is)
+
+  -- a part of what is shown is what parts show
+  shown-cut : (n : ℕ) (fs : List Bool) (xs : List X) → cut n (shown fs xs) ≡ shown (cut n fs) (cut n xs)
+  shown-cut zero fs xs = refl
+  shown-cut (suc n) [] xs = refl
+  shown-cut (suc n) (f ∷ fs) [] = sym (shown-nil (cut n fs))
+  shown-cut (suc n) (f ∷ fs) (x ∷ xs) = shown-cut n fs xs
+
+  shown-front : (n : ℕ) (fs : List Bool) (xs : List X) → take n (shown fs xs) ≡ shown (take n fs) (take n xs)
+  shown-front zero fs xs = refl
+  shown-front (suc n) [] xs = refl
+  shown-front (suc n) (f ∷ fs) [] = refl
+  shown-front (suc n) (f ∷ fs) (x ∷ xs) = ap (λ l. (if f then Some x else None) ∷ l) (shown-front n fs xs)
+
+  shown-append : (es fs : List Bool) (xs ys : List X) → length es ≡ length xs → shown (es ++ fs) (xs ++ ys) ≡ shown es xs ++ shown fs ys
+  shown-append [] fs [] ys same = refl
+  shown-append [] fs (x ∷ xs) ys same = absurd (omega arith)
+  shown-append (e ∷ es) fs [] ys same = absurd (omega arith)
+  shown-append (e ∷ es) fs (x ∷ xs) ys same = ap (λ l. (if e then Some x else None) ∷ l) (shown-append es fs xs ys (omega arith))
+
+  pub shown-all : (xs : List X) → shown (replicate (length xs) true) xs ≡ map Some xs
+  shown-all [] = refl
+  shown-all (x ∷ xs) = ap (λ l. Some x ∷ l) (shown-all xs)
+
+  pub shown-none : (n : ℕ) (x : X) → shown (replicate n false) (replicate n x) ≡ replicate n None
+  shown-none zero x = refl
+  shown-none (suc n) x = ap (λ l. None ∷ l) (shown-none n x)
+
+  -- cells that are all shown
+  all-shown : (fs : List Bool) (xs ys : List X) → length fs ≡ length xs → shown fs xs ≡ map Some ys → xs ≡ ys
+  all-shown [] [] [] same is = refl
+  all-shown [] [] (y ∷ ys) same is = cc
+  all-shown [] (x ∷ xs) ys same is = absurd (omega arith)
+  all-shown (f ∷ fs) [] ys same is = absurd (omega arith)
+  all-shown (f ∷ fs) (x ∷ xs) [] same is = cc
+  all-shown (true ∷ fs) (x ∷ xs) (y ∷ ys) same is =
+      let rest = all-shown fs xs ys (omega arith) (ap (cut 1) is) in let first : Some x ≡ Some y = cc in cc
+  all-shown (false ∷ fs) (x ∷ xs) (y ∷ ys) same is = let first : None ≡ Some y = cc in cc
+
+  -- a full stretch shows its cells
+  pub stretch-shown : (fs : List Bool) (xs : List X) (from len : ℕ) → length fs ≡ length xs → IsFullStretch (shown fs xs) from len → HoldsStretch (shown fs xs) from len (take len (cut from xs))
+  stretch-shown fs xs from len same full =
+      let parts : take len (cut from (shown fs xs)) ≡ shown (take len (cut from fs)) (take len (cut from xs)) = rw (shown-cut from fs xs) (shown-front len (cut from fs) (cut from xs)) in
+      let long : length (take len (cut from fs)) ≡ length (take len (cut from xs)) = omega (arith, length-take len (cut from fs), length-take len (cut from xs), length-drop from fs, length-drop from xs) in
+      let are = all-shown (take len (cut from fs)) (take len (cut from xs)) full.1.0 long (sym parts ∙ full.1.1) in
+      full.1.1 ∙ ap (map Some) (sym are)
+
+  -- items written over a stretch of cells, whose marks are set to full
+  pub shown-filled : (fs : List Bool) (xs : List X) (from : ℕ) (ys : List X) → length fs ≡ length xs
+      → shown (take from fs ++ (replicate (length ys) true ++ cut (from + length ys) fs)) (take from xs ++ (ys ++ cut (from + length ys) xs)) ≡ filled (shown fs xs) from ys
+  shown-filled fs xs from ys same =
+      let n = length ys in
+      let outer = shown-append (take from fs) (replicate n true ++ cut (from + n) fs) (take from xs) (ys ++ cut (from + n) xs) (omega (arith, length-take from fs, length-take from xs)) in
+      let inner = shown-append (replicate n true) (cut (from + n) fs) ys (cut (from + n) xs) (length-replicate n true) in
+      rw (outer, inner, shown-all ys, shown-front from fs xs, shown-cut (from + n) fs xs) refl
+
+  -- items passed along a full stretch, each by one change
+  pub shown-passes : (fs marks : List Bool) (xs new ys : List X) (from len : ℕ) (passed : List X → List X → Type 0) → length fs ≡ length xs → IsFullStretch (shown fs xs) from len
+      → marks ≡ take from fs ++ (replicate len true ++ cut (from + len) fs) → new ≡ take from xs ++ (ys ++ cut (from + len) xs) → length ys ≡ len → passed (take len (cut from xs)) ys
+      → (cap changes counted : ℕ) → counted ≡ changes + len
+      → Passes (record { slots = shown fs xs; changes = changes; capacity = cap }) (record { slots = shown marks new; changes = counted; capacity = cap }) from len passed
+  shown-passes fs marks xs new ys from len passed same full marked written long order cap changes counted count =
+      (take len (cut from xs), ys, stretch-shown fs xs from len same full, order, rw (marked, written, count, sym long) (λ i. record { slots = shown-filled fs xs from ys same i; changes = changes + length ys; capacity = cap }))
+
+  -- as many items are passed on as stood in a full stretch
+  cells-long : (fs : List Bool) (xs : List X) (from len : ℕ) → length fs ≡ length xs → IsFullStretch (shown fs xs) from len → length (take len (cut from xs)) ≡ len
+  cells-long fs xs from len same full = stretch_long (shown fs xs) from len (take len (cut from xs)) full.0 (stretch-shown fs xs from len same full)
+
+  pub up-long : (fs : List Bool) (xs ys : List X) (from len : ℕ) (item over : X) → length fs ≡ length xs → IsFullStretch (shown fs xs) from len → item ∷ take len (cut from xs) ≡ ys ++ over ∷ [] → length ys ≡ len
+  up-long fs xs ys from len item over same full passed = omega (arith, cells-long fs xs from len same full, ap length passed, length-append ys (over ∷ []))
+
+  pub down-long : (fs : List Bool) (xs ys : List X) (from len : ℕ) (item over : X) → length fs ≡ length xs → IsFullStretch (shown fs xs) from len → take len (cut from xs) ++ item ∷ [] ≡ over ∷ ys → length ys ≡ len
+  down-long fs xs ys from len item over same full passed = omega (arith, cells-long fs xs from len same full, ap length passed, length-append (take len (cut from xs)) (item ∷ []))
+
+-- marks that are all set to full
+pub all_marked : (n : ℕ) → replicate n true ++ cut n (replicate n false) ≡ replicate n true
+all_marked zero = refl
+all_marked (suc n) = ap (λ l. true ∷ l) (all_marked n)
+
+-- elements written over a stretch of others leave as many
+pub length-over : {A : Type 0} (xs ys : List A) (from n : ℕ) → length ys ≡ n → from + n ≤ length xs → length (take from xs ++ (ys ++ cut (from + n) xs)) ≡ length xs
+length-over xs ys from n long low = omega (arith, length-append (take from xs) (ys ++ cut (from + n) xs), length-append ys (cut (from + n) xs), length-take from xs, length-drop (from + n) xs)

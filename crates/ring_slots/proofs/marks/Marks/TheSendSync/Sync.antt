@@ -1,0 +1,6 @@
+use denote.Param.Send.{IsSync}
+use Rattle.ring_slots.proofs.Crossing.{Marks-sync}
+use Rattle.ring_slots.specs.contracts.marks.Marks.{the_row}
+
+pub sync : IsSync the_row
+sync = Marks-sync
