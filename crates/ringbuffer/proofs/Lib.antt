@@ -1,5 +1,6 @@
 pub mod Compared
 pub mod Conversions
+pub mod CopiedOut
 pub mod Copies
 pub mod EmptiedStretches
 pub mod LaysApart

@@ -63,3 +63,10 @@ module _ {X : Type 0} where
     -- a slice pushed: the newest items kept that leave room for what the limit leaves of it, and then that put
     pub after_extend_from_slice-by : after_puts newest (after_keep_newest (limit - length newest) v) ≡ after_extend_from_slice limit v xs
     after_extend_from_slice-by = view_is (rw (room, is) (keep_last-append limit v.items xs)) (omega (arith, long)) refl
+
+    -- what the limit leaves of a slice, pushed in order
+    pub after_extend-newest : after_extend limit v newest ≡ after_extend_from_slice limit v xs
+    after_extend-newest =
+        let none_over : length newest - limit ≡ 0 = omega (arith, long) in
+        let ours : keep_last (Some limit) (v.items ++ newest) ≡ keep_last (Some (limit - length xs)) v.items ++ newest = sym (keep_last-append limit v.items newest) ∙ rw (room, none_over) refl in
+        view_is (ours ∙ rw is (keep_last-append limit v.items xs)) (omega (arith, long)) refl

@@ -1,7 +1,7 @@
 //! The ring in an array.
-ghost use Rattle.std.specs.Prelude.{◌≡◌, ◌<◌, ◌++◌, [], IfOk, IsOk, List, MatchResult, drop, length, min, take};
+ghost use Rattle.std.specs.Prelude.{◌≡◌, ◌<◌, [], IfOk, IsOk, List, MatchResult, length, take};
 ghost use Rattle.std.specs.List.{AllZip};
-ghost use Rattle.ringbuffer.specs.View.{after_extend_from_slice, after_fill, after_takes};
+ghost use Rattle.ringbuffer.specs.View.{after_fill};
 
 mod convert;
 
@@ -33,16 +33,6 @@ impl<T: Drop, const CAP: usize> ConstGenericRingBuffer<T, CAP> {
         ensures { result ≡ record { items = []; changes = 0; capacity = CAP } }
     {
         Self::new()
-    }
-}
-
-impl<T: Copy + Drop, const CAP: usize> ConstGenericRingBuffer<T, CAP> {
-    /// Pushes copies of a slice's items in order, as `extend` would: the oldest items give way. Items of the slice that
-    /// later ones would overwrite are passed over. Takes O(n) in those that are put.
-    pub fn extend_from_slice(&mut self, items: &[T])
-        ensures { self.new ≡ after_extend_from_slice CAP self.old items.now }
-    {
-        self.extend_by_copies(items);
     }
 }
 

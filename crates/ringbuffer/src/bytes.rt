@@ -4,16 +4,15 @@ ghost use Rattle.std.specs.IoError.{error_kind};
 ghost use Rattle.ringbuffer.specs.contracts.grow.GrowableAllocRingBuffer.{the_row as growable_row};
 ghost use Rattle.std.specs.Borrow.{sem, u8 as byte};
 ghost use Rattle.std.specs.Io.{ReadsAtMost, StartsWith, WritesAtMost};
-ghost use Rattle.std.specs.Io.BufRead.{DropsConsumable, FillKeeps, Rests, drop_through, take_through};
+ghost use Rattle.std.specs.Io.BufRead.{DropsConsumable, FillKeeps, Rests};
 ghost use Rattle.std.specs.Io.KnownBytes.{Keeps, ReadConsumes, WriteAppends};
 ghost use Rattle.ring_core.specs.Contents.{IsWithin};
 ghost use Rattle.ringbuffer.specs.View.{after_extend_from_slice, after_keep_newest, after_takes};
 ghost use Rattle.ringbuffer.specs.contracts.fixed.FixedRing.{the_row as fixed_row};
 
-use crate::array::ConstGenericRingBuffer;
 use crate::fixed::FixedRing;
 use crate::grow::GrowableAllocRingBuffer;
-use crate::heap::AllocRingBuffer;
+use crate::slices::TakesCopies;
 use ring_core::RingBuffer;
 use ring_slots::RingSlots;
 use std::io::{BufRead, ErrorKind, Read, Result, Write};
@@ -43,7 +42,7 @@ impl<S: RingSlots<u8>> Read for FixedRing<u8, S> {
     }
 }
 
-/// `fill_buf` lends the oldest bytes up to the last slot on the heap. In an array it lends the oldest byte alone, since each
+/// `fill_buf` lends the oldest bytes up to the last slot. In an array of Options it lends the oldest byte alone, since each
 /// byte lies in a slot of its own there.
 impl<S: RingSlots<u8>> BufRead for FixedRing<u8, S> {
     fn fill_buf(&mut self) -> Result<&[u8]>
@@ -67,8 +66,9 @@ impl<S: RingSlots<u8>> BufRead for FixedRing<u8, S> {
 }
 
 impl<S: RingSlots<u8>> FixedRing<u8, S> {
-    // Returns the oldest bytes that lie side by side.
-    fn first_bytes(&self) -> &[u8]
+    /// Returns the oldest bytes that lie side by side, which `fill_buf` lends, from a ring that stays as it is: none of an
+    /// empty ring alone.
+    pub fn first_bytes(&self) -> &[u8]
         ensures front { StartsWith self.now.items result.now }
         ensures end { length result.now ≡ 0 → self.now.items ≡ [] }
     {
@@ -84,42 +84,16 @@ impl<S: RingSlots<u8>> FixedRing<u8, S> {
 
 /// A write puts in as many bytes as there is room for, and overwrites none: onto a full ring it puts 0, which ends
 /// `write_all` with the error `WriteZero`.
-impl<const CAP: usize> Write for ConstGenericRingBuffer<u8, CAP> {
-    ghost contents = { λ ring. Some ring.items };
-
-    fn write(&mut self, buf: &[u8]) -> Result<usize>
-        ensures bound { WritesAtMost result buf.now }
-        ensures bytes { WriteAppends (Some self.old.items) (Some self.new.items) result buf.now }
-        ensures count { result ≡ Ok (min (length buf.now) (CAP - length self.old.items)) }
-        ensures after { IfOk result (λ n. self.new
-            ≡ after_extend_from_slice CAP self.old (take n buf.now)) }
-    {
-        let count = count_that_fits(self, buf);
-        self.extend_from_slice(&buf[..count]);
-        Ok(count)
-    }
-
-    fn flush(&mut self) -> Result<()>
-        ensures bytes { Keeps (Some self.old.items) (Some self.new.items) }
-        ensures ok { IsOk result }
-        ensures unchanged { self.new ≡ self.old }
-    {
-        Ok(())
-    }
-}
-
-/// A write puts in as many bytes as there is room for, and overwrites none: onto a full ring it puts 0, which ends
-/// `write_all` with the error `WriteZero`.
-impl Write for AllocRingBuffer<u8> {
+impl<S: TakesCopies<u8>> Write for FixedRing<u8, S> {
     ghost contents = { λ ring. Some ring.items };
 
     fn write(&mut self, buf: &[u8]) -> Result<usize>
         ensures bound { WritesAtMost result buf.now }
         ensures bytes { WriteAppends (Some self.old.items) (Some self.new.items) result buf.now }
         ensures count { result
-            ≡ Ok (min (length buf.now) (self.old.capacity - length self.old.items)) }
+            ≡ Ok (min (length buf.now) (S.limit self.old.capacity - length self.old.items)) }
         ensures after { IfOk result (λ n. self.new
-            ≡ after_extend_from_slice self.old.capacity self.old (take n buf.now)) }
+            ≡ after_extend_from_slice (S.limit self.old.capacity) self.old (take n buf.now)) }
     {
         let count = count_that_fits(self, buf);
         self.extend_from_slice(&buf[..count]);

@@ -1,5 +1,5 @@
 //! The items of a ring on the heap as slices.
-ghost use Rattle.std.specs.Prelude.{◌≡◌, ◌↔◌, ◌+◌, ◌*◌, ◌++◌, ◌<◌, ◌≤◌, length};
+ghost use Rattle.std.specs.Prelude.{◌≡◌, ◌+◌, ◌*◌, ◌<◌, ◌≤◌, length};
 ghost use Rattle.std.specs.Borrow.{Array, Lends, sem};
 
 use crate::fixed::{FixedRing, Span};
@@ -11,20 +11,6 @@ impl<T: Drop> FixedRing<T, HeapSlots<T>> {
     ghost use Rattle.ringbuffer.specs.View.{after_rewrite, turned};
     ghost use Rattle.ringbuffer.specs.contracts.fixed.FixedRing.{the_row};
     ghost use Rattle.ring_slots.specs.contracts.heap.HeapSlots.{the_row as heap_row};
-
-    /// Returns the items in two slices, oldest first: those up to the end of the block, and those that go on at its
-    /// beginning. The second is empty where the items don't reach the end.
-    #[inline]
-    pub fn as_slices(&self) -> (&[T], &[T])
-        ensures items { result.0.now ++ result.1.now ≡ self.now.items }
-        ensures first { (0 < length result.0.now) ↔ (0 < length self.now.items) }
-    {
-        let first = self.span.len.min(self.slots.size() - self.span.start);
-        (
-            self.slots.slice(self.span.start, first),
-            self.slots.slice(0, self.span.len - first),
-        )
-    }
 
     /// Lends the items in one slice, oldest first, for writing. Where some go on at the beginning of the block, they
     /// are moved first, without memory, in O(n). This counts as four changes an item, moved or not.

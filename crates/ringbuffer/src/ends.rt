@@ -1,13 +1,7 @@
 //! The calls of a ring of a fixed capacity at its two ends.
-ghost use Rattle.std.specs.Prelude.{◌++◌, option_to_list, ◌≡◌, ◌+◌, ◌-◌, ◌%◌, ◌<◌, ◌≤◌, ◌≢◌, List, [], ◌∷◌, length, None, Some, replicate, slice_get, ◌^◌, if◌then◌else◌, false, All, IsOk, MatchResult, take, true, IfOk, refl, ◌↔◌, IfErr, IsErr, OnOk};
-ghost use Rattle.std.specs.Borrow.{Lends, sem};
-ghost use Rattle.ring_core.specs.Contents.{overwritten, IsWithin, Pushes, ChangesSlots, index_at, keep_last};
-ghost use Rattle.ringbuffer.specs.View.{View, after_cut, after_clear, after_pop, after_push, after_push_front, after_put, after_put_first, after_take, after_write, after_puts, after_takes, after_extend, after_truncate, after_keep_newest, after_fill, after_insert, after_remove};
-ghost use Rattle.ringbuffer.specs.Layout.{CanPush, IsLaidOut, LaysApart, LaysOut, view_from, after_pushes, AreFull, Empties};
-ghost use Rattle.std.specs.Iterator.{Drains, IsFinite, IsFiniteIterable};
-ghost use Rattle.std.specs.List.{AllZip, FoldsTo};
-ghost use Rattle.ringbuffer.specs.Sources.{Gives};
-ghost use Rattle.ring_core.specs.Extension.{Extends};
+ghost use Rattle.std.specs.Prelude.{◌++◌, option_to_list, ◌≡◌, ◌+◌, ◌-◌, ◌%◌, ◌<◌, ◌≤◌, ◌∷◌, length, None, Some, slice_get, ◌↔◌, IfErr, IsErr, OnOk};
+ghost use Rattle.ringbuffer.specs.View.{after_cut, after_clear, after_pop, after_push_front, after_put, after_put_first, after_take, after_takes, after_truncate, after_keep_newest};
+ghost use Rattle.ringbuffer.specs.Layout.{IsLaidOut, LaysApart, LaysOut, view_from, AreFull, Empties};
 
 use crate::fixed::{FixedRing, Span};
 use ring_core::{DoubleEndedRing, RingBuffer};

@@ -1,12 +1,10 @@
 //! Pushing the items of a source onto a ring of a fixed capacity.
-ghost use Rattle.std.specs.Prelude.{◌≡◌, ◌+◌, ◌-◌, ◌%◌, ◌^◌, ◌<◌, ◌≤◌, if◌then◌else◌, false, [], ◌++◌, All, IsOk, List, MatchResult, length, take, true, ◌↔◌, IfErr, IsErr, OnOk, Some, slice_get};
+ghost use Rattle.std.specs.Prelude.{◌≡◌, ◌+◌, ◌-◌, ◌%◌, ◌^◌, ◌<◌, ◌≤◌, if◌then◌else◌, false, ◌++◌, IsOk, List, length, true, Some};
 ghost use Rattle.std.specs.Iterator.{Drains, IsFinite, IsFiniteIterable};
-ghost use Rattle.std.specs.List.{AllZip, FoldsTo};
-ghost use Rattle.ringbuffer.specs.View.{after_put, after_puts, after_take, after_takes, after_push, after_extend, after_truncate, after_keep_newest, after_clear, after_fill, after_insert, after_remove, after_write};
+ghost use Rattle.ringbuffer.specs.View.{after_put, after_take, after_extend};
 ghost use Rattle.ringbuffer.specs.Sources.{Gives};
-ghost use Rattle.ringbuffer.specs.Layout.{after_pushes, AreFull, CanPush, Empties, IsLaidOut, LaysOut, view_from};
-ghost use Rattle.std.specs.Borrow.{Lends, sem};
-ghost use Rattle.ring_core.specs.Contents.{ChangesSlots, index_at, keep_last};
+ghost use Rattle.ringbuffer.specs.Layout.{after_pushes, CanPush, IsLaidOut, LaysOut, view_from};
+ghost use Rattle.ring_core.specs.Contents.{ChangesSlots, keep_last};
 ghost use Rattle.ring_core.specs.Extension.{Extends};
 
 use crate::fixed::{FixedRing, Span};
@@ -88,6 +86,22 @@ impl<T: Drop, S: RingSlots<T>> FixedRing<T, S> {
         let span = Self::push_all(&mut self.slots, span, items.into_iter(), capacity);
         self.span = span;
         (self, ())
+    }
+
+    // Does what `extend_by_stretch` does, where the ring lies.
+    pub(crate) fn extend_in_place<I: IntoIterator<Item = T>>(&mut self, items: I)
+    where
+        I::IntoIter: Drop,
+        requires { IsFiniteIterable I.into_iter_gives I.IntoIter.can_next I.IntoIter.remaining
+            items }
+        ensures { (it : I.IntoIter) × (xs : List T) × I.into_iter_gives items it
+            × Drains I.IntoIter.next_gives it xs
+            × (self.new ≡ after_extend (S.limit self.old.capacity) self.old xs) }
+    {
+        let capacity = self.slots.limit();
+        let span = self.span;
+        let span = Self::push_all(&mut self.slots, span, items.into_iter(), capacity);
+        self.span = span;
     }
 
     // Pushes the items of a source that ends, in order. Returns where the items lie then. The slots are written stretch by

@@ -1,10 +1,8 @@
 //! Filling a ring of a fixed capacity.
-ghost use Rattle.std.specs.Prelude.{◌≡◌, ◌+◌, ◌-◌, ◌%◌, ◌^◌, ◌<◌, ◌≤◌, if◌then◌else◌, false, [], ◌++◌, All, IsOk, List, MatchResult, length, take, true};
-ghost use Rattle.std.specs.Iterator.{Drains, IsFinite, IsFiniteIterable};
-ghost use Rattle.std.specs.List.{AllZip, FoldsTo};
-ghost use Rattle.ringbuffer.specs.View.{after_put, after_puts, after_take, after_takes, after_push, after_extend, after_truncate, after_keep_newest, after_clear, after_fill};
-ghost use Rattle.ringbuffer.specs.Sources.{Gives};
-ghost use Rattle.ringbuffer.specs.Layout.{after_pushes, AreFull, CanPush, Empties, IsLaidOut, LaysOut, view_from};
+ghost use Rattle.std.specs.Prelude.{◌≡◌, ◌+◌, ◌-◌, ◌<◌, ◌≤◌, [], All, List, MatchResult, length};
+ghost use Rattle.std.specs.List.{FoldsTo};
+ghost use Rattle.ringbuffer.specs.View.{after_put, after_puts, after_fill};
+ghost use Rattle.ringbuffer.specs.Layout.{IsLaidOut, LaysOut, view_from};
 
 use crate::fixed::{FixedRing, Span};
 use ring_slots::RingSlots;

@@ -2,12 +2,10 @@
 ghost use Rattle.std.specs.Prelude.{◌≡◌, ◌<◌, ◌≤◌, ◌↔◌, ◌++◌, IfOk, IfSome, IsOk, [], length, None, Some, refl, replicate, slice_get};
 ghost use Rattle.std.specs.Borrow.{Lends, sem};
 ghost use Rattle.std.specs.List.{AllZip, list_any};
-ghost use Rattle.ring_core.specs.Contents.{overwritten, IsWithin, Pushes, ChangesSlots, index_at, keep_last};
+ghost use Rattle.ring_core.specs.Contents.{overwritten, IsWithin, Pushes, index_at};
 ghost use Rattle.ring_core.proofs.Limits.{counts_one};
-ghost use Rattle.ringbuffer.specs.View.{View, after_clear, after_pop, after_push, after_push_front, after_put, after_put_first, after_take, after_write, after_insert, after_remove};
-ghost use Rattle.ringbuffer.specs.Layout.{CanPush, IsLaidOut, LaysOut, view_from};
-ghost use Rattle.std.specs.Iterator.{IsFiniteIterable};
-ghost use Rattle.ring_core.specs.Extension.{Extends};
+ghost use Rattle.ringbuffer.specs.View.{View, after_push, after_write};
+ghost use Rattle.ringbuffer.specs.Layout.{IsSound, view_from};
 
 use crate::position::{index_at, signed_index_at};
 use crate::two_slices::clone_slices;
@@ -28,7 +26,7 @@ pub(crate) struct Span {
     pub(crate) len: usize,
 }
 
-/// A ring of a fixed capacity over slots of one of the two kinds: `len` items in the slots from `start` on. All other
+/// A ring of a fixed capacity over slots of one of the three kinds: `len` items in the slots from `start` on. All other
 /// slots are empty.
 ///
 /// A contract sees its items, oldest first, how often its slots were changed, and its capacity.
@@ -73,9 +71,18 @@ impl<T: Drop, S: RingSlots<T>> FixedRing<T, S> {
     {
         // For the proof: there are as many slots as the limit says.
         let _ = slots.limit();
+        Self::from_parts(slots, Span { start: 0, len: 0 })
+    }
+
+    // Makes a ring of the items that lie in some slots.
+    #[inline]
+    pub(crate) fn from_parts(slots: S, span: Span) -> Self
+        requires { IsSound S.limit (S.seen slots) span.start span.len }
+        ensures { result ≡ view_from (S.seen slots) span.start }
+    {
         FixedRing {
             slots,
-            span: Span { start: 0, len: 0 },
+            span,
             item: PhantomData,
         }
     }
@@ -206,7 +213,7 @@ impl<T: Drop, S: RingSlots<T>> RingBuffer<T> for FixedRing<T, S> {
         // A full ring keeps its length, and has one store less to make.
         if after.len != before.len {
             self.span.len = after.len;
-        } else if S::goes_by_stretch() {
+        } else if S::goes_by_value() {
             keep_in_register(before.len, self.span.len);
         }
         Ok(old)
@@ -216,8 +223,10 @@ impl<T: Drop, S: RingSlots<T>> RingBuffer<T> for FixedRing<T, S> {
     where
         I::IntoIter: Drop,
     {
-        if S::goes_by_stretch() {
+        if S::goes_by_value() {
             replace_with(self, items, Self::extend_by_stretch);
+        } else if S::goes_by_stretch() {
+            self.extend_in_place(items);
         } else {
             self.extend_one_by_one(items);
         }
@@ -235,7 +244,7 @@ impl<T: Drop, S: RingSlots<T>> RingBuffer<T> for FixedRing<T, S> {
     }
 
     fn fill_with<F: FnMut() -> T + Drop>(&mut self, make: F) -> Result<(), AllocError> {
-        if S::goes_by_stretch() {
+        if S::goes_by_value() {
             replace_with(self, make, Self::fill_by_calls_owned);
         } else {
             self.fill_by_calls(make);
@@ -247,7 +256,7 @@ impl<T: Drop, S: RingSlots<T>> RingBuffer<T> for FixedRing<T, S> {
     where
         T: Clone,
     {
-        if S::goes_by_stretch() {
+        if S::goes_by_value() {
             replace_with(self, value, Self::fill_by_clones_owned)
         } else {
             self.fill_by_clones(value)
@@ -316,7 +325,8 @@ impl<T: Drop, S: RingSlots<T>> Index<usize> for FixedRing<T, S> {
 
     ghost can_index = { λ s _. 0 < length s.items };
 
-    ghost index_gives = { λ s i x. slice_get s.items (index_at (length s.items) i) ≡ Some x };
+    ghost index_gives = { λ s i x. (slice_get s.items (index_at (length s.items) i) ≡ Some x)
+        × (i < length s.items → slice_get s.items i ≡ Some x) };
 
     #[inline]
     fn index(&self, index: usize) -> &T {
@@ -335,6 +345,8 @@ impl<T: Drop, S: RingSlots<T>> IndexMut<usize> for FixedRing<T, S> {
             (after_write self.old (index_at (length self.old.items) index))) }
         ensures value { slice_get self.old.items (index_at (length self.old.items) index)
             ≡ Some result.now }
+        ensures in_range { index < length self.old.items
+            → index_at (length self.old.items) index ≡ index }
     {
         self.get_mut(index).unwrap()
     }

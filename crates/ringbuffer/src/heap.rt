@@ -1,5 +1,5 @@
 //! The ring on the heap.
-ghost use Rattle.std.specs.Prelude.{◌≡◌, ◌^◌, ◌<◌, ◌≤◌, [], IfOk, IsErr, OnErr, OnOk, Some, length};
+ghost use Rattle.std.specs.Prelude.{◌≡◌, ◌^◌, ◌<◌, [], IfOk, IsErr, OnErr, OnOk, Some, length};
 ghost use Rattle.std.specs.List.{AllZip};
 ghost use Rattle.ring_core.specs.Contents.{ChangesSlots, keep_last};
 

@@ -15,6 +15,7 @@ mod fixed;
 mod grow;
 mod heap;
 mod index;
+mod plain;
 mod position;
 mod slices;
 mod steps;
@@ -25,8 +26,11 @@ pub use array::ConstGenericRingBuffer;
 pub use fixed::FixedRing;
 pub use grow::GrowableAllocRingBuffer;
 pub use heap::AllocRingBuffer;
+pub use plain::CopyRingBuffer;
 pub use ring_core::{
     Command, DoubleEndedRing, LastBytes, Refused, Reply, RingBuffer, RingBufferDrainingIterator,
     RingBufferExt, RingBufferIntoIterator, RingBufferIterator, RingBufferMutIterator, RunFault,
-    Stopped, apply, binary_search, move_all, partition_point, retain, run, run_into, runs_join,
+    Stopped, apply, binary_search, dequeue_while, map_each, move_all, partition_point, retain, run,
+    run_into, runs_join,
 };
+pub use slices::{ShowsRows, TakesCopies};

@@ -1,8 +1,7 @@
 //! The steps of which the calls of a ring of a fixed capacity are made: one item put in or taken out, over slots and a span.
-ghost use Rattle.std.specs.Prelude.{◌≡◌, ◌+◌, ◌-◌, ◌%◌, ◌<◌, ◌≤◌, ◌≢◌, List, [], ◌∷◌, length, None, Some, replicate, slice_get};
-ghost use Rattle.std.specs.Borrow.{Lends, sem};
+ghost use Rattle.std.specs.Prelude.{◌≡◌, ◌+◌, ◌-◌, ◌%◌, ◌<◌, length, None, Some, slice_get};
 ghost use Rattle.ring_core.specs.Contents.{overwritten};
-ghost use Rattle.ringbuffer.specs.View.{View, after_clear, after_pop, after_push, after_push_front, after_put, after_put_first, after_take, after_write};
+ghost use Rattle.ringbuffer.specs.View.{after_pop, after_push, after_put, after_put_first, after_take};
 ghost use Rattle.ringbuffer.specs.Layout.{CanPush, IsLaidOut, LaysOut, view_from};
 
 use crate::fixed::{FixedRing, Span};

@@ -1,6 +1,6 @@
 //! Walks over a ring of a fixed capacity.
 ghost use Rattle.std.specs.Prelude.{◌≡◌};
-ghost use Rattle.ring_core.specs.Walk.{DrainsInOrder, DrainsInReverse, ReadsInOrder, ReadsInReverse, StartsOver, UnpacksInOrder, UnpacksInReverse, into_iter_to_come, items_between, iterator_to_come};
+ghost use Rattle.ring_core.specs.Walk.{ReadsInOrder, UnpacksInOrder, UnpacksInReverse, into_iter_to_come, iterator_to_come};
 
 use crate::fixed::FixedRing;
 use ring_core::{RingBuffer, RingBufferExt, RingBufferIntoIterator, RingBufferIterator};

@@ -71,20 +71,6 @@ module _ {M : Type 0} {valid : M → Type 0} {neutral : M} {op : M → M → M} 
   left_by None ks is goes = rw (goes.0, goes.1) is
   left_by (Some k) ks is goes = rw goes.1 (one_fewer is goes.0)
 
-  -- All items are older ones.
-  pub all_folded : (ks : List (Kept M)) {older : M} {n : ℕ} → All valid (items ks) → AreFolded neutral op ks → older ≡ combined neutral op (items ks) → n ≡ length ks
-      → HoldsFolds valid neutral op ks n older neutral
-  all_folded ks {older} {n} ok folded is all =
-      let front : take n ks ≡ ks = take_all n ks (omega arith) in
-      let rest : drop n ks ≡ [] = drop_all n ks (omega arith) in
-      record {
-        within = omega arith;
-        are_valid = ok;
-        are_folded = rw front folded;
-        older_is = rw front is;
-        newer_is = rw rest refl;
-      }
-
 -- By induction: what is written beside an item changes no item.
 pub items-set : {M : Type 0} (ks : List (Kept M)) (i : ℕ) (k : Kept M) (v : M) → slice_get ks i ≡ Some k → items (slice_set ks i (record k { after = v })) ≡ items ks
 items-set [] i k v at = refl

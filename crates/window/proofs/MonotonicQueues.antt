@@ -1,6 +1,6 @@
 -- How a queue changes as an item leaves and one comes.
 use Rattle.std.proofs.Common.{◌≡◌, ◌≢◌, ◌⊎◌, ℕ, zero, suc, ◌+◌, ◌-◌, ◌<◌, ◌≤◌, List, [], ◌∷◌, ◌++◌, length, take, drop, All, Option, None, Some, inl, inr, refl, ap, sym, ◌∙◌, add-one, arith, length-append, length-drop, slice_get, slice_set}
-use Rattle.std.proofs.lemmas.List.{length-map, length-set, map-append, drop-append-le, drop-set-add, drop_all, set-append_left, take-append-le, take_all}
+use Rattle.std.proofs.lemmas.List.{drop-set-lt, set_comm, length-map, length-set, map-append, drop-append-le, drop-set-add, drop_all, set-append_left, take-append-le, take_all}
 use Rattle.std.proofs.lemmas.List.Elements.{All-cons, All-head, All-nil, All-push, All-tail, All-weaker}
 use Rattle.std.proofs.lemmas.Option.{slice_get_within, slice_get-map}
 use Rattle.std.proofs.Math.Seq.{set-append_seam}
@@ -42,12 +42,6 @@ set_other (z ∷ xs) zero (suc j) y other = refl
 set_other (z ∷ xs) (suc i) zero y other = refl
 set_other (z ∷ xs) (suc i) (suc j) y other = set_other xs i j y (omega arith)
 
--- What follows a written place is as it was.
-pub drop_past_set : {A : Type 0} (xs : List A) (i : ℕ) (y : A) → drop (suc i) (slice_set xs i y) ≡ drop (suc i) xs
-drop_past_set [] i y = refl
-drop_past_set (z ∷ xs) zero y = refl
-drop_past_set (z ∷ xs) (suc i) y = drop_past_set xs i y
-
 -- From a written place on, the list is what was written and the rest.
 pub drop_from_set : {A : Type 0} (xs : List A) (i : ℕ) (x y : A) → slice_get xs i ≡ Some x → drop i (slice_set xs i y) ≡ y ∷ drop (suc i) xs
 drop_from_set [] i x y at = absurd (let none : None ≡ Some x = at in cc)
@@ -79,14 +73,6 @@ set_same [] i x at = refl
 set_same (z ∷ xs) zero x at = let same : z ≡ x = let both : Some z ≡ Some x = at in cc in rw same refl
 set_same (z ∷ xs) (suc i) x at = ap (λ ys. z ∷ ys) (set_same xs i x at)
 
--- Of writes at two places it doesn't matter which comes first.
-pub set_turned : {A : Type 0} (xs : List A) (i j : ℕ) (x y : A) → i ≢ j → slice_set (slice_set xs i x) j y ≡ slice_set (slice_set xs j y) i x
-set_turned [] i j x y apart = refl
-set_turned (z ∷ xs) zero zero x y apart = absurd (apart refl)
-set_turned (z ∷ xs) zero (suc j) x y apart = refl
-set_turned (z ∷ xs) (suc i) zero x y apart = refl
-set_turned (z ∷ xs) (suc i) (suc j) x y apart = ap (λ ys. z ∷ ys) (set_turned xs i j x y (omega arith))
-
 -- Where the newest has the links of one that none has ranked, its link behind is all that is to be written.
 pub newest_linked : {T : Type 0} (all rs : List (Candidate T)) (q r : Candidate T) (n far : ℕ) (mid after : List (Candidate T)) → all ≡ rs ++ q ∷ [] → n ≡ length all → q.behind ≡ 1 → q.ahead ≡ 0 → slice_get all (n - 1) ≡ Some r → slice_get mid (n - 1) ≡ Some r
     → ((x : Candidate T) → slice_get mid (n - 1) ≡ Some x → x.behind ≡ 1 → after ≡ slice_set mid (n - 1) (record x { behind = far })) → after ≡ slice_set mid (n - 1) (record r { behind = far; ahead = 0 })
@@ -113,7 +99,7 @@ both_linked {T} all rs q r last left n far mid after is n_is one none some less 
     let l : Candidate T = record last { ahead = far } in
     let mid_is : mid ≡ slice_set all (left - 1) l = ahead_linked all last left n far q' mid some less read_last wrote_ahead in
     let read_mid : slice_get mid (n - 1) ≡ Some r = ap (λ xs. slice_get xs (n - 1)) mid_is ∙ set_other all (left - 1) (n - 1) l (λ e. apart (sym e)) ∙ read in
-    newest_linked all rs q r n far mid after is n_is one none read read_mid wrote_behind ∙ ap (λ xs. slice_set xs (n - 1) q') mid_is ∙ set_turned all (left - 1) (n - 1) l q' apart
+    newest_linked all rs q r n far mid after is n_is one none read read_mid wrote_behind ∙ ap (λ xs. slice_set xs (n - 1) q') mid_is ∙ set_comm all (left - 1) (n - 1) l q' apart
 
 -- a list is empty or ends
 pub ends : (ds : List ℕ) → (ds ≡ []) ⊎ ((pre : List ℕ) × (d : ℕ) × (ds ≡ pre ++ d ∷ []))
@@ -210,7 +196,7 @@ module _ {T : Type 0} {cmp : T → T → Ordering} (o : IsTotalOrder cmp) where
             let r' : Candidate T = record r { ahead = suc k } in
             let set_long : length (slice_set rs d r') ≡ length rs = length-set rs d r' in
             let past : drop (suc d) (slice_set rs d r' ++ n ∷ []) ≡ drop (suc d) rs ++ n ∷ [] =
-            drop-append-le (suc d) (slice_set rs d r') (n ∷ []) (omega (arith, within, set_long)) ∙ ap (λ ys. ys ++ n ∷ []) (drop_past_set rs d r') in
+            drop-append-le (suc d) (slice_set rs d r') (n ∷ []) (omega (arith, within, set_long)) ∙ ap (λ ys. ys ++ n ∷ []) (drop-set-lt (suc d) rs d r' (omega arith)) in
             let all : items_on (slice_set rs d r' ++ n ∷ []) ≡ items_on rs ++ n.item ∷ [] = map-append item_on (slice_set rs d r') (n ∷ []) ∙ ap (λ ys. ys ++ n.item ∷ []) (items_on-set rs d r r' at refl) in (
               r',
               slice_get-append_left d (slice_set rs d r') (n ∷ []) (omega (arith, within, set_long)) ∙ set_read rs d r r' at,
@@ -287,13 +273,6 @@ module _ {T : Type 0} {cmp : T → T → Ordering} (o : IsTotalOrder cmp) where
               let read : slice_get (items_on rs) d ≡ Some q.item = slice_get-map item_on rs d ∙ ap (option_map item_on) (at ∙ ap Some same_candidate) in
               record { place = d; stands = read; least = rw same_candidate at least },
         )
-
-  -- A queue that holds nothing is of nothing.
-  pub none_read : (rs : List (Candidate T)) (compared most : ℕ) → HoldsMonotonicQueue cmp rs 0 compared most → rs ≡ []
-  none_read rs compared most is = go is.places is.more is.is_queue is.first_is where
-    go : (ds : List ℕ) (more : ℕ) → IsMonotonicQueue cmp more ds rs → 0 ≡ next ds → rs ≡ []
-    go [] more queue first_is = queue
-    go (d ∷ ds) more queue first_is = absurd (omega (arith, first_is))
 
   -- Nothing is popped yet.
   pub reaches : (all rs : List (Candidate T)) (r : Candidate T) (first left compared most : ℕ) → all ≡ rs ++ r ∷ [] → left + 1 ≡ length all → HoldsMonotonicQueue cmp rs first compared most → Reaches cmp all first left compared most
@@ -557,12 +536,8 @@ module _ {T : Type 0} {cmp : T → T → Ordering} (o : IsTotalOrder cmp) where
             omega (arith, first_is),
             rw same ahead,
             rw items (least_cons y.item q.item d (items_on ys) (rw same least) below),
-            rw (drop_past_set ys d r') rest,
+            rw (drop-set-lt (suc d) ys d r' (omega arith)) rest,
           );
           first_is = omega (arith, first_is);
           counted = omega (arith, counted, few, more);
         }
-
-  -- A ring whose items are all ranked holds a queue.
-  pub holds_ranked : {rs : List (Candidate T)} {first compared most : ℕ} → IsRanked cmp rs first compared most → HoldsMonotonicQueue cmp rs first compared most
-  holds_ranked is = record { places = is.places; more = 0; is_queue = is.is_queue; first_is = is.first_is; counted = is.counted }

@@ -1,6 +1,6 @@
 //! A window over a ring, with what its items combine to.
 
-ghost use Rattle.std.specs.Prelude.{◌≡◌, ◌+◌, ◌-◌, ◌<◌, ◌≤◌, ◌↔◌, [], ◌∷◌, ◌++◌, All, IfErr, IfOk, IfSome, IsOk, IsSome, IsTrue, OnOk, drop, length, slice_get};
+ghost use Rattle.std.specs.Prelude.{◌≡◌, ◌+◌, ◌-◌, ◌<◌, ◌↔◌, [], ◌∷◌, ◌++◌, All, IfErr, IfOk, IfSome, IsOk, IsSome, IsTrue, OnOk, drop, length, slice_get};
 ghost use Rattle.std.specs.Option.{option_map};
 ghost use Rattle.ringbuffer.specs.Contents.{IsWithin, keep_last, overwritten};
 ghost use Rattle.window.specs.Laws.{combined as combined_of};

@@ -29,9 +29,9 @@ pub use least_window::{Candidate, WindowLeast, WindowMax, WindowMin};
 pub use makers::{
     AllocWindowFold, AllocWindowMax, AllocWindowMin, AllocWindowMoments, AllocWindowSum,
     ConstGenericWindowFold, ConstGenericWindowMax, ConstGenericWindowMin,
-    ConstGenericWindowMoments, ConstGenericWindowSum, GrowableAllocWindowFold,
-    GrowableAllocWindowMax, GrowableAllocWindowMin, GrowableAllocWindowMoments,
-    GrowableAllocWindowSum,
+    ConstGenericWindowMoments, ConstGenericWindowSum, CopyWindowMoments, CopyWindowSum,
+    GrowableAllocWindowFold, GrowableAllocWindowMax, GrowableAllocWindowMin,
+    GrowableAllocWindowMoments, GrowableAllocWindowSum,
 };
 pub use matrix::Matrix;
 pub use moments::{Moments, WindowMoments};

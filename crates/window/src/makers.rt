@@ -10,7 +10,9 @@ use crate::order::Order;
 use crate::sum::WindowSum;
 use crate::tally::Tally;
 use crate::tally_window::WindowTally;
-use ringbuffer::{AllocRingBuffer, ConstGenericRingBuffer, GrowableAllocRingBuffer};
+use ringbuffer::{
+    AllocRingBuffer, ConstGenericRingBuffer, CopyRingBuffer, GrowableAllocRingBuffer,
+};
 use std::alloc::{AllocError, Global};
 
 /// A `WindowFold` over a heap ring.
@@ -55,6 +57,9 @@ pub type AllocWindowSum = WindowSum<AllocRingBuffer<i64>>;
 /// A `WindowSum` over an array ring.
 pub type ConstGenericWindowSum<const CAP: usize> = WindowSum<ConstGenericRingBuffer<i64, CAP>>;
 
+/// A `WindowSum` over a ring of plain items.
+pub type CopyWindowSum<const CAP: usize> = WindowSum<CopyRingBuffer<i64, CAP>>;
+
 /// A `WindowSum` over a growable ring.
 pub type GrowableAllocWindowSum = WindowSum<GrowableAllocRingBuffer<i64>>;
 
@@ -65,6 +70,9 @@ pub type AllocWindowMoments = WindowMoments<AllocRingBuffer<i32>>;
 pub type ConstGenericWindowMoments<const CAP: usize> = WindowMoments<
     ConstGenericRingBuffer<i32, CAP>,
 >;
+
+/// A `WindowMoments` over a ring of plain items.
+pub type CopyWindowMoments<const CAP: usize> = WindowMoments<CopyRingBuffer<i32, CAP>>;
 
 /// A `WindowMoments` over a growable ring.
 pub type GrowableAllocWindowMoments = WindowMoments<GrowableAllocRingBuffer<i32>>;
@@ -187,6 +195,20 @@ impl<T: Copy, S: Tally<T>, const CAP: usize> WindowTally<T, S, ConstGenericRingB
         ensures removed { result.removed ≡ 0 }
     {
         WindowTally::new(ConstGenericRingBuffer::new())
+    }
+}
+
+impl<T: Copy, S: Tally<T>, const CAP: usize> WindowTally<T, S, CopyRingBuffer<T, CAP>> {
+    /// Returns an empty window over a ring of plain items of this capacity. `filler` is an item that lies, unseen, where no
+    /// item was put yet.
+    pub fn in_plain_array(filler: T) -> Self
+        requires { 0 < CAP }
+        ensures contents { result.contents ≡ [] }
+        ensures limit { result.limit ≡ Some CAP }
+        ensures added { result.added ≡ 0 }
+        ensures removed { result.removed ≡ 0 }
+    {
+        WindowTally::new(CopyRingBuffer::new(filler))
     }
 }
 

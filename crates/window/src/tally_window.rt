@@ -1,6 +1,6 @@
 //! A window over a ring, with a tally of its items.
 
-ghost use Rattle.std.specs.Prelude.{◌≡◌, ◌+◌, ◌<◌, ◌^◌, ◌↔◌, [], ◌∷◌, ◌++◌, IfErr, IfOk, IsOk, IsSome, IsTrue, List, OnErr, OnOk, drop, length, option_to_list, slice_get};
+ghost use Rattle.std.specs.Prelude.{◌≡◌, ◌+◌, ◌<◌, ◌^◌, ◌↔◌, [], ◌∷◌, ◌++◌, IfErr, IfOk, IsOk, IsSome, IsTrue, List, OnOk, drop, length, option_to_list, slice_get};
 ghost use Rattle.ringbuffer.specs.Contents.{IsWithin, keep_last, overwritten};
 
 use crate::counted::CountedTally;

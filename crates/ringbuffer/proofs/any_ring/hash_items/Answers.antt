@@ -8,5 +8,5 @@ use Rattle.ringbuffer.proofs.any_ring.hash_items.Goals as goal
 pub loop-i-preserved : goal.loop-i-preserved
 loop-i-preserved g c =
     let write = g.H.Hasher.write in let F = g.T.Hash.hash_input in let items = g.R.RingBuffer.contents c.args.ring.now in let i = c.loop-i.i in
-    let read = take_read items i _ c.unwrap.result (omega arith) c.get.ensures c.unwrap.ensures in
+    let read = take_read items i _ c.unwrap.result (omega arith) c.get.ensures.value c.unwrap.ensures in
     (omega arith, rw (read, flat_map-append, fold-append, append-nil) (c.hash.ensures ∙ ap (λ s. fold write s (F c.unwrap.result.now)) c.loop-i.invariant.1))

@@ -1,5 +1,5 @@
 use Rattle.ringbuffer.proofs.Words.{◌≡◌, ◌<◌, ◌∙◌, IsSome, Some, arith, length, slice_get, subst, sym}
-use Rattle.ring_slots.proofs.CopiedOut.{set-copied}
+use Rattle.ringbuffer.proofs.CopiedOut.{set-copied}
 use Rattle.ringbuffer.proofs.LaysOut.{slice_get_some}
 use Rattle.ringbuffer.proofs.Stretches.{stretch_at, stretch_long}
 use Rattle.ringbuffer.proofs.fixed.FixedRing.copy_stretch.Goals as goal

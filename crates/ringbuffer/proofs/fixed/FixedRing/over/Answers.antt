@@ -1,11 +1,11 @@
-use Rattle.ringbuffer.proofs.Words.{ap, arith, refl, sym, length}
+use Rattle.ringbuffer.proofs.Words.{◌∙◌, ap, arith, refl, sym, length}
 use Rattle.ringbuffer.proofs.LaysOut.{IsLaidOut-empty, items_from-empty}
 use Rattle.ringbuffer.proofs.RepeatedSteps.{view_is}
 use Rattle.ringbuffer.proofs.fixed.FixedRing.over.Goals as goal
 
 -- No item lies in empty slots.
-pub invariant_of-result : goal.invariant_of-result
-invariant_of-result g c =
+pub from_parts-requires : goal.from_parts-requires
+from_parts-requires g c =
     let some = c.requires.some in let room = c.limit.ensures.within in
     record {
       laid_out = IsLaidOut-empty _ _ (omega (arith, some, room)) c.requires.empty;
@@ -16,4 +16,4 @@ invariant_of-result g c =
     }
 
 pub returns : goal.returns
-returns g c = view_is (items_from-empty _ 0 c.requires.empty) refl refl
+returns g c = c.from_parts.ensures ∙ view_is (items_from-empty _ 0 c.requires.empty) refl refl

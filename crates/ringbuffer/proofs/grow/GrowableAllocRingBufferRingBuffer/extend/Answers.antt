@@ -7,10 +7,11 @@ pub returns-clause-extends : goal.returns-clause-extends
 returns-clause-extends g c =
     let source = c.into_iter-items.result in
     let old = c.args.self.now in
-    let poured = c.pour_in-rest.ensures in let xs = poured.0 in
+    let poured = c.pour-filled.ensures in let xs = poured.0 in
     let item = c.in-Some.item in
     let later = c.push_each-2.ensures in let ys = later.0 in
     let steps = g.I.IntoIter.Iterator.next_gives in
-    let items = later.1 ∙ ap (λ (l : List _). l ++ ys) (c.in_default-push.ensures.ok refl ∙ ap (λ (l : List _). l ++ item ∷ []) poured.1) ∙ append_assoc (old ++ xs) (item ∷ []) ys ∙ append_assoc old xs (item ∷ ys) in
-    let first = subst (λ (r : Option _). YieldsThen steps source xs r c.pour_in-rest.result.0) c.in-Some.is poured.2 in
-    (source, xs ++ item ∷ ys, c.into_iter-items.ensures.into_iter_gives, items, tt, both_parts steps source c.pour_in-rest.result.0 xs ys item c.push_each-2.result first later.2)
+    let room = c.from_vec.ensures.items ∙ poured.1 ∙ ap (λ (l : List _). l ++ xs) (c.reserve.ensures.items ∙ c.take_vec-room.ensures.items) in
+    let items = later.1 ∙ ap (λ (l : List _). l ++ ys) (c.in_default-push.ensures.ok refl ∙ ap (λ (l : List _). l ++ item ∷ []) room) ∙ append_assoc (old ++ xs) (item ∷ []) ys ∙ append_assoc old xs (item ∷ ys) in
+    let first = subst (λ (r : Option _). YieldsThen steps source xs r c.pour-filled.result.1) c.in-Some.is poured.2 in
+    (source, xs ++ item ∷ ys, c.into_iter-items.ensures.into_iter_gives, items, tt, both_parts steps source c.pour-filled.result.1 xs ys item c.push_each-2.result first later.2)

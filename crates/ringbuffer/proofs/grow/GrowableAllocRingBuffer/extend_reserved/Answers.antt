@@ -1,0 +1,11 @@
+use Rattle.std.proofs.lemmas.Iterator.{YieldsList-from_slice}
+use Rattle.std.proofs.lemmas.Iterator.Consumers.{YieldsList-from_copied}
+use Rattle.std.proofs.lemmas.Iterator.Adapters.{items_from_extend}
+use Rattle.std.proofs.Common.{rules}
+use Rattle.ringbuffer.proofs.grow.GrowableAllocRingBuffer.extend_reserved.Goals as goal
+
+-- the source gives the slice's items
+pub returns-clause-ok : goal.returns-clause-ok
+returns-clause-ok g c =
+    let (added, _) = rw c.in_default.is at (items_from_extend c.extend.result c.extend.ensures.ran (YieldsList-from_copied (YieldsList-from_slice c.args.items.now (search rules)))) in
+    search rules

@@ -1,2 +1,0 @@
-pub returns-then-len : Rattle.ringbuffer.proofs.grow.GrowableAllocRingBufferPartialEq.eq.Goals.returns-then-len
-returns-then-len g c = search Rattle.std.proofs.Common.rules
