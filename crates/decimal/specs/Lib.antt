@@ -1,0 +1,2 @@
+pub mod LastEight
+pub mod Numerals
