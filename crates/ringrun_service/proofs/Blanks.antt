@@ -3,8 +3,8 @@ use Rattle.std.proofs.Common.{◌≡◌, ℕ, suc, ◌+◌, ◌-◌, ◌≤◌, 
 use Rattle.std.proofs.lemmas.Bool.Decides.{nat_tests}
 use Rattle.std.proofs.lemmas.List.{take_rest}
 use Rattle.std.specs.List.{position_or_len}
-use Rattle.ringrun_service.proofs.Lines.{by_cases}
-use Rattle.ringrun_service.specs.Reading.{after_blanks, after_end}
+use Rattle.decimal.proofs.Cases.{by_cases}
+use Rattle.ringrun_service.specs.Parsing.{after_blanks, after_end}
 use Rattle.ringrun_service.specs.Script.{is_blank}
 
 abbrev pub first_other : List ℕ → ℕ

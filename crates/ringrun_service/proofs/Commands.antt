@@ -7,9 +7,11 @@ use Rattle.std.specs.Str.{bytes_eq}
 use Rattle.std.specs.Option.{option_and_then, option_map}
 use Rattle.ringbuffer.specs.declared.Command.{Command}
 use Rattle.ringbuffer.specs.declared.Command.TheVariants.{Push, Extend, Dequeue, Skip, Clear}
-use Rattle.ringrun_service.proofs.Lines.{by_cases, ends_word, past_word, some_is, word_at, words_at, words_behind_blanks, words_from_word}
+use Rattle.decimal.proofs.Cases.{by_cases, some_is}
+use Rattle.ringrun_service.proofs.Lines.{ends_word, past_word, word_at, words_at, words_behind_blanks, words_from_word}
 use Rattle.ringrun_service.proofs.Numbers.{behind_number, ends_here, number_of_word, number_part, no_number_at_end, no_number_at_feed, past_end, past_number, signed_rest, word_ends}
-use Rattle.ringrun_service.specs.Reading.{after_blanks, after_end, after_name, number_at, signed_at, starts_blank, CommandAt, HasNoCommand, NumbersAt}
+use Rattle.decimal.specs.Numerals.{signed_at}
+use Rattle.ringrun_service.specs.Parsing.{after_blanks, after_end, after_name, number_at, starts_blank, CommandAt, HasNoCommand, NumbersAt}
 use Rattle.ringrun_service.specs.Script.{alone, command_named, commands_of, is_blank, is_line_feed, number_of, numbers_of, plain, push_of, words_of, vector_of}
 
 -- What the words of the first line say.
@@ -243,40 +245,33 @@ unsaid_alone name command text rest is at e = ap says (named name text rest at) 
 -- ---- what a line says
 
 -- where blanks and a line's end follow the command
-pub said : (keeps : Bool) (text : List ℕ) (command : Command ℤ) (rest after : List ℕ) → CommandAt keeps text command rest → after_end (after_blanks rest) ≡ Some after
-    → (commands : List (Command ℤ)) × (says text ≡ Some commands) × (keeps ≡ true → commands ≡ plain command ∷ [])
-said keeps text (Push n) rest after (args, name, number) e =
+pub said : (text : List ℕ) (command : Command ℤ) (rest after : List ℕ) → CommandAt text command rest → after_end (after_blanks rest) ≡ Some after → says text ≡ Some (plain command ∷ [])
+said text (Push n) rest after (args, name, number) e =
     let next = whole_word args n rest number (ends_at_end rest after e) in
-    let numbers : numbers_of (words_at args) ≡ Some (n ∷ []) = rw (next.words, no_words_left rest after e, next.number) refl in (
-      Push n ∷ [],
-      ap says (named (codes "push") text args name) ∙ whole_name (codes "push") args is_push (blank_ends args (read_here args (n, rest) number).0)
-          ∙ ap (λ o. option_map (λ command. command ∷ []) (option_and_then (command_named (codes "push")) o)) numbers ∙ ap (option_map (λ command. command ∷ [])) (is_push.means (n ∷ [])),
-      λ _. refl,
-    )
-said keeps text (Extend items) rest after (args, name, (numbers, read, kept)) e =
-    let all = all_numbers numbers args rest after read e in (
-      Extend (vector_of numbers) ∷ [],
-      ap says (named (codes "extend") text args name) ∙ whole_name (codes "extend") args is_extend all.1
-          ∙ ap (λ o. option_map (λ command. command ∷ []) (option_and_then (command_named (codes "extend")) o)) all.0 ∙ ap (option_map (λ command. command ∷ [])) (is_extend.means numbers),
-      λ h. ap (λ ns. Extend (vector_of ns) ∷ []) (sym (kept ∙ ap (λ v. cond v numbers []) h)),
-    )
-said keeps text Dequeue rest after name e = (Dequeue ∷ [], said_alone (codes "dequeue") Dequeue text rest after is_dequeue name e, λ _. refl)
-said keeps text Skip rest after name e = (Skip ∷ [], said_alone (codes "skip") Skip text rest after is_skip name e, λ _. refl)
-said keeps text Clear rest after name e = (Clear ∷ [], said_alone (codes "clear") Clear text rest after is_clear name e, λ _. refl)
+    let numbers : numbers_of (words_at args) ≡ Some (n ∷ []) = rw (next.words, no_words_left rest after e, next.number) refl in
+    ap says (named (codes "push") text args name) ∙ whole_name (codes "push") args is_push (blank_ends args (read_here args (n, rest) number).0)
+    ∙ ap (λ o. option_map (λ command. command ∷ []) (option_and_then (command_named (codes "push")) o)) numbers ∙ ap (option_map (λ command. command ∷ [])) (is_push.means (n ∷ []))
+said text (Extend items) rest after (args, name, read) e =
+    let all = all_numbers items.items args rest after read e in
+    ap says (named (codes "extend") text args name) ∙ whole_name (codes "extend") args is_extend all.1
+    ∙ ap (λ o. option_map (λ command. command ∷ []) (option_and_then (command_named (codes "extend")) o)) all.0 ∙ ap (option_map (λ command. command ∷ [])) (is_extend.means items.items)
+said text Dequeue rest after name e = said_alone (codes "dequeue") Dequeue text rest after is_dequeue name e
+said text Skip rest after name e = said_alone (codes "skip") Skip text rest after is_skip name e
+said text Clear rest after name e = said_alone (codes "clear") Clear text rest after is_clear name e
 
 -- where anything else follows it
-pub unsaid : (keeps : Bool) (text : List ℕ) (command : Command ℤ) (rest : List ℕ) → CommandAt keeps text command rest → after_end (after_blanks rest) ≡ None → says text ≡ None
-unsaid keeps text (Push n) rest (args, name, number) e =
+pub unsaid : (text : List ℕ) (command : Command ℤ) (rest : List ℕ) → CommandAt text command rest → after_end (after_blanks rest) ≡ None → says text ≡ None
+unsaid text (Push n) rest (args, name, number) e =
     ap says (named (codes "push") text args name) ∙ whole_name (codes "push") args is_push (blank_ends args (read_here args (n, rest) number).0)
     ∙ by_cases (ends_here rest)
     (λ h. let next = whole_word args n rest number h in let more = next_word rest e in rw (next.words, next.number, more.words) (push_lines n (number_of more.word) (numbers_of (words_at (past_word (after_blanks rest))))))
     (λ h. let next = broken_word args n rest number h in rw (next.words, next.number) refl)
-unsaid keeps text (Extend items) rest (args, name, (numbers, read, kept)) e = ap says (named (codes "extend") text args name) ∙ by_cases (ends_here args)
-    (λ h. whole_name (codes "extend") args is_extend h ∙ ap (λ o. option_map (λ command. command ∷ []) (option_and_then (command_named (codes "extend")) o)) (some_other numbers args rest read e h))
+unsaid text (Extend items) rest (args, name, read) e = ap says (named (codes "extend") text args name) ∙ by_cases (ends_here args)
+    (λ h. whole_name (codes "extend") args is_extend h ∙ ap (λ o. option_map (λ command. command ∷ []) (option_and_then (command_named (codes "extend")) o)) (some_other items.items args rest read e h))
     (λ h. longer_name (codes "extend") args is_extend h)
-unsaid keeps text Dequeue rest name e = unsaid_alone (codes "dequeue") Dequeue text rest is_dequeue name e
-unsaid keeps text Skip rest name e = unsaid_alone (codes "skip") Skip text rest is_skip name e
-unsaid keeps text Clear rest name e = unsaid_alone (codes "clear") Clear text rest is_clear name e
+unsaid text Dequeue rest name e = unsaid_alone (codes "dequeue") Dequeue text rest is_dequeue name e
+unsaid text Skip rest name e = unsaid_alone (codes "skip") Skip text rest is_skip name e
+unsaid text Clear rest name e = unsaid_alone (codes "clear") Clear text rest is_clear name e
 
 word_and_past : (text : List ℕ) → text ≡ word_at text ++ past_word text
 word_and_past [] = refl

@@ -1,15 +1,15 @@
 -- A line that is an extension, whose numbers are read apart.
-use Rattle.std.proofs.Common.{◌≡◌, ℕ, ℤ, ◌^◌, ◌-◌, ◌≤◌, List, [], ◌∷◌, ◌++◌, true, Bor, Option, Some, None, Err, length, refl, ap, subst, sym, ◌∙◌, append_assoc}
+use Rattle.std.proofs.Common.{◌≡◌, ℕ, ℤ, ◌^◌, ◌-◌, ◌≤◌, List, [], ◌∷◌, ◌++◌, Bor, Option, Some, None, Err, length, ap, subst, sym, ◌∙◌, append_assoc}
 use Rattle.std.proofs.lemmas.List.{take_all}
 use Rattle.ringbuffer.specs.Contents.{keep_last}
 use Rattle.ringbuffer.specs.Meaning.{after_one}
 use Rattle.ringbuffer.specs.declared.Command.{Command}
 use Rattle.ringbuffer.specs.declared.Command.TheVariants.{Extend}
-use Rattle.ringrun_service.proofs.Rest.{command_bad, command_read, left}
+use Rattle.ringrun_service.proofs.LinesLeft.{command_bad, command_read, left}
 use Rattle.ringrun_service.specs.declared.script.Line.TheVariants.{Extension}
 use Rattle.ringrun_service.specs.declared.script.Script.{Script}
 use Rattle.ringrun_service.specs.Line.{IsLine}
-use Rattle.ringrun_service.specs.Reading.{after_blanks, after_end, number_at, NumbersAt}
+use Rattle.ringrun_service.specs.Parsing.{after_blanks, after_end, number_at, NumbersAt}
 use Rattle.ringrun_service.specs.Rest.{next_number, script_left, IsRest}
 use Rattle.ringrun_service.specs.Script.{plain, vector_of, with_front}
 
@@ -27,18 +27,16 @@ pub extension_ended : (old now new : Script) (names : Bor (List ℕ)) (behind : 
     → IsRest new × (script_left old ≡ with_front (plain (by_numbers numbers) ∷ []) (script_left new))
 unfolding script_left
 extension_ended old now new names behind numbers rest line at few text end =
-    let read = command_read true old.text.now rest.0 old.rest.now (by_numbers numbers) behind new.rest.now rest.1 (names.now, line.0, (numbers, at, in_full numbers few)) end in
-    let texts : new.text.now ≡ old.text.now = ap (λ t. t.now) text ∙ ap (λ (s : Script). s.text.now) line.2 in (
-      (read.2.front, texts ∙ read.2.is),
-      read.2.script ∙ ap (λ t. with_front read.0 (left t new.rest.now)) (sym texts) ∙ ap (λ cs. with_front cs (left new.text.now new.rest.now)) (read.1 refl),
-    )
+    let read = command_read old.text.now rest.0 old.rest.now (by_numbers numbers) behind new.rest.now rest.1 (names.now, line.0, subst (λ ns. NumbersAt names.now ns behind) (sym (in_full numbers few)) at) end in
+    let texts : new.text.now ≡ old.text.now = ap (λ t. t.now) text ∙ ap (λ (s : Script). s.text.now) line.2 in
+    ((read.front, texts ∙ read.is), read.script ∙ ap (λ t. with_front (plain (by_numbers numbers) ∷ []) (left t new.rest.now)) (sym texts))
 
 -- it doesn't
 pub extension_refused : (old now : Script) (names : Bor (List ℕ)) (behind : List ℕ) (numbers : List ℤ) → IsLine (Extension names) old now
     → NumbersAt names.now numbers behind → length numbers ≤ 2 ^ 63 - 1 → after_end (after_blanks behind) ≡ None → script_left old ≡ Err (next_number now)
 unfolding script_left
 extension_refused old now names behind numbers line at few none =
-    command_bad true old.text.now old.rest.now (by_numbers numbers) behind (names.now, line.0, (numbers, at, in_full numbers few)) none ∙ ap (λ (s : Script). Err (next_number s)) (sym line.2)
+    command_bad old.text.now old.rest.now (by_numbers numbers) behind (names.now, line.0, subst (λ ns. NumbersAt names.now ns behind) (sym (in_full numbers few)) at) none ∙ ap (λ (s : Script). Err (next_number s)) (sym line.2)
 
 -- one more number in front of those that are left
 pub one_more : (text rest after : List ℕ) (front : List ℤ) (number : ℤ) → ((numbers : List ℤ) (end : List ℕ) → NumbersAt rest numbers end → NumbersAt text (front ++ numbers) end) → number_at rest ≡ Some (number, after)

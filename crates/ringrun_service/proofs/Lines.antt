@@ -1,19 +1,15 @@
 -- The lines and words of a text, from its front.
-use Rattle.std.proofs.Common.{◌≡◌, ℕ, ◌||◌, Bool, true, false, cond, List, [], ◌∷◌, Some, refl, sym, ap, ◌∙◌, arith}
+use Rattle.std.proofs.Common.{◌≡◌, ℕ, ◌||◌, Bool, true, false, cond, List, [], ◌∷◌, refl, sym, ap, ◌∙◌, arith}
 use Rattle.std.proofs.lemmas.Bool.Decides.{nat_tests}
 use Rattle.std.specs.List.{filter, onto_first, slice_split}
-use Rattle.ringrun_service.specs.Reading.{after_blanks}
-use Rattle.ringrun_service.specs.Script.{is_blank, is_line_feed, is_some_bytes, lines_of, words_of}
-
-pub by_cases : {P : Type 0} (v : Bool) → (v ≡ true → P) → (v ≡ false → P) → P
-by_cases {P} v = elim v as (λ u. (u ≡ true → P) → (u ≡ false → P) → P) [ true ↦ λ yes no. yes refl | false ↦ λ yes no. no refl ]
+use Rattle.decimal.proofs.Cases.{by_cases}
+use Rattle.decimal.specs.Numerals.{is_some_bytes}
+use Rattle.ringrun_service.specs.Parsing.{after_blanks}
+use Rattle.ringrun_service.specs.Script.{is_blank, is_line_feed, lines_of, words_of}
 
 pub both_false : (u v : Bool) → u || v ≡ false → (u ≡ false) × (v ≡ false)
 both_false true v h = absurd (cc)
 both_false false v h = (refl, h)
-
-pub some_is : {A : Type 0} (a b : A) → Some a ≡ Some b → a ≡ b
-some_is a b e = cc
 
 module _ (ends : ℕ → Bool) where
   -- the part before the first byte at which a list is cut

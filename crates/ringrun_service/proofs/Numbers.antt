@@ -1,17 +1,19 @@
 -- A number at the front of a text, and the word that it stands in.
-use Rattle.std.proofs.Common.{◌≡◌, ℕ, zero, suc, ◌^◌, ◌<◌, ◌≤◌, ◌||◌, ◌&&◌, Bool, true, false, cond, List, [], ◌∷◌, ◌++◌, length, take, drop, get_or, ◌-◌, ◌≢◌, Option, Some, None, ℤ, append-nil, subst, ltb, eqb, refl, sym, ap, ◌∙◌, arith}
+use Rattle.std.proofs.Common.{◌≡◌, ℕ, zero, suc, ◌^◌, ◌≤◌, ◌&&◌, Bool, true, false, cond, List, [], ◌∷◌, ◌++◌, length, drop, ◌-◌, ◌≢◌, Option, Some, None, ℤ, append-nil, subst, ltb, eqb, refl, sym, ap, ◌∙◌, w64, arith}
 use Rattle.std.proofs.lemmas.Bool.{eqb-true}
 use Rattle.std.proofs.lemmas.Bool.Decides.{nat_tests}
 use Rattle.std.specs.List.{list_all}
 use Rattle.std.specs.Option.{option_map}
 use Rattle.std.specs.Str.Parse.{digits_value, signed_digits_value, starts_with_minus, without_leading_sign}
-use Rattle.ringrun_service.proofs.Digits.{all_digits_at, digit}
-use Rattle.ringrun_service.proofs.Lines.{by_cases, ends_word, past_word, word_at}
-use mir.Val.{bool_byte}
-use Rattle.std.proofs.lemmas.List.{take_rest}
+use Rattle.decimal.proofs.Digits.{all_digits_at, digit}
+use Rattle.decimal.proofs.SignedNumbers.{signed_fits}
+use Rattle.decimal.proofs.Cases.{by_cases}
+use Rattle.ringrun_service.proofs.Lines.{ends_word, past_word, word_at}
+use mir.Val.{SFits}
 use Rattle.std.proofs.lemmas.List.Folds.{list_all-append}
-use Rattle.ringrun_service.specs.Reading.{after_blanks, digits_at, number_at, signed_at, signed_of, size_at, starts_blank}
-use Rattle.ringrun_service.specs.Script.{is_blank, is_i64, is_line_feed, is_some_bytes, number_of}
+use Rattle.decimal.specs.Numerals.{digits_at, signed_at, signed_of, size_at, is_i64, is_some_bytes}
+use Rattle.ringrun_service.specs.Parsing.{after_blanks, number_at, starts_blank}
+use Rattle.ringrun_service.specs.Script.{is_blank, is_line_feed, number_of}
 
 -- a word may end here
 abbrev pub ends_here : List ℕ → Bool
@@ -177,47 +179,22 @@ unfolding after_blanks
 none_passed [] h = refl
 none_passed (b ∷ bs) h = rw h refl
 
-pub unread : (text : List ℕ) → signed_at (after_blanks text) ≡ None → number_at text ≡ None
-unfolding number_at
-unread text e = elim (starts_blank text) as (λ v. cond v (signed_at (after_blanks text)) None ≡ None) [ true ↦ e | false ↦ refl ]
-
 pub unread_word : (text word : List ℕ) → word ≡ after_blanks text → length word ≡ length text → number_at text ≡ None
 unfolding number_at
 unread_word text word e same = by_cases (starts_blank text)
     (λ h. absurd (blank_shorter text h (ap length (sym e) ∙ same)))
     (λ h. rw h refl)
 
-pub unread_end : (text word : List ℕ) → word ≡ after_blanks text → length word < 1 → number_at text ≡ None
-unread_end text [] e h = unread text (ap signed_at (sym e) ∙ no_number_at_end)
-unread_end text (b ∷ bs) e h = absurd (omega (arith, h))
-
-sign_of : (m p : Bool) (word : List ℕ) → drop (bool_byte (m || p)) word ≡ cond m (drop 1 word) (drop (cond p 1 0) word)
-sign_of true p word = refl
-sign_of false true word = refl
-sign_of false false word = refl
-
-pub sign_passed : (word : List ℕ) (k : ℕ) → k ≡ bool_byte (eqb (get_or word 0 0) 45 || eqb (get_or word 0 0) 43) → take (length word - k) (drop k word) ≡ without_leading_sign word
-sign_passed word k e = take_rest word k ∙ ap (λ n. drop n word) e ∙ sign_of (eqb (get_or word 0 0) 45) (eqb (get_or word 0 0) 43) word
-
-pub unread_size : (text word digits : List ℕ) → word ≡ after_blanks text → digits ≡ without_leading_sign word → size_at digits ≡ None → number_at text ≡ None
-unfolding signed_at
-unread_size text word digits e d none =
-    let size : size_at (without_leading_sign (after_blanks text)) ≡ None = ap size_at (ap without_leading_sign (sym e) ∙ sym d) ∙ none in
-    unread text (rw size refl)
-
-pub unread_sign : (text word digits rest : List ℕ) (size : ℕ) → word ≡ after_blanks text → digits ≡ without_leading_sign word → size_at digits ≡ Some (size, rest) → None ≡ signed_of (starts_with_minus word) size → number_at text ≡ None
-unfolding signed_at
-unread_sign text word digits rest size e d some none =
-    let read : size_at (without_leading_sign (after_blanks text)) ≡ Some (size, rest) = ap size_at (ap without_leading_sign (sym e) ∙ sym d) ∙ some in
-    let out : signed_of (starts_with_minus (after_blanks text)) size ≡ None = ap (λ w. signed_of (starts_with_minus w) size) (sym e) ∙ sym none in
-    unread text (rw (read, out) refl)
-
-pub number_read : (text word digits rest : List ℕ) (size : ℕ) (n : ℤ) → word ≡ after_blanks text → length word ≢ length text → digits ≡ without_leading_sign word → size_at digits ≡ Some (size, rest)
-    → Some n ≡ signed_of (starts_with_minus word) size → number_at text ≡ Some (n, rest)
-unfolding number_at signed_at
-number_read text word digits rest size n e apart d some within =
-    let read : size_at (without_leading_sign (after_blanks text)) ≡ Some (size, rest) = ap size_at (ap without_leading_sign (sym e) ∙ sym d) ∙ some in
-    let signed : signed_of (starts_with_minus (after_blanks text)) size ≡ Some n = ap (λ w. signed_of (starts_with_minus w) size) (sym e) ∙ sym within in
-    by_cases (starts_blank text)
-    (λ h. rw (h, read, signed) refl)
+-- the number is the one that what follows the blanks begins with
+pub read_word : (text word : List ℕ) → word ≡ after_blanks text → length word ≢ length text → number_at text ≡ signed_at word
+unfolding number_at
+read_word text word e apart = by_cases (starts_blank text)
+    (λ h. rw h (ap signed_at (sym e)))
     (λ h. absurd (apart (ap length (e ∙ none_passed text h))))
+
+-- a number that is read is in range
+pub number_fits : (text : List ℕ) (n : ℤ) (after : List ℕ) → number_at text ≡ Some (n, after) → SFits w64 n
+unfolding number_at
+number_fits text n after = by_cases (starts_blank text)
+    (λ h. rw h (signed_fits (after_blanks text) n after))
+    (λ h. rw h (λ e. absurd (cc)))

@@ -9,7 +9,7 @@ use Rattle.ringbuffer.specs.declared.Command.{Command}
 use Rattle.ringbuffer.specs.declared.Command.TheVariants.{Push, Extend, Dequeue, Skip, Clear}
 use Rattle.ringbuffer.specs.declared.Reply.{Reply}
 use Rattle.ringrun_service.specs.Program.{printed_on}
-use Rattle.ringrun_service.specs.Report.{items_line, reply_line}
+use Rattle.ringrun_service.specs.Replies.{items_line, reply_line}
 use Rattle.ringrun_service.specs.Script.{plain, vector_of}
 
 kept : (items : Vec ℤ Global) → (vector_of items.items).items ≡ items.items

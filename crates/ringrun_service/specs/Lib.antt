@@ -1,9 +1,8 @@
 pub mod Arguments
-pub mod Decimal
 pub mod Fault
 pub mod Line
+pub mod Parsing
 pub mod Program
-pub mod Reading
+pub mod Replies
 pub mod Rest
-pub mod Report
 pub mod Script

@@ -3,7 +3,7 @@ use Rattle.std.specs.Prelude.{◌≡◌, ◌<◌, ◌≤◌, [], ◌∷◌, leng
 use Rattle.ringrun_service.specs.declared.script.Line.{Line}
 use Rattle.ringrun_service.specs.declared.script.Line.TheVariants.{Blank, Command, Extension}
 use Rattle.ringrun_service.specs.declared.script.Script.{Script}
-use Rattle.ringrun_service.specs.Reading.{after_blanks, after_name}
+use Rattle.ringrun_service.specs.Parsing.{after_blanks, after_name}
 use Rattle.ringrun_service.specs.Rest.{script_left}
 use Rattle.ringrun_service.specs.Script.{plain, with_front}
 

@@ -9,7 +9,7 @@ use Rattle.ringrun_service.specs.declared.arguments.Kind.{Kind}
 use Rattle.ringrun_service.specs.declared.arguments.Kind.TheVariants.{Array, Heap, Grow}
 use Rattle.ringrun_service.specs.Fault.{status_of, line_of, Begins, IfNotACommand}
 use Rattle.ringrun_service.specs.declared.fault.Fault.{Fault}
-use Rattle.ringrun_service.specs.Report.{items_line, reply_line}
+use Rattle.ringrun_service.specs.Replies.{items_line, reply_line}
 use Rattle.ringrun_service.specs.Script.{script_of}
 
 -- the most items that the ring holds, if there is such a number
@@ -35,6 +35,10 @@ output_of kind capacity input = printed_for (limit_of kind capacity) (script_of 
 abbrev pub IsBad : ℕ → List ℕ → Type 0
 IsBad line input = script_of input ≡ Err line
 
+-- a fault that names a line names the first bad one of the input, where that is known
+abbrev pub NamesBadLine : Option (List ℕ) → Fault → Type 0
+NamesBadLine input fault = IfNotACommand fault (λ line. IfSome input (IsBad line))
+
 -- every line of the input is a command or has no words, and this text is what a ring of this limit prints for them
 abbrev pub Prints : Option ℕ → List ℕ → List ℕ → Type 0
 Prints limit input text = (commands : List (Command ℤ)) × (script_of input ≡ Ok commands) × (text ≡ printed_on limit [] commands)
@@ -50,4 +54,4 @@ Answers words input old new = (a : Arguments) × AsksFor words a × IfSome input
 -- the writer of errors gains a beginning of the line that says a fault of this status, and nothing else. A line of the input
 -- that it names is the first bad one
 abbrev pub Tells : ℕ → Option (List ℕ) → Option (List ℕ) → Option (List ℕ) → Type 0
-Tells status input old new = (fault : Fault) × (status_of fault ≡ status) × IfNotACommand fault (λ line. IfSome input (IsBad line)) × Begins old new (line_of fault)
+Tells status input old new = (fault : Fault) × (status_of fault ≡ status) × NamesBadLine input fault × Begins old new (line_of fault)

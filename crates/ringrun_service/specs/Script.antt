@@ -1,9 +1,8 @@
 -- The grammar of scripts: which bytes are which commands.
 --
 -- Lines end with a line feed, which the last may lack. The words of a line stand between runs of spaces, tabs, form feeds
--- and carriage returns. A line without words is no command. Else its first word names one, and the others are numbers. So a good
--- line is ASCII (`line_is_text` in proofs/GoodLines.antt).
-use Rattle.std.specs.Prelude.{ℕ, ◌+◌, ◌-◌, ◌^◌, ◌<◌, ◌==◌, ◌||◌, ◌&&◌, nat_lt, Bool, List, [], ◌∷◌, ◌++◌, length, take, filter, ℤ, pos, negsuc, Option, None, Some, Result, Ok, Err, Vec, codes, if◌then◌else◌, refl}
+-- and carriage returns. A line without words is no command. Else its first word names one, and the others are numbers.
+use Rattle.std.specs.Prelude.{ℕ, ◌+◌, ◌-◌, ◌^◌, ◌<◌, ◌==◌, ◌||◌, ◌&&◌, Bool, List, [], ◌∷◌, ◌++◌, length, take, filter, ℤ, Option, None, Some, Result, Ok, Err, Vec, codes, if◌then◌else◌, refl}
 use Rattle.std.specs.Char.{is_digit}
 use Rattle.std.specs.Global.{Global}
 use Rattle.std.specs.List.{list_all, slice_split}
@@ -14,6 +13,7 @@ use Rattle.std.specs.Str.Parse.{signed_digits_value, without_leading_sign}
 use Rattle.std.proofs.Common.{lit<, subst, sym}
 use Rattle.std.proofs.Math.Nat.{le_refl, lt_of_le_of_lt, min-le_left}
 use Rattle.std.proofs.lemmas.List.{length-take}
+use Rattle.decimal.specs.Numerals.{is_i64, is_some_bytes}
 use Rattle.ringbuffer.specs.declared.Command.{Command}
 use Rattle.ringbuffer.specs.declared.Command.TheVariants.{Push, Extend, Dequeue, Skip, Clear}
 
@@ -25,11 +25,6 @@ is_line_feed byte = byte == 10
 abbrev pub is_blank : ℕ → Bool
 is_blank byte = byte == 32 || byte == 9 || byte == 12 || byte == 13
 
--- some bytes, not none
-abbrev pub is_some_bytes : List ℕ → Bool
-is_some_bytes [] = Bool.false
-is_some_bytes (byte ∷ bytes) = Bool.true
-
 -- the parts between line feeds. Behind the last line feed there may be an empty part, which says as little as an empty line
 unfoldable pub lines_of : List ℕ → List (List ℕ)
 lines_of text = slice_split is_line_feed text
@@ -37,11 +32,6 @@ lines_of text = slice_split is_line_feed text
 -- the parts between blanks that aren't empty
 unfoldable pub words_of : List ℕ → List (List ℕ)
 words_of line = filter is_some_bytes (slice_split is_blank line)
-
--- in the range of an i64
-abbrev pub is_i64 : ℤ → Bool
-is_i64 (pos n) = nat_lt n (2 ^ 63)
-is_i64 (negsuc n) = nat_lt n (2 ^ 63)
 
 -- one or more decimal digits, behind one sign or none
 abbrev pub is_numeral : List ℕ → Bool

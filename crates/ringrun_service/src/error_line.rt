@@ -1,8 +1,8 @@
 //! The line that says a fault, made and written without memory.
 
-ghost use Rattle.std.specs.Prelude.{◌≤◌, OnOk, Some, take};
+ghost use Rattle.std.specs.Prelude.{◌≡◌, ◌≤◌, OnOk, Some, take};
 ghost use Rattle.std.specs.Io.KnownBytes.{Appends};
-ghost use Rattle.ringrun_service.specs.Fault.{Begins, line_of};
+ghost use Rattle.ringrun_service.specs.Fault.{Begins, line_of, status_of};
 
 use crate::fault::Fault;
 use std::io;
@@ -13,13 +13,13 @@ const ROOM: usize = 64;
 
 /// A line in the making.
 #[derive(Drop)]
-struct Line {
+struct LineBuffer {
     bytes: [u8; ROOM],
     len: usize,
     ghost within: { len ≤ 64 },
 }
 
-impl Write for Line {
+impl Write for LineBuffer {
     ghost contents = { λ line. Some (take line.len line.bytes) };
 
     fn write(&mut self, buf: &[u8]) -> io::Result<usize> {
@@ -35,17 +35,27 @@ impl Write for Line {
     }
 }
 
+/// Writes the line of `fault` to `errors`, where that takes one, and returns its status.
+pub fn end<E: Write>(fault: Fault, errors: &mut E) -> u8
+    ensures status { result ≡ status_of fault }
+    ensures told { Begins (E.contents errors.old) (E.contents errors.new) (line_of fault) }
+{
+    let _ = tell(fault, errors);
+    let _ = errors.flush();
+    fault.status()
+}
+
 /// Writes the line of `fault` to `errors`.
 ///
 /// # Errors
 ///
 /// Where a write fails or takes nothing.
-pub fn tell<E: Write>(fault: Fault, errors: &mut E) -> io::Result<()>
+fn tell<E: Write>(fault: Fault, errors: &mut E) -> io::Result<()>
     ensures whole { OnOk result
         (Appends (E.contents errors.old) (E.contents errors.new) (line_of fault)) }
     ensures begun { Begins (E.contents errors.old) (E.contents errors.new) (line_of fault) }
 {
-    let mut line = Line {
+    let mut line = LineBuffer {
         bytes: [0; ROOM],
         len: 0,
     };

@@ -2,13 +2,13 @@
 #![tactic(auto)]
 
 mod arguments;
-mod decimal;
-mod ending;
+mod entry;
 mod error_line;
 mod fault;
-mod report;
+mod replies;
+mod room;
 mod script;
 mod service;
 
-pub use ending::{Status, run};
+pub use entry::{Status, run};
 pub use service::serve;

@@ -1,20 +1,16 @@
-//! A script: a command a line, its words apart by ASCII white space. It is read byte by byte.
+//! A script: a command a line, its words apart by ASCII white space. It is read from its front, a line at a time.
 
-ghost use Rattle.std.specs.Prelude.{◌≡◌, ℤ, ◌+◌, codes, List, true, Err, Ok, ◌==◌, ◌-◌, ◌^◌, ◌%◌, ◌<◌, ◌≤◌, ◌&&◌, not, nat_lt, IfErr, IfOk, IfSome, IsSome, MatchOption, None, OnOk, Some, SomeIff, length, take};
-ghost use Rattle.std.specs.List.{list_all};
-ghost use Rattle.std.specs.Str.Parse.{AllDigits, digits_value};
-ghost use Rattle.ringrun_service.specs.Fault.{IfNotACommand, NamesALine};
+ghost use Rattle.std.specs.Prelude.{◌≡◌, ℤ, ◌+◌, codes, List, Err, Ok, ◌-◌, ◌<◌, ◌≤◌, IfErr, IfOk, IfSome, MatchOption, None, OnOk, Some, length};
+ghost use Rattle.ringrun_service.specs.Fault.{NamesALine};
 ghost use Rattle.ringrun_service.specs.Line.{IsLine};
-ghost use Rattle.ringrun_service.specs.Reading.{CommandAt, HasNoCommand, NumbersAt, after_blanks, after_end, after_name, digits_at, number_at, signed_of, size_at};
-ghost use Rattle.ringrun_service.specs.Rest.{IsRest, next_number, script_left};
+ghost use Rattle.ringrun_service.specs.Parsing.{CommandAt, HasNoCommand, NumbersAt, after_blanks, after_end, after_name, number_at};
+ghost use Rattle.ringrun_service.specs.Rest.{IsRest, NamesFirstBad, next_number, script_left};
 ghost use Rattle.ringrun_service.specs.Script.{is_blank, script_of, with_front};
 ghost use Rattle.ringbuffer.specs.declared.Command.{Command};
 
 use crate::fault::Fault;
+use decimal::read_decimal;
 use ringbuffer::Command;
-
-// A number of at most 19 digits is below 2^64.
-const SAFE_DIGITS: usize = 19;
 
 /// What the next line of a script is.
 #[derive(Drop)]
@@ -57,8 +53,7 @@ impl<'a> Script<'a> {
         ensures line { IfOk result (λ line. IsLine line self.old self.new) }
         ensures passed { (commands : List (Command ℤ))
             × (script_left self.old ≡ with_front commands (script_left self.new)) }
-        ensures bad { IfErr result
-            (λ fault. IfNotACommand fault (λ line. script_left self.old ≡ Err line)) }
+        ensures bad { IfErr result (NamesFirstBad self.old) }
         ensures faults { IfErr result NamesALine }
     {
         let words = skip_blanks(self.rest);
@@ -82,8 +77,7 @@ impl<'a> Script<'a> {
         requires { IsRest self.old }
         ensures good { OnOk result ((commands : List (Command ℤ))
             × (script_left self.old ≡ Ok commands)) }
-        ensures bad { IfErr result
-            (λ fault. IfNotACommand fault (λ line. script_left self.old ≡ Err line)) }
+        ensures bad { IfErr result (NamesFirstBad self.old) }
         ensures fault { IfErr result NamesALine }
         ensures read { OnOk result (length self.new.rest.now ≡ 0) }
     {
@@ -91,7 +85,8 @@ impl<'a> Script<'a> {
             let Line::Extension(numbers) = self.read_line()? else {
                 continue;
             };
-            self.end_line(skip_numbers(numbers))?;
+            let (_, rest) = count_numbers(numbers);
+            self.end_line(rest)?;
         }
         Ok(())
     }
@@ -134,7 +129,7 @@ impl<'a> Script<'a> {
 fn read_command(text: &[u8]) -> Option<(Command<i64>, &[u8])>
     ensures command { MatchOption result
         (after_name (codes "extend") text.now ≡ None → HasNoCommand text.now)
-        (λ read. CommandAt true text.now read.0 read.1.now) }
+        (λ read. CommandAt text.now read.0 read.1.now) }
     ensures rest { IfSome result (λ read. length read.1.now ≤ length text.now) }
 {
     if let Some(rest) = strip_name(text, b"push") {
@@ -163,16 +158,18 @@ fn strip_name<'a>(text: &'a [u8], name: &[u8]) -> Option<&'a [u8]>
     text.strip_prefix(name)
 }
 
-/// Returns what follows the numbers at the front of `text`.
-fn skip_numbers(text: &[u8]) -> &[u8]
-    ensures numbers { (numbers : List ℤ) × NumbersAt text.now numbers result.now
-        × (length numbers + length result.now ≤ length text.now) }
+/// Returns how many numbers stand at the front of `text`, and what follows them.
+pub fn count_numbers(text: &[u8]) -> (usize, &[u8])
+    ensures numbers { (numbers : List ℤ) × NumbersAt text.now numbers result.1.now
+        × (length numbers + length result.1.now ≤ length text.now) × (result.0 ≡ length numbers) }
 {
+    let mut count = 0;
     let mut rest = text;
     while let Some((_, after)) = split_number(rest) {
+        count += 1;
         rest = after;
     }
-    rest
+    (count, rest)
 }
 
 /// Returns the number that follows the blanks at the front of `text`, and what follows it.
@@ -186,104 +183,7 @@ pub fn split_number(text: &[u8]) -> Option<(i64, &[u8])>
     if word.len() == text.len() {
         return None;
     }
-    let [first, ..] = word else {
-        return None;
-    };
-    // Signs are hard to foretell, so no branch hangs on them.
-    let is_negative = *first == b'-';
-    let is_signed = is_negative | (*first == b'+');
-    let (size, rest) = read_size(&word[usize::from(is_signed)..])?;
-    Some((signed(is_negative, size)?, rest))
-}
-
-/// Returns the number below 10^19 that the digits at the front of `text` write, and what follows them.
-#[inline(always)]
-fn read_size(text: &[u8]) -> Option<(u64, &[u8])>
-    ensures size { MatchOption result (size_at text.now ≡ None)
-        (λ found. size_at text.now ≡ Some (found.0, found.1.now)) }
-    ensures rest { IfSome result (λ found. length found.1.now ≤ length text.now) }
-{
-    let (size, end) = read_digits(text);
-    if end == 0 {
-        return None;
-    }
-    let digits = &text[..end];
-    if is_long(digits) {
-        return None;
-    }
-    Some((size, &text[end..]))
-}
-
-/// Returns whether `digits` write no number below 10^19: more of them than are safe follow zeros.
-#[inline(always)]
-fn is_long(digits: &[u8]) -> bool
-    ensures { result ≡ (nat_lt 19 (length digits.now)
-        && not (list_all (λ digit. digit == 48) (take (length digits.now - 19) digits.now))) }
-{
-    digits.len() > SAFE_DIGITS && !is_zeros(&digits[..digits.len() - SAFE_DIGITS])
-}
-
-/// Returns `size` with its sign, if it is in range.
-#[inline(always)]
-fn signed(is_negative: bool, size: u64) -> Option<i64>
-    ensures { result ≡ signed_of is_negative size }
-{
-    if size > i64::MAX.unsigned_abs() + u64::from(is_negative) {
-        return None;
-    }
-    let number = if is_negative {
-        size.wrapping_neg()
-    } else {
-        size
-    };
-    Some(number.cast_signed())
-}
-
-/// Returns what the digits at the front of `text` write, modulo 2^64, and how many they are.
-#[inline(always)]
-fn read_digits(text: &[u8]) -> (u64, usize)
-    ensures size { result.0 ≡ digits_value 10 (digits_at text.now) % 2 ^ 64 }
-    ensures count { result.1 ≡ length (digits_at text.now) }
-    ensures within { result.1 ≤ length text.now }
-{
-    let (mut size, start) = match first_eight(text) {
-        Some(size) => (size, 8),
-        None => (0, 0),
-    };
-    for at in start..text.len() {
-        let digit = u64::from(text[at]).wrapping_sub(u64::from(b'0'));
-        if digit > 9 {
-            return (size, at);
-        }
-        size = size.wrapping_mul(10).wrapping_add(digit);
-    }
-    (size, text.len())
-}
-
-/// Returns the number that the first eight bytes of `digits` write, if all are digits. They are read together: as bytes, then
-/// in pairs, in fours.
-#[inline(always)]
-fn first_eight(digits: &[u8]) -> Option<u64>
-    ensures { SomeIff result ((8 ≤ length digits.now) × AllDigits 10 (take 8 digits.now))
-        (digits_value 10 (take 8 digits.now)) }
-{
-    let (eight, _) = digits.split_first_chunk::<8>()?;
-    let bytes = u64::from_le_bytes(*eight) ^ 0x3030_3030_3030_3030;
-    // A byte above 9 has its highest bit set, or gets it here.
-    if (bytes | bytes.wrapping_add(0x7676_7676_7676_7676)) & 0x8080_8080_8080_8080 != 0 {
-        return None;
-    }
-    let pairs = bytes.wrapping_mul(10).wrapping_add(bytes >> 8);
-    let low = (pairs & 0x0000_00ff_0000_00ff).wrapping_mul(100 + (1_000_000 << 32));
-    let high = (pairs >> 16 & 0x0000_00ff_0000_00ff).wrapping_mul(1 + (10_000 << 32));
-    Some(low.wrapping_add(high) >> 32)
-}
-
-/// Returns whether all `digits` are zeros.
-fn is_zeros(digits: &[u8]) -> bool
-    ensures { result ≡ list_all (λ digit. digit == 48) digits.now }
-{
-    digits.iter().all(|digit| *digit == b'0')
+    read_decimal(word)
 }
 
 /// Returns what follows the line's end in `text`, if nothing but blanks comes before it.

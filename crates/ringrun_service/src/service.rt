@@ -1,24 +1,25 @@
 //! The program's work, over any reader and writers.
 
-ghost use Rattle.std.specs.Prelude.{◌≡◌, ◌≢◌, ℕ, ℤ, ◌+◌, ◌++◌, ◌^◌, ◌<◌, ◌≤◌, ◌↔◌, Err, IfErr, IfOk, IfSome, IsErr, IsErrOf, List, None, Ok, OnOk, Some, [], flat_map, length, map, string_bytes};
+ghost use Rattle.std.specs.Prelude.{◌≡◌, ◌≢◌, ℕ, ℤ, ◌+◌, ◌++◌, ◌<◌, ◌≤◌, ◌↔◌, Err, IfErr, IfOk, IfSome, IsErr, IsErrOf, List, Ok, OnOk, Some, [], flat_map, length, map, string_bytes};
 ghost use Rattle.std.specs.Io.KnownBytes.{Appends, IsAtEnd};
 ghost use Rattle.ringbuffer.specs.Contents.{keep_last};
 ghost use Rattle.ringbuffer.specs.Meaning.{after_all, replies_to};
 ghost use Rattle.ringbuffer.specs.declared.Command.{Command};
-ghost use Rattle.ringrun_service.specs.Arguments.{AsksFor, AsksTooMuch, IsOffered, NamesRing};
-ghost use Rattle.ringrun_service.specs.Fault.{Begins, IfLinesRead, IfNotACommand, IsInScript, line_of, status_of};
+ghost use Rattle.ringrun_service.specs.Arguments.{AsksFor, AsksTooMuch, NamesRing};
+ghost use Rattle.ringrun_service.specs.Fault.{IfLinesRead, IsInScript, status_of};
 ghost use Rattle.ringrun_service.specs.Line.{IsShorter};
-ghost use Rattle.ringrun_service.specs.Program.{Answers, IsBad, Prints, Tells, limit_of, printed_on};
-ghost use Rattle.ringrun_service.specs.Reading.{NumbersAt};
-ghost use Rattle.ringrun_service.specs.Report.{reply_line};
-ghost use Rattle.ringrun_service.specs.Rest.{IsRest, script_left};
+ghost use Rattle.ringrun_service.specs.Parsing.{NumbersAt};
+ghost use Rattle.ringrun_service.specs.Program.{Answers, IsBad, NamesBadLine, Prints, Tells, limit_of, printed_on};
+ghost use Rattle.ringrun_service.specs.Replies.{reply_line};
+ghost use Rattle.ringrun_service.specs.Rest.{IsRest, NamesFirstBad, script_left};
 ghost use Rattle.ringrun_service.specs.Script.{script_of, with_front};
 ghost use Rattle.ringrun_service.specs.declared.arguments.Arguments.{Arguments};
 
 use crate::arguments::{Arguments, Kind};
-use crate::error_line::tell;
+use crate::error_line::end;
 use crate::fault::Fault;
-use crate::report;
+use crate::replies;
+use crate::room::{MakesRoom, make_room};
 use crate::script::{Line, Script, split_number};
 use ringbuffer::{
     AllocRingBuffer, ConstGenericRingBuffer, GrowableAllocRingBuffer, Reply, RingBuffer, apply,
@@ -62,16 +63,7 @@ pub fn serve<I: Read, O: Write, E: Write>(
     }
 }
 
-/// Writes the line of `fault` to `errors`, where that takes one, and returns its status.
-pub fn end<E: Write>(fault: Fault, errors: &mut E) -> u8
-    ensures status { result ≡ status_of fault }
-    ensures told { Begins (E.contents errors.old) (E.contents errors.new) (line_of fault) }
-{
-    let _ = tell(fault, errors);
-    let _ = errors.flush();
-    fault.status()
-}
-
+/// Does the work of `serve`, or returns why it can't be done.
 fn attempt<I: Read, O: Write>(
     alloc: Global,
     words: &[String],
@@ -80,8 +72,7 @@ fn attempt<I: Read, O: Write>(
 ) -> Result<(), Fault>
     ensures done { OnOk result (Answers (map string_bytes words.now) (I.remaining input.old)
         (O.contents output.old) (O.contents output.new)) }
-    ensures bad { IfErr result (λ fault. IfNotACommand fault
-        (λ line. IfSome (I.remaining input.old) (IsBad line))) }
+    ensures bad { IfErr result (NamesBadLine (I.remaining input.old)) }
     ensures silent { IfSome (I.remaining input.old)
         (λ bytes. IsErr (script_of bytes) → output.new ≡ output.old) }
     ensures arguments { IsErrOf result Fault.BadArguments
@@ -93,17 +84,16 @@ fn attempt<I: Read, O: Write>(
     ensures unwritten { IfErr result (λ fault. status_of fault < 4 → output.new ≡ output.old) }
     ensures written_last { (¬ IsAtEnd (I.remaining input.new)) → output.new ≡ output.old }
 {
-    let text = answer(alloc, words, input)?;
+    let text = text_for(alloc, words, input)?;
     print(text.as_slice(), output)
 }
 
 /// Returns the text that the program prints. No byte of the input is read before the arguments are checked.
-fn answer<I: Read>(alloc: Global, words: &[String], input: &mut I) -> Result<Vec<u8>, Fault>
+fn text_for<I: Read>(alloc: Global, words: &[String], input: &mut I) -> Result<Vec<u8>, Fault>
     ensures text { IfOk result (λ text. (a : Arguments) × AsksFor (map string_bytes words.now) a
         × IfSome (I.remaining input.old)
         (λ bytes. Prints (limit_of a.kind a.capacity) bytes text.items)) }
-    ensures bad { IfErr result (λ fault. IfNotACommand fault
-        (λ line. IfSome (I.remaining input.old) (IsBad line))) }
+    ensures bad { IfErr result (NamesBadLine (I.remaining input.old)) }
     ensures arguments { IsErrOf result Fault.BadArguments
         ↔ (¬ NamesRing (map string_bytes words.now)) }
     ensures unread { IsErrOf result Fault.BadArguments → input.new ≡ input.old }
@@ -113,81 +103,31 @@ fn answer<I: Read>(alloc: Global, words: &[String], input: &mut I) -> Result<Vec
 {
     let Arguments { kind, capacity } = Arguments::parse(words)?;
     match kind {
-        Kind::Array => answer_by_array(alloc, capacity, input),
-        Kind::Heap => answer_by_heap(alloc, capacity, input),
-        Kind::Grow => answer_by_grow(alloc, capacity, input),
+        Kind::Array => match capacity {
+            1 => run_input(&mut ConstGenericRingBuffer::<i64, 1>::new(), alloc, input),
+            2 => run_input(&mut ConstGenericRingBuffer::<i64, 2>::new(), alloc, input),
+            3 => run_input(&mut ConstGenericRingBuffer::<i64, 3>::new(), alloc, input),
+            4 => run_input(&mut ConstGenericRingBuffer::<i64, 4>::new(), alloc, input),
+            8 => run_input(&mut ConstGenericRingBuffer::<i64, 8>::new(), alloc, input),
+            10 => run_input(&mut ConstGenericRingBuffer::<i64, 10>::new(), alloc, input),
+            _ => Err(Fault::BadArguments),
+        },
+        Kind::Heap => {
+            if capacity == 0 {
+                return Err(Fault::BadArguments);
+            }
+            let mut ring = AllocRingBuffer::new(alloc, capacity)?;
+            run_input(&mut ring, alloc, input)
+        }
+        Kind::Grow => {
+            let mut ring = GrowableAllocRingBuffer::with_capacity(alloc, capacity)?;
+            run_input(&mut ring, alloc, input)
+        }
     }
 }
 
-fn answer_by_array<I: Read>(alloc: Global, capacity: usize, input: &mut I) -> Result<Vec<u8>, Fault>
-    ensures text { IfOk result (λ text. IfSome (I.remaining input.old)
-        (λ bytes. Prints (Some capacity) bytes text.items)) }
-    ensures bad { IfErr result (λ fault. IfNotACommand fault
-        (λ line. IfSome (I.remaining input.old) (IsBad line))) }
-    ensures arguments { IsErrOf result Fault.BadArguments ↔ (¬ IsOffered Kind.Array capacity) }
-    ensures unread { IsErrOf result Fault.BadArguments → input.new ≡ input.old }
-    ensures whole_input { IfLinesRead result (IsAtEnd (I.remaining input.new)) }
-{
-    match capacity {
-        1 => answer_by_array_of::<1, I>(alloc, input),
-        2 => answer_by_array_of::<2, I>(alloc, input),
-        3 => answer_by_array_of::<3, I>(alloc, input),
-        4 => answer_by_array_of::<4, I>(alloc, input),
-        8 => answer_by_array_of::<8, I>(alloc, input),
-        10 => answer_by_array_of::<10, I>(alloc, input),
-        _ => Err(Fault::BadArguments),
-    }
-}
-
-/// Answers by an array ring of this capacity, which is so small that the ring is no larger than a value may be.
-fn answer_by_array_of<const CAP: usize, I: Read>(
-    alloc: Global,
-    input: &mut I,
-) -> Result<Vec<u8>, Fault>
-    requires some { 0 < CAP }
-    requires few { CAP < 2 ^ 16 }
-    ensures text { IfOk result (λ text. IfSome (I.remaining input.old)
-        (λ bytes. Prints (Some CAP) bytes text.items)) }
-    ensures bad { IfErr result (λ fault. IfNotACommand fault
-        (λ line. IfSome (I.remaining input.old) (IsBad line))) }
-    ensures faults { IfErr result (λ fault. fault ≢ Fault.BadArguments) }
-    ensures whole_input { IfLinesRead result (IsAtEnd (I.remaining input.new)) }
-{
-    answer_by(&mut ConstGenericRingBuffer::<i64, CAP>::new(), alloc, input)
-}
-
-fn answer_by_heap<I: Read>(alloc: Global, capacity: usize, input: &mut I) -> Result<Vec<u8>, Fault>
-    ensures text { IfOk result (λ text. IfSome (I.remaining input.old)
-        (λ bytes. Prints (Some capacity) bytes text.items)) }
-    ensures bad { IfErr result (λ fault. IfNotACommand fault
-        (λ line. IfSome (I.remaining input.old) (IsBad line))) }
-    ensures arguments { IsErrOf result Fault.BadArguments ↔ (¬ IsOffered Kind.Heap capacity) }
-    ensures unread { IsErrOf result Fault.BadArguments → input.new ≡ input.old }
-    ensures ring_first { 2 ^ 63 < capacity
-        → IsErrOf result Fault.NoMemory × (input.new ≡ input.old) }
-    ensures whole_input { IfLinesRead result (IsAtEnd (I.remaining input.new)) }
-{
-    if capacity == 0 {
-        return Err(Fault::BadArguments);
-    }
-    let mut ring = AllocRingBuffer::new(alloc, capacity)?;
-    answer_by(&mut ring, alloc, input)
-}
-
-fn answer_by_grow<I: Read>(alloc: Global, capacity: usize, input: &mut I) -> Result<Vec<u8>, Fault>
-    ensures text { IfOk result (λ text. IfSome (I.remaining input.old)
-        (λ bytes. Prints None bytes text.items)) }
-    ensures bad { IfErr result (λ fault. IfNotACommand fault
-        (λ line. IfSome (I.remaining input.old) (IsBad line))) }
-    ensures faults { IfErr result (λ fault. fault ≢ Fault.BadArguments) }
-    ensures whole_input { IfLinesRead result (IsAtEnd (I.remaining input.new)) }
-{
-    let mut ring = GrowableAllocRingBuffer::with_capacity(alloc, capacity)?;
-    answer_by(&mut ring, alloc, input)
-}
-
-/// Returns the text that the replies of `ring`, which is empty, to the input's commands make.
-fn answer_by<R: RingBuffer<i64>, I: Read>(
+/// Reads the whole input, and returns the text that the replies of `ring`, which is empty, to its commands make.
+fn run_input<R: MakesRoom, I: Read>(
     ring: &mut R,
     alloc: Global,
     input: &mut I,
@@ -195,22 +135,17 @@ fn answer_by<R: RingBuffer<i64>, I: Read>(
     requires { R.contents ring.old ≡ [] }
     ensures text { IfOk result (λ text. IfSome (I.remaining input.old)
         (λ bytes. Prints (R.limit ring.old) bytes text.items)) }
-    ensures bad { IfErr result (λ fault. IfNotACommand fault
-        (λ line. IfSome (I.remaining input.old) (IsBad line))) }
+    ensures bad { IfErr result (NamesBadLine (I.remaining input.old)) }
     ensures faults { IfErr result (λ fault. fault ≢ Fault.BadArguments) }
     ensures whole_input { IfLinesRead result (IsAtEnd (I.remaining input.new)) }
 {
     let bytes = read_all(alloc, input)?;
-    answer_script(ring, alloc, bytes.as_slice())
+    run_script(ring, alloc, bytes.as_slice())
 }
 
 /// Returns the text that the replies of `ring`, which is empty, to the commands of `input` make. A bad line is its fault even
 /// where memory was refused before.
-fn answer_script<R: RingBuffer<i64>>(
-    ring: &mut R,
-    alloc: Global,
-    input: &[u8],
-) -> Result<Vec<u8>, Fault>
+fn run_script<R: MakesRoom>(ring: &mut R, alloc: Global, input: &[u8]) -> Result<Vec<u8>, Fault>
     requires { R.contents ring.old ≡ [] }
     ensures text { IfOk result
         (λ text. Prints (R.limit ring.old) input.now text.items) }
@@ -218,14 +153,14 @@ fn answer_script<R: RingBuffer<i64>>(
     ensures faults { IfErr result IsInScript }
 {
     let mut script = Script::new(input);
-    let answer = run_script(ring, alloc, &mut script);
+    let text = run_lines(ring, alloc, &mut script);
     script.check()?;
-    answer
+    text
 }
 
 /// Returns the text that the replies of `ring` to `script` make. Each line is run as it is read, so that no command and no
 /// reply is kept.
-fn run_script<R: RingBuffer<i64>>(
+fn run_lines<R: MakesRoom>(
     ring: &mut R,
     alloc: Global,
     script: &mut Script<'_>,
@@ -237,8 +172,7 @@ fn run_script<R: RingBuffer<i64>>(
         × (text.items ≡ printed_on (R.limit ring.old) (R.contents ring.old) commands)) }
     ensures passed { (commands : List (Command ℤ))
         × (script_left script.old ≡ with_front commands (script_left script.new)) }
-    ensures bad { IfErr result
-        (λ fault. IfNotACommand fault (λ line. script_left script.old ≡ Err line)) }
+    ensures bad { IfErr result (NamesFirstBad script.old) }
     ensures faults { IfErr result IsInScript }
 {
     // For the proof: the contents are within the limit.
@@ -248,13 +182,13 @@ fn run_script<R: RingBuffer<i64>>(
     while !script.rest.is_empty() {
         run_line(ring, script, &mut text)?;
     }
-    report::push_items(&mut text, ring)?;
+    replies::push_items(&mut text, ring)?;
     Ok(text)
 }
 
 /// Runs the next line of `script`, and puts the line of the reply at the end of `text`.
 #[inline(always)]
-fn run_line<R: RingBuffer<i64>>(
+fn run_line<R: MakesRoom>(
     ring: &mut R,
     script: &mut Script<'_>,
     text: &mut Vec<u8>,
@@ -269,8 +203,7 @@ fn run_line<R: RingBuffer<i64>>(
         × (R.contents ring.new ≡ after_all (R.limit ring.old) (R.contents ring.old) commands)) }
     ensures passed { (commands : List (Command ℤ))
         × (script_left script.old ≡ with_front commands (script_left script.new)) }
-    ensures bad { IfErr result
-        (λ fault. IfNotACommand fault (λ line. script_left script.old ≡ Err line)) }
+    ensures bad { IfErr result (NamesFirstBad script.old) }
     ensures faults { IfErr result IsInScript }
     ensures shorter { OnOk result (IsShorter script.old script.new) }
 {
@@ -278,18 +211,18 @@ fn run_line<R: RingBuffer<i64>>(
         Line::Blank => Ok(()),
         Line::Command(command) => {
             let reply = apply(ring, command)?;
-            Ok(report::push_reply(text, &reply)?)
+            Ok(replies::push_reply(text, &reply)?)
         }
         Line::Extension(numbers) => {
             let rest = push_numbers(ring, numbers)?;
             script.end_line(rest)?;
-            Ok(report::push_reply(text, &Reply::Extended)?)
+            Ok(replies::push_reply(text, &Reply::Extended)?)
         }
     }
 }
 
 /// Pushes the numbers at the front of `text` as they are read, so that no vector is made of them, and returns what follows them.
-fn push_numbers<'a, R: RingBuffer<i64>>(ring: &mut R, text: &'a [u8]) -> Result<&'a [u8], Fault>
+fn push_numbers<'a, R: MakesRoom>(ring: &mut R, text: &'a [u8]) -> Result<&'a [u8], Fault>
     ensures pushed { IfOk result (λ rest. (numbers : List ℤ) × NumbersAt text.now numbers rest.now
         × (length numbers + length rest.now ≤ length text.now)
         × (R.contents ring.new ≡ keep_last (R.limit ring.old) (R.contents ring.old ++ numbers))) }
@@ -297,9 +230,10 @@ fn push_numbers<'a, R: RingBuffer<i64>>(ring: &mut R, text: &'a [u8]) -> Result<
     ensures faults { IfErr result (λ fault. fault ≡ Fault.NoMemory) }
 {
     // For the proof: the contents are within the limit.
-    let _ = ring.len();
+    let held = ring.len();
     let mut rest = text;
     while let Some((number, after)) = split_number(rest) {
+        make_room(ring, held, rest);
         if ring.push(number).is_err() {
             return Err(Fault::NoMemory);
         }
@@ -323,6 +257,7 @@ fn read_all<I: Read>(alloc: Global, input: &mut I) -> Result<Vec<u8>, Fault>
     Ok(bytes)
 }
 
+/// Writes `text` to `output`, whole.
 fn print<O: Write>(text: &[u8], output: &mut O) -> Result<(), Fault>
     ensures ok { OnOk result (Appends (O.contents output.old) (O.contents output.new) text.now) }
     ensures err { IfErr result (λ fault. fault ≡ Fault.InputOrOutput) }

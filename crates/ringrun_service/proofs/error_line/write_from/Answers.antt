@@ -1,7 +1,7 @@
 -- A write takes the front of the rest.
 use Rattle.std.proofs.Common.{ap, subst, sym, ◌∙◌}
 use Rattle.std.proofs.lemmas.List.{take_rest}
-use Rattle.ringrun_service.proofs.Told.{wrote, wrote_nothing, Written}
+use Rattle.ringrun_service.proofs.WrittenSoFar.{wrote, wrote_nothing, Written}
 use Rattle.ringrun_service.proofs.error_line.write_from.Goals as goal
 use Rattle.ringrun_service.proofs.error_line.write_from.Goals.{in-Ok, in-Err+else-ne}
 

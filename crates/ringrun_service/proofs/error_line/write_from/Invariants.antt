@@ -1,4 +1,4 @@
-use Rattle.ringrun_service.proofs.Told.{Written}
+use Rattle.ringrun_service.proofs.WrittenSoFar.{Written}
 use Rattle.ringrun_service.proofs.error_line.write_from.Given as goal
 
 abbrev pub invariant-loop : goal.invariant-loop

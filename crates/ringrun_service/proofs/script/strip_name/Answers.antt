@@ -1,5 +1,5 @@
 use Rattle.std.proofs.Common.{rules}
-use Rattle.ringrun_service.specs.Reading.{after_name}
+use Rattle.ringrun_service.specs.Parsing.{after_name}
 use Rattle.ringrun_service.proofs.script.strip_name.Goals as goal
 
 pub returns-clause-name : goal.returns-clause-name

@@ -1,5 +1,5 @@
 use Rattle.std.proofs.Common.{rules}
-use Rattle.ringrun_service.proofs.Endings.{done}
+use Rattle.ringrun_service.proofs.Outcomes.{done}
 use Rattle.ringrun_service.proofs.service.attempt.Goals as goal
 
 pub returns-clause-done : goal.returns-clause-done

@@ -1,7 +1,7 @@
 -- Each number takes a byte at least. Those so far come before those at what is left, and stand on the ring behind its items.
 use Rattle.std.proofs.Common.{◌≡◌, ◌+◌, ◌≤◌, ◌++◌, ℤ, List, ℕ, length}
 use Rattle.ringbuffer.specs.Contents.{keep_last}
-use Rattle.ringrun_service.specs.Reading.{NumbersAt}
+use Rattle.ringrun_service.specs.Parsing.{NumbersAt}
 use Rattle.ringrun_service.proofs.service.push_numbers.Given as goal
 
 abbrev pub invariant-loop-number : goal.invariant-loop-number

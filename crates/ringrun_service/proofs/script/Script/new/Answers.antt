@@ -1,4 +1,4 @@
-use Rattle.ringrun_service.proofs.Rest.{left_whole}
+use Rattle.ringrun_service.proofs.LinesLeft.{left_whole}
 use Rattle.ringrun_service.specs.Rest.{script_left}
 use Rattle.ringrun_service.specs.Script.{script_of}
 use Rattle.ringrun_service.proofs.script.Script.new.Goals as goal

@@ -1,9 +1,8 @@
 -- The lines that are left are the one that is read and those behind it.
-use Rattle.std.proofs.Common.{◌≡◌, ℤ, List, [], ◌∷◌, true, ap, arith, refl, subst, sym, ◌∙◌}
+use Rattle.std.proofs.Common.{◌≡◌, [], ◌∷◌, ap, arith, subst, sym, ◌∙◌}
 use Rattle.std.proofs.lemmas.Result.{err_from_is_err_and}
-use Rattle.ringbuffer.specs.declared.Command.{Command}
-use Rattle.ringrun_service.proofs.Rest.{blank_read, command_bad, command_read, left, other_bad, LineRead}
-use Rattle.ringrun_service.specs.Reading.{after_blanks, after_end, CommandAt, HasNoCommand}
+use Rattle.ringrun_service.proofs.LinesLeft.{blank_read, command_bad, command_read, left, other_bad, LineRead}
+use Rattle.ringrun_service.specs.Parsing.{after_blanks, after_end, CommandAt, HasNoCommand}
 use Rattle.ringrun_service.specs.Rest.{script_left}
 use Rattle.ringrun_service.specs.Script.{plain, with_front}
 use Rattle.ringrun_service.proofs.script.Script.read_line.Goals as goal
@@ -44,26 +43,23 @@ unfolding script_left
 returns-in_err-end_line-2-clause-bad c =
     let p = err_from_is_err_and c.from_residual-in_err-end_line-2.result c.from_residual-in_err-end_line-2.ensures.1 in
     let h = c.in_err-end_line-2.ensures in
-    rw (p.1, p.2, h.err.2) (command_bad true c.args.self.now.text.now c.args.self.now.rest.now c.in-Some.command c.in-Some.rest.now
-    (subst (λ w. CommandAt true w c.in-Some.command c.in-Some.rest.now) c.skip_blanks-words.ensures.rest c.in-Some.ensures.command) h.err.0)
+    rw (p.1, p.2, h.err.2) (command_bad c.args.self.now.text.now c.args.self.now.rest.now c.in-Some.command c.in-Some.rest.now
+    (subst (λ w. CommandAt w c.in-Some.command c.in-Some.rest.now) c.skip_blanks-words.ensures.rest c.in-Some.ensures.command) h.err.0)
 
-command : (c : goal.In_ok-end_line-2) → (commands : List (Command ℤ)) × (true ≡ true → commands ≡ plain c.in-Some.command ∷ []) × LineRead c.args.self.now.text.now c.args.self.now.rest.now c.end_line-2.new.self.rest.now commands
+command : (c : goal.In_ok-end_line-2) → LineRead c.args.self.now.text.now c.args.self.now.rest.now c.end_line-2.new.self.rest.now (plain c.in-Some.command ∷ [])
 command c =
-    command_read true c.args.self.now.text.now c.requires.0 c.args.self.now.rest.now c.in-Some.command c.in-Some.rest.now c.end_line-2.new.self.rest.now c.requires.1
-    (subst (λ w. CommandAt true w c.in-Some.command c.in-Some.rest.now) c.skip_blanks-words.ensures.rest c.in-Some.ensures.command) c.in_ok-end_line-2.ensures.ok
+    command_read c.args.self.now.text.now c.requires.0 c.args.self.now.rest.now c.in-Some.command c.in-Some.rest.now c.end_line-2.new.self.rest.now c.requires.1
+    (subst (λ w. CommandAt w c.in-Some.command c.in-Some.rest.now) c.skip_blanks-words.ensures.rest c.in-Some.ensures.command) c.in_ok-end_line-2.ensures.ok
 
 pub returns-clause-rest : goal.returns-clause-rest
-returns-clause-rest c = let line = (command c).2 in (line.front, ap (λ t. t.now) c.in_ok-end_line-2.ensures.text ∙ line.is)
+returns-clause-rest c = let line = command c in (line.front, ap (λ t. t.now) c.in_ok-end_line-2.ensures.text ∙ line.is)
 
-passed : (c : goal.In_ok-end_line-2) → script_left c.args.self.now ≡ with_front (command c).0 (script_left c.end_line-2.new.self)
+passed : (c : goal.In_ok-end_line-2) → script_left c.args.self.now ≡ with_front (plain c.in-Some.command ∷ []) (script_left c.end_line-2.new.self)
 unfolding script_left
-passed c = (command c).2.script ∙ ap (λ t. with_front (command c).0 (left t.now c.end_line-2.new.self.rest.now)) (sym c.in_ok-end_line-2.ensures.text)
+passed c = (command c).script ∙ ap (λ t. with_front (plain c.in-Some.command ∷ []) (left t.now c.end_line-2.new.self.rest.now)) (sym c.in_ok-end_line-2.ensures.text)
 
 pub returns-clause-passed : goal.returns-clause-passed
-returns-clause-passed c = ((command c).0, passed c)
+returns-clause-passed c = (plain c.in-Some.command ∷ [], passed c)
 
 pub returns-clause-line : goal.returns-clause-line
-returns-clause-line c = (
-  passed c ∙ ap (λ cs. with_front cs (script_left c.end_line-2.new.self)) ((command c).1 refl),
-  λ some. omega (arith, some, c.in_ok-end_line-2.ensures.shorter, c.in-Some.ensures.rest, c.skip_blanks-words.ensures.within),
-)
+returns-clause-line c = (passed c, λ some. omega (arith, some, c.in_ok-end_line-2.ensures.shorter, c.in-Some.ensures.rest, c.skip_blanks-words.ensures.within))
