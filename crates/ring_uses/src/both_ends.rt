@@ -1,6 +1,6 @@
 //! Callers of rings at both ends: a history over any ring that changes there, and drains from the newest item on.
 
-ghost use Rattle.std.specs.Prelude.{◌≡◌, ◌-◌, ◌≤◌, ◌↔◌, [], ◌∷◌, ◌++◌, IfErr, IfOk, IfSome, IsNone, IsSome, OnOk, Some, drop, length, reverse, slice_get, take};
+ghost use Rattle.std.specs.Prelude.{◌≡◌, ◌-◌, ◌↔◌, [], ◌∷◌, ◌++◌, IfErr, IfOk, IfSome, IsNone, IsSome, OnOk, Some, drop, length, reverse, slice_get, take};
 ghost use Rattle.ringbuffer.specs.Contents.{keep_first, keep_last, past_limit};
 
 use ringbuffer::{

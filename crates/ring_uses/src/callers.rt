@@ -1,6 +1,6 @@
 //! Generic code over `RingBuffer<T>`, proved from the trait's contract alone.
 
-ghost use Rattle.std.specs.Prelude.{◌≡◌, ◌+◌, ◌%◌, ◌<◌, ◌≤◌, ◌^◌, [], ◌∷◌, ◌++◌, All, IfErr, IfOk, IfSome, IsNone, IsOk, IsSome, IsTrue, List, OnOk, Some, drop, length, map, reverse, slice_get, slice_set, sum};
+ghost use Rattle.std.specs.Prelude.{◌≡◌, ◌+◌, ◌%◌, ◌<◌, ◌≤◌, ◌^◌, [], ◌∷◌, ◌++◌, All, IfErr, IfOk, IfSome, IsNone, IsOk, IsSome, List, OnOk, Some, drop, length, map, reverse, slice_get, slice_set, sum};
 ghost use Rattle.std.specs.List.{Any};
 ghost use Rattle.ringbuffer.specs.Contents.{ChangesSlots, keep_last};
 ghost use Rattle.ringbuffer.specs.Extension.{MovesPart};

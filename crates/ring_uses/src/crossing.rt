@@ -2,7 +2,7 @@
 //! here: each function is proved only if what it is passed may cross.
 
 use ringbuffer::{
-    AllocRingBuffer, ConstGenericRingBuffer, GrowableAllocRingBuffer, RingBuffer,
+    AllocRingBuffer, ConstGenericRingBuffer, CopyRingBuffer, GrowableAllocRingBuffer, RingBuffer,
     RingBufferDrainingIterator, RingBufferIntoIterator, RingBufferIterator, RingBufferMutIterator,
 };
 use std::marker::{Send, Sync};
@@ -33,6 +33,16 @@ pub fn share_rings<T: Sync + Drop>(
     shareable(array);
     shareable(heap);
     shareable(grow);
+}
+
+/// A ring of plain items may be sent where its items may.
+pub fn send_plain_ring<T: Copy + Send + Drop>(ring: &CopyRingBuffer<T, 4>) {
+    sendable(ring);
+}
+
+/// A ring of plain items may be shared where its items may.
+pub fn share_plain_ring<T: Copy + Sync + Drop>(ring: &CopyRingBuffer<T, 4>) {
+    shareable(ring);
 }
 
 /// Walks over a ring that may be sent may be sent, a reading one where threads may share the ring.

@@ -1,12 +1,12 @@
 //! Callers of the ring types in the lines that a user writes first, proved from the public contracts alone.
 
-ghost use Rattle.std.specs.Prelude.{◌≡◌, ◌+◌, ◌<◌, ◌≤◌, ◌^◌, [], ◌∷◌, ◌++◌, IfErr, IfOk, IsOk, IsSome, IsTrue, OnErr, OnOk, Some, drop, length, map, slice_get, string_bytes, sum, swap, take};
+ghost use Rattle.std.specs.Prelude.{◌≡◌, ◌+◌, ◌<◌, ◌≤◌, ◌^◌, [], ◌∷◌, ◌++◌, IfErr, IfOk, IsSome, OnErr, OnOk, Some, drop, length, slice_get, string_bytes, sum, swap, take};
 ghost use Rattle.std.specs.Io.BufRead.{drop_through, take_through};
 ghost use Rattle.ringbuffer.specs.Contents.{AppendsCut, keep_last};
 
 use ringbuffer::{
-    AllocRingBuffer, ConstGenericRingBuffer, DoubleEndedRing, GrowableAllocRingBuffer, RingBuffer,
-    RingBufferExt,
+    AllocRingBuffer, ConstGenericRingBuffer, CopyRingBuffer, DoubleEndedRing,
+    GrowableAllocRingBuffer, RingBuffer, RingBufferExt,
 };
 use std::alloc::{AllocError, Global};
 use std::io::{self, BufRead};
@@ -131,6 +131,36 @@ pub fn all_four(numbers: &[u32; 4]) -> ConstGenericRingBuffer<u32, 4>
     ensures { result.items ≡ keep_last (Some 4) numbers.now }
 {
     ConstGenericRingBuffer::from_array_ref(numbers).unwrap()
+}
+
+/// Pushes a number onto a new ring of plain items.
+pub fn plain_five() -> CopyRingBuffer<u32, 2>
+    ensures { result.items ≡ 5 ∷ [] }
+{
+    let mut ring = CopyRingBuffer::<u32, 2>::new(0);
+    let _ = ring.push(5);
+    ring
+}
+
+/// Records samples of a signal, of which the last 256 are kept.
+pub fn record(samples: &mut CopyRingBuffer<i16, 256>, new: &[i16])
+    ensures { samples.new.items ≡ keep_last (Some 256) (samples.old.items ++ new.now) }
+{
+    samples.extend_from_slice(new);
+}
+
+/// Copies a ring of plain items, which is never refused.
+pub fn copy_of_plain(ring: &CopyRingBuffer<u32, 4>) -> CopyRingBuffer<u32, 4>
+    ensures { result ≡ ring.now }
+{
+    ring.copied()
+}
+
+/// Makes a ring of an array of plain items, which becomes its cells.
+pub fn all_four_plain(numbers: [u32; 4]) -> CopyRingBuffer<u32, 4>
+    ensures { result.items ≡ numbers }
+{
+    CopyRingBuffer::from_array(numbers)
 }
 
 /// Makes growable rings of nothing, which are never refused.

@@ -16,6 +16,7 @@ pub mod last_lines;
 pub mod last_two;
 pub mod limiter;
 pub mod log_end;
+pub mod loops;
 pub mod owned;
 pub mod pages;
 pub mod pipe;

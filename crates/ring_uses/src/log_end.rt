@@ -1,6 +1,6 @@
 //! The end of a log, as bytes, by a writer that keeps the newest.
 
-ghost use Rattle.std.specs.Prelude.{◌≡◌, ◌<◌, ◌++◌, IfOk, OnOk, Some, length, slice_get};
+ghost use Rattle.std.specs.Prelude.{◌≡◌, ◌<◌, ◌++◌, IfOk, OnOk, Some};
 ghost use Rattle.ringbuffer.specs.Contents.{keep_last};
 
 use ringbuffer::{AllocRingBuffer, GrowableAllocRingBuffer, LastBytes, RingBuffer};
