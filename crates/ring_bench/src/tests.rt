@@ -9,6 +9,7 @@ mod bytes;
 mod collections;
 mod faults;
 mod fills;
+mod loops;
 mod middle;
 mod moving;
 mod positions;

@@ -531,6 +531,17 @@ fn is_refused_an_extension(rt: HostRuntime) {
     }
 }
 
+// A ring that grew push by push would end with room for nearly twice the numbers, and move them there.
+#[test]
+fn keeps_no_more_room_than_two_long_lines_need(rt: HostRuntime) {
+    let line = repeated(&rt, &[("extend", 1), (" 0", 131_072), ("\n", 1)]);
+    let script = repeated(&rt, &[(line.as_str(), 2), ("clear\n", 1)]);
+    let arguments = ["grow", "1023"];
+    let outcome = run_in_drought(&rt, &arguments, script.as_str(), 7 << 20);
+    let ending = prints("extended\nextended\ncleared\nitems\n");
+    assert_ended(&rt, &arguments, &outcome, ending);
+}
+
 // There is room for reading, and none for the ring.
 #[test]
 fn is_refused_a_ring(rt: HostRuntime) {

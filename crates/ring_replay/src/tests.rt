@@ -18,7 +18,9 @@ use bytes::PlayedBytes;
 use digests::{BLOCKS, DIGESTS};
 use items::{Counted, Maker, Tally, Values, Wide};
 use player::Player;
-use ringbuffer::{AllocRingBuffer, ConstGenericRingBuffer, GrowableAllocRingBuffer};
+use ringbuffer::{
+    AllocRingBuffer, ConstGenericRingBuffer, CopyRingBuffer, GrowableAllocRingBuffer,
+};
 use rings::{Plain, Played, PlayedCopies};
 use std::alloc::Global;
 use std::fmt::Debug;
@@ -163,6 +165,22 @@ macro_rules! on_arrays {
     )*};
 }
 
+/// Plays the runs of array rings once more, on rings of plain items of the same capacities.
+macro_rules! replay_plain {
+    ($rt:expr, $items:literal, $first:literal, $replay:ident, $type:ty) => {
+        let mut run = Run::before($first, $items);
+        on_plain!($rt, run, $replay, $type, 1 2 3 4 5 7 8 16 31 64 100 300);
+    };
+}
+
+/// Plays runs on rings of plain items of these capacities.
+macro_rules! on_plain {
+    ($rt:expr, $run:ident, $replay:ident, $type:ty, $($capacity:literal)*) => {$(
+        $run = $run.next("CopyRingBuffer", $capacity);
+        $replay($rt, Values, CopyRingBuffer::<$type, $capacity>::default(), $run);
+    )*};
+}
+
 /// Plays the runs of a kind of items.
 macro_rules! replay_all {
     ($rt:expr, $items:literal, $first:literal, $replay:ident, $type:ty, $maker:expr) => {
@@ -206,4 +224,24 @@ fn rings_of_counted_items(rt: HostRuntime) {
 #[test]
 fn rings_of_bytes(rt: HostRuntime) {
     replay_all!(&rt, "u8", 320, replay_bytes, u8, Values);
+}
+
+#[test]
+fn plain_rings_of_numbers(rt: HostRuntime) {
+    replay_plain!(&rt, "u64", 0, replay_copies, u64);
+}
+
+#[test]
+fn plain_rings_of_nothings(rt: HostRuntime) {
+    replay_plain!(&rt, "()", 80, replay_copies, ());
+}
+
+#[test]
+fn plain_rings_of_wide_items(rt: HostRuntime) {
+    replay_plain!(&rt, "320 bytes", 160, replay_copies, Wide);
+}
+
+#[test]
+fn plain_rings_of_bytes(rt: HostRuntime) {
+    replay_plain!(&rt, "u8", 320, replay_bytes, u8);
 }

@@ -26,20 +26,46 @@ macro_rules! on_growable {
     };
 }
 
-/// Calls a generic function on a new ring of each type that has a limit.
+/// Calls a generic function on a new ring of plain items of this capacity.
 #[macro_export]
-macro_rules! on_fixed {
+macro_rules! on_copies {
+    ($rt:expr, $capacity:literal, $test:ident $(, $argument:expr)*) => {
+        $test($rt, ringbuffer::CopyRingBuffer::<_, $capacity>::default() $(, $argument)*);
+    };
+}
+
+/// Calls a generic function on a new ring of each type that has a limit and takes any items.
+#[macro_export]
+macro_rules! on_fixed_of_any {
     ($rt:expr, $capacity:literal, $test:ident $(, $argument:expr)*) => {
         $crate::on_array!($rt, $capacity, $test $(, $argument)*);
         $crate::on_heap!($rt, $capacity, $test $(, $argument)*);
     };
 }
 
-/// Calls a generic function on a new ring of each type.
+/// Calls a generic function on a new ring of each type that takes any items.
+#[macro_export]
+macro_rules! on_each_of_any {
+    ($rt:expr, $capacity:literal, $test:ident $(, $argument:expr)*) => {
+        $crate::on_fixed_of_any!($rt, $capacity, $test $(, $argument)*);
+        $crate::on_growable!($rt, $capacity, $test $(, $argument)*);
+    };
+}
+
+/// Calls a generic function on a new ring of each type that has a limit. The items are plain, and have a default.
+#[macro_export]
+macro_rules! on_fixed {
+    ($rt:expr, $capacity:literal, $test:ident $(, $argument:expr)*) => {
+        $crate::on_fixed_of_any!($rt, $capacity, $test $(, $argument)*);
+        $crate::on_copies!($rt, $capacity, $test $(, $argument)*);
+    };
+}
+
+/// Calls a generic function on a new ring of each type. The items are plain, and have a default.
 #[macro_export]
 macro_rules! on_each {
     ($rt:expr, $capacity:literal, $test:ident $(, $argument:expr)*) => {
-        $crate::on_fixed!($rt, $capacity, $test $(, $argument)*);
-        $crate::on_growable!($rt, $capacity, $test $(, $argument)*);
+        $crate::on_each_of_any!($rt, $capacity, $test $(, $argument)*);
+        $crate::on_copies!($rt, $capacity, $test $(, $argument)*);
     };
 }

@@ -136,10 +136,16 @@ fn assert_blocks<T: Numbered>(
     let mut by_slice = ring_of(rt, alloc, capacity, start, held)?;
     by_slice.extend_from_slice(items.as_slice())?;
     assert_numbers(rt, &by_slice, 0, all);
+    let grown = grown_of(rt, alloc, capacity, start, held, items.as_slice(), true)?;
+    assert_equal(rt, by_slice.as_slices(), grown.as_slices());
+    assert_equal(rt, by_slice.capacity(), grown.capacity());
 
     let mut by_source = ring_of(rt, alloc, capacity, start, held)?;
     by_source.extend(items.iter().copied())?;
     assert_numbers(rt, &by_source, 0, all);
+    let grown = grown_of(rt, alloc, capacity, start, held, items.as_slice(), false)?;
+    assert_equal(rt, by_source.as_slices(), grown.as_slices());
+    assert_equal(rt, by_source.capacity(), grown.capacity());
 
     let mut ring = ring_of(rt, alloc, capacity, start, held)?;
     let mut output = block::<T>(alloc, all, count)?;
@@ -185,6 +191,33 @@ fn assert_lie_alike<T: Numbered>(
     assert_equal(rt, ring.as_slices(), popped.as_slices());
     assert_equal(rt, ring.capacity(), popped.capacity());
     Ok(())
+}
+
+/// Returns a ring as `ring_of` makes it, to which items came as they come to a deque, in room that was reserved for all of them
+/// at once or for none, or to a vector of its memory where they are many, and at least as many as it held.
+fn grown_of<T: Numbered>(
+    rt: &impl Abort,
+    alloc: Global,
+    capacity: usize,
+    start: usize,
+    held: usize,
+    items: &[T],
+    at_once: bool,
+) -> Result<GrowableAllocRingBuffer<T>, AllocError> {
+    let mut ring = ring_of(rt, alloc, capacity, start, held)?;
+    if items.len() >= 16 && items.len() >= held {
+        let mut vec = ring.into_deque().into_vec();
+        vec.extend_from_slice(items)?;
+        return GrowableAllocRingBuffer::from_vec(alloc, vec);
+    }
+    let deque = ring.as_mut();
+    if at_once {
+        deque.reserve(items.len())?;
+    }
+    for item in items {
+        assert!(rt; deque.push_back(*item).is_ok());
+    }
+    Ok(ring)
 }
 
 /// Returns where the items of a ring begin: in the first slot, in the middle, seven slots before the end, which they go

@@ -4,10 +4,10 @@ use super::{assert_equal, assert_steps};
 use ring_slots::RingSlots;
 use ring_test_support::steps::STARTS;
 use ring_test_support::steps::Step::{Begin, DequeueAll, Extend, Holds, Leaves, PushAll};
-use ring_test_support::{on_array, on_each, on_growable, on_heap};
+use ring_test_support::{on_array, on_copies, on_each, on_growable, on_heap};
 use ringbuffer::{
-    AllocRingBuffer, ConstGenericRingBuffer, DoubleEndedRing, FixedRing, GrowableAllocRingBuffer,
-    RingBuffer,
+    AllocRingBuffer, CopyRingBuffer, DoubleEndedRing, FixedRing, GrowableAllocRingBuffer,
+    RingBuffer, TakesCopies,
 };
 use std::alloc::{AllocError, Global};
 use std::process::Abort;
@@ -54,14 +54,7 @@ trait Extended: DoubleEndedRing<i64> {
     fn extend_by(&mut self, items: &[i64]) -> Result<(), AllocError>;
 }
 
-impl<const CAP: usize> Extended for ConstGenericRingBuffer<i64, CAP> {
-    fn extend_by(&mut self, items: &[i64]) -> Result<(), AllocError> {
-        self.extend_from_slice(items);
-        Ok(())
-    }
-}
-
-impl Extended for AllocRingBuffer<i64> {
+impl<S: TakesCopies<i64>> Extended for FixedRing<i64, S> {
     fn extend_by(&mut self, items: &[i64]) -> Result<(), AllocError> {
         self.extend_from_slice(items);
         Ok(())
@@ -136,6 +129,8 @@ fn slices_are_put_behind_the_items(rt: HostRuntime) {
     on_heap!(&rt, 4, assert_extends, 4);
     on_heap!(&rt, 5, assert_extends, 5);
     on_array!(&rt, 5, assert_extends, 5);
+    on_copies!(&rt, 4, assert_extends, 4);
+    on_copies!(&rt, 5, assert_extends, 5);
     on_growable!(&rt, 0, assert_extends, usize::MAX);
     let mut ring = GrowableAllocRingBuffer::new(rt.alloc());
     assert_equal(&rt, ring.extend_from_slice(&[1; 5000]).is_ok(), true);
@@ -221,4 +216,48 @@ fn items_are_made_one_slice(rt: HostRuntime) -> Result<(), AllocError> {
         assert_steps(&rt, &mut ring, &[DequeueAll(&[1, 2, 3, 4, 6])]);
     }
     Ok(())
+}
+
+/// Finds the items of a ring of plain items in two slices only where they go round its slots, and copies them to a ring
+/// that holds others.
+fn assert_shown<const CAP: usize>(
+    rt: &impl Abort,
+    mut ring: CopyRingBuffer<i64, CAP>,
+    mut other: CopyRingBuffer<i64, CAP>,
+) {
+    for len in 0..=CAP {
+        let items = &EIGHT[..len.min(8)];
+        for start in 0..STARTS {
+            assert_steps(rt, &mut ring, &[Begin(start), PushAll(items)]);
+            let to_the_last = CAP.saturating_sub(start.checked_rem(CAP).unwrap_or(0));
+            assert_equal(
+                rt,
+                ring.as_slices(),
+                items.split_at(to_the_last.min(items.len())),
+            );
+            ring.copy_into(&mut other);
+            assert_equal(rt, ring == other, true);
+            assert_steps(rt, &mut other, &[Holds(items), PushAll(&[9])]);
+            assert_steps(rt, &mut ring, &[DequeueAll(items)]);
+        }
+    }
+}
+
+#[test]
+fn plain_items_are_shown_and_copied(rt: HostRuntime) {
+    assert_shown(
+        &rt,
+        CopyRingBuffer::<i64, 1>::new(7),
+        CopyRingBuffer::new(7),
+    );
+    assert_shown(
+        &rt,
+        CopyRingBuffer::<i64, 5>::new(7),
+        CopyRingBuffer::new(7),
+    );
+    assert_shown(
+        &rt,
+        CopyRingBuffer::<i64, 8>::new(7),
+        CopyRingBuffer::new(7),
+    );
 }

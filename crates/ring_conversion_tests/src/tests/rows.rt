@@ -1,7 +1,9 @@
 //! Rings of each source: of two characters, of three numbers, and of deques in two pieces.
 
 use super::{assert_equal, assert_holds};
-use ringbuffer::{AllocRingBuffer, ConstGenericRingBuffer, GrowableAllocRingBuffer, RingBuffer};
+use ringbuffer::{
+    AllocRingBuffer, ConstGenericRingBuffer, CopyRingBuffer, GrowableAllocRingBuffer, RingBuffer,
+};
 use std::alloc::AllocError;
 use std::collections::{LinkedList, VecDeque};
 use std::process::Abort;
@@ -142,6 +144,57 @@ fn array_rings_of_two_characters(rt: HostRuntime) {
     assert_lists(rt, Ok(Array::from_array(ITEMS.map(Some))), pushed);
     assert_lists(rt, Ok(Array::from_growable(growable(rt))), pushed);
     assert_lists(rt, Ok(Array::from_alloc(heap(rt))), pushed);
+}
+
+#[test]
+fn plain_rings_of_two_characters(rt: HostRuntime) {
+    type Plain = CopyRingBuffer<char, 2>;
+    let (rt, alloc, pushed, all) = (&rt, rt.alloc(), &['2', '3'], &['1', '2', '3']);
+    let mut items = ITEMS;
+    assert_lists(rt, Ok(Plain::from_iter('x', vector(rt))), pushed);
+    assert_lists(rt, Ok(Plain::from_vec('x', vector(rt))), pushed);
+    assert_lists(rt, Ok(Plain::from_linked_list('x', list(rt))), pushed);
+    let deque = VecDeque::from(vector(rt));
+    assert_lists(rt, Ok(Plain::from_deque('x', deque)), pushed);
+    assert_lists(rt, Ok(Plain::from_string(text(rt))), pushed);
+    assert_lists(rt, Ok(Plain::from_text("12")), pushed);
+    assert_lists(rt, Ok(Plain::from_slice('x', &ITEMS)), pushed);
+    assert_lists(rt, Ok(Plain::from_mut_slice('x', &mut items)), pushed);
+    assert_lists(rt, Ok(Plain::from_array(ITEMS)), pushed);
+    assert_lists(rt, Ok(Plain::from_array_ref(&ITEMS)), pushed);
+    assert_lists(rt, Ok(Plain::from_mut_array(&mut items)), pushed);
+    assert_lists(rt, Ok(Plain::from_growable('x', growable(rt))), pushed);
+    assert_lists(rt, Ok(Plain::from_alloc('x', heap(rt))), pushed);
+    assert_lists(rt, Ok(Plain::from_const('x', array())), pushed);
+    let larger = CopyRingBuffer::<char, 3>::from_slice('x', &['0', '1', '2']);
+    assert_lists(rt, Ok(Plain::from_const('x', larger)), pushed);
+    let plain = Plain::from_array(ITEMS);
+    assert!(rt; 0 < plain.len());
+    assert_lists(
+        rt,
+        AllocRingBuffer::from_const(alloc, plain.copied()),
+        pushed,
+    );
+    assert_lists(rt, GrowableAllocRingBuffer::from_const(alloc, plain), all);
+}
+
+#[test]
+fn plain_rings_keep_the_last_of_a_source(rt: HostRuntime) {
+    type Plain = CopyRingBuffer<i64, 3>;
+    let rt = &rt;
+    for (items, held) in [
+        (&[][..], &[][..]),
+        (&[1, 2], &[1, 2]),
+        (&[1, 2, 3, 4], &[2, 3, 4]),
+    ] {
+        assert_holds(rt, &Plain::from_slice(9, items), held);
+        assert_holds(rt, &Plain::from_iter(9, items.iter().copied()), held);
+    }
+    assert_holds(rt, &Plain::from_deque(9, in_two_pieces(rt)), &[2, 3, 1]);
+    let growable = GrowableAllocRingBuffer::from(in_two_pieces(rt));
+    assert_holds(rt, &Plain::from_growable(9, growable), &[2, 3, 1]);
+    let text = CopyRingBuffer::<char, 3>::from_text("\u{e9}1zb");
+    assert_equal(rt, text.front().copied(), Some('1'));
 }
 
 /// Makes a vector of 1, 2 and 3.

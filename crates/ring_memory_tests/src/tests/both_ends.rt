@@ -5,7 +5,7 @@ use super::{
     supply,
 };
 use ring_test_support::counted::{Counted, Supply};
-use ring_test_support::{on_each, on_growable};
+use ring_test_support::{on_each_of_any, on_growable};
 use ringbuffer::{DoubleEndedRing, RingBuffer, RingBufferIntoIterator, retain};
 use std::process::Abort;
 
@@ -67,6 +67,6 @@ fn assert_walk_drops_the_rest<'a, R: DoubleEndedRing<Counted<'a>> + Drop>(
 #[test]
 fn a_filter_and_a_walk_drop_each_item_once(rt: HostRuntime) {
     let supply = supply(&rt, 4);
-    on_each!(&rt, 4, assert_filter_drops, &supply);
-    on_each!(&rt, 4, assert_walk_drops_the_rest, &supply);
+    on_each_of_any!(&rt, 4, assert_filter_drops, &supply);
+    on_each_of_any!(&rt, 4, assert_walk_drops_the_rest, &supply);
 }

@@ -5,7 +5,7 @@ use super::{
     next, push_first, push_items, supply,
 };
 use ring_test_support::counted::{Counted, Supply};
-use ring_test_support::{on_each, on_fixed, on_growable};
+use ring_test_support::{on_each_of_any, on_fixed, on_fixed_of_any, on_growable};
 use ringbuffer::{
     AllocRingBuffer, Command, RingBuffer, RingBufferDrainingIterator, RingBufferIntoIterator, apply,
 };
@@ -57,9 +57,9 @@ fn assert_drops_overwritten<'a, R: RingBuffer<Counted<'a>> + Drop>(
 #[test]
 fn what_a_push_hands_back_lives_until_it_is_dropped(rt: HostRuntime) {
     let supply = supply(&rt, 4);
-    on_fixed!(&rt, 1, assert_hands_back, &supply, true);
+    on_fixed_of_any!(&rt, 1, assert_hands_back, &supply, true);
     on_growable!(&rt, 1, assert_hands_back, &supply, false);
-    on_fixed!(&rt, 1, assert_drops_overwritten, &supply, 1);
+    on_fixed_of_any!(&rt, 1, assert_drops_overwritten, &supply, 1);
     on_growable!(&rt, 1, assert_drops_overwritten, &supply, 0);
 }
 
@@ -93,8 +93,8 @@ fn assert_ends_in_order<'a, R: RingBuffer<Counted<'a>> + Drop>(
 #[test]
 fn a_ring_that_ends_drops_the_oldest_item_first(rt: HostRuntime) {
     let supply = supply(&rt, 5);
-    on_each!(&rt, 3, assert_ends, &supply);
-    on_each!(&rt, 3, assert_ends_in_order, &supply);
+    on_each_of_any!(&rt, 3, assert_ends, &supply);
+    on_each_of_any!(&rt, 3, assert_ends_in_order, &supply);
 }
 
 fn assert_skips_and_clears<'a, R: RingBuffer<Counted<'a>> + Drop>(
@@ -125,8 +125,8 @@ fn assert_writes<'a, R: RingBuffer<Counted<'a>> + Drop>(
 #[test]
 fn a_skip_a_clear_and_a_write_drop_at_once(rt: HostRuntime) {
     let supply = supply(&rt, 5);
-    on_each!(&rt, 4, assert_skips_and_clears, &supply);
-    on_each!(&rt, 2, assert_writes, &supply);
+    on_each_of_any!(&rt, 4, assert_skips_and_clears, &supply);
+    on_each_of_any!(&rt, 2, assert_writes, &supply);
 }
 
 #[test]
@@ -177,9 +177,9 @@ fn assert_applied<'a, R: RingBuffer<Counted<'a>> + Drop>(
 #[test]
 fn an_extension_drops_what_it_overwrites(rt: HostRuntime) {
     let supply = supply(&rt, 5);
-    on_fixed!(&rt, 2, assert_extends, &supply, 1);
+    on_fixed_of_any!(&rt, 2, assert_extends, &supply, 1);
     on_growable!(&rt, 2, assert_extends, &supply, 0);
-    on_each!(&rt, 2, assert_applied, &supply);
+    on_each_of_any!(&rt, 2, assert_applied, &supply);
 }
 
 fn assert_drains<'a, R: RingBuffer<Counted<'a>> + Drop>(
@@ -214,8 +214,8 @@ fn assert_walk_ends<'a, R: RingBuffer<Counted<'a>> + Drop>(
 #[test]
 fn a_walk_that_takes_hands_its_items_over(rt: HostRuntime) {
     let supply = supply(&rt, 4);
-    on_each!(&rt, 4, assert_drains, &supply);
-    on_each!(&rt, 4, assert_walk_ends, &supply);
+    on_each_of_any!(&rt, 4, assert_drains, &supply);
+    on_each_of_any!(&rt, 4, assert_walk_ends, &supply);
 }
 
 fn assert_takes_nothings<R: RingBuffer<()> + Drop>(rt: &impl Abort, mut ring: R, kept: usize) {

@@ -10,10 +10,10 @@ use ring_test_support::steps::Step::{
     Write, WriteBack, WriteFront, WriteSigned,
 };
 use ring_test_support::steps::{Outcome, Step, first_fault};
-use ring_test_support::{on_each, on_fixed, on_growable};
+use ring_test_support::{on_each, on_fixed, on_fixed_of_any, on_growable};
 use ringbuffer::{
-    AllocRingBuffer, Command, DoubleEndedRing, GrowableAllocRingBuffer, Reply, RingBuffer,
-    RingBufferExt, RingBufferIntoIterator, RunFault, apply, move_all, run, run_into,
+    AllocRingBuffer, Command, CopyRingBuffer, DoubleEndedRing, GrowableAllocRingBuffer, Reply,
+    RingBuffer, RingBufferExt, RingBufferIntoIterator, RunFault, apply, move_all, run, run_into,
 };
 use std::alloc::AllocError;
 use std::mem::size_of;
@@ -69,8 +69,18 @@ fn assert_takes_large<R: RingBuffer<[u64; 512]> + Drop>(rt: &impl Abort, mut rin
 
 #[test]
 fn items_may_be_large(rt: HostRuntime) {
-    on_fixed!(&rt, 2, assert_takes_large);
+    on_fixed_of_any!(&rt, 2, assert_takes_large);
+    assert_takes_large(&rt, CopyRingBuffer::<[u64; 512], 2>::new([0; 512]));
     on_growable!(&rt, 0, assert_takes_large);
+}
+
+// A start and a length lie beside the items.
+#[test]
+fn plain_items_have_no_mark(rt: HostRuntime) {
+    let span = size_of::<(usize, usize)>();
+    assert_equal(&rt, size_of::<CopyRingBuffer<u8, 64>>(), span + 64);
+    assert_equal(&rt, size_of::<CopyRingBuffer<u64, 64>>(), span + 8 * 64);
+    assert_equal(&rt, size_of::<CopyRingBuffer<u64, 1>>(), span + 8);
 }
 
 /// Capacities of heap rings of items without size, and the slots that they have.

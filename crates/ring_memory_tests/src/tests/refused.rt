@@ -8,7 +8,7 @@ use super::{
 };
 use ring_test_support::counted::{Counted, Supply};
 use ring_test_support::drought::{Drought, MOST_STEPS, is_in_turn, spared};
-use ring_test_support::{on_each, on_growable, on_heap, refused_in_turn};
+use ring_test_support::{on_each, on_each_of_any, on_growable, on_heap, refused_in_turn};
 use ringbuffer::{
     AllocRingBuffer, Command, ConstGenericRingBuffer, GrowableAllocRingBuffer, Refused, Reply,
     RingBuffer, RunFault, Stopped, apply, run, run_into,
@@ -133,8 +133,8 @@ fn assert_copies_refused<'a, R: RingBuffer<Counted<'a>> + Clone + Drop>(
 #[test]
 fn a_refused_clone_of_an_item_ends_a_clone_or_a_list(rt: HostRuntime) {
     let supply = supply(&rt, 6);
-    on_each!(&rt, 3, assert_clones_refused, &supply, Copying::Ring);
-    on_each!(&rt, 3, assert_clones_refused, &supply, Copying::List);
+    on_each_of_any!(&rt, 3, assert_clones_refused, &supply, Copying::Ring);
+    on_each_of_any!(&rt, 3, assert_clones_refused, &supply, Copying::List);
 }
 
 /// Clones the three items of a ring into another that holds three, where from none to three clones are had.
@@ -173,7 +173,7 @@ fn a_clone_and_a_list_are_refused_in_turn(rt: HostRuntime) {
     let supply = supply(&rt, 6);
     on_heap!(&rt, 3, assert_copies_refused, &supply, Copying::Ring);
     on_growable!(&rt, 0, assert_copies_refused, &supply, Copying::Ring);
-    on_each!(&rt, 3, assert_copies_refused, &supply, Copying::List);
+    on_each_of_any!(&rt, 3, assert_copies_refused, &supply, Copying::List);
 }
 
 /// Fills a ring where from none to more clones are had than there is room for.
@@ -222,10 +222,10 @@ fn assert_filled_in_a_drought<'a, R: RingBuffer<Counted<'a>> + Drop>(
 #[test]
 fn a_refused_clone_or_memory_ends_a_fill(rt: HostRuntime) {
     let supply = supply(&rt, 40);
-    on_each!(&rt, 3, assert_fill_refused, &supply);
+    on_each_of_any!(&rt, 3, assert_fill_refused, &supply);
     assert_fill_refused(&rt, OwnRing::new(rt.alloc()), &supply);
-    on_each!(&rt, 3, assert_filled_in_a_drought, &supply, false);
-    on_each!(&rt, 3, assert_filled_in_a_drought, &supply, true);
+    on_each_of_any!(&rt, 3, assert_filled_in_a_drought, &supply, false);
+    on_each_of_any!(&rt, 3, assert_filled_in_a_drought, &supply, true);
     assert_filled_in_a_drought(&rt, OwnRing::new(rt.alloc()), &supply, true);
 }
 

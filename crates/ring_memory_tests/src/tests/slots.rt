@@ -1,7 +1,7 @@
-//! Slots of both kinds, by themselves.
+//! Slots of each kind, by themselves.
 
 use super::{assert_drops, assert_equal, drought, next, supply};
-use ring_slots::{ArraySlots, HeapSlots, RingSlots};
+use ring_slots::{ArraySlots, CopySlots, HeapSlots, RingSlots};
 use std::alloc::AllocError;
 
 #[test]
@@ -17,6 +17,17 @@ fn slots_hold_items_without_more_memory(rt: HostRuntime) -> Result<(), AllocErro
     assert_equal(&rt, slots.take(0), "a");
     slots.put(1, "d");
     assert_equal(&rt, slots.take(1), "d");
+    let mut plain = CopySlots::<&str, 2>::new("-");
+    plain.put(1, "b");
+    plain.put(0, "a");
+    assert_equal(&rt, *plain.get(1), "b");
+    *plain.get_mut(1) = "c";
+    assert_equal(&rt, *plain.get(0), "a");
+    assert_equal(&rt, plain.take(1), "c");
+    assert_equal(&rt, plain.take(0), "a");
+    plain.put_copies(0, &["d", "e"]);
+    assert_equal(&rt, plain.copied().take(1), "e");
+    assert_equal(&rt, plain.take(1), "e");
     heap.put(1, "b");
     heap.put(0, "a");
     assert_equal(&rt, *heap.get(1), "b");

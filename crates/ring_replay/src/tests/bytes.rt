@@ -7,7 +7,8 @@ use super::makers::try_out;
 use super::player::{Done, Player};
 use super::rings::PlayedCopies;
 use ringbuffer::{
-    AllocRingBuffer, ConstGenericRingBuffer, GrowableAllocRingBuffer, LastBytes, RingBuffer,
+    AllocRingBuffer, ConstGenericRingBuffer, CopyRingBuffer, GrowableAllocRingBuffer, LastBytes,
+    RingBuffer,
 };
 use std::alloc::AllocError;
 use std::io::{self, BufRead, Read, Write};
@@ -140,6 +141,40 @@ impl<const CAP: usize> PlayedBytes for ConstGenericRingBuffer<u8, CAP> {
                 return try_out(made, player);
             }
             2 => return play_array_of_three(player),
+            _ => return play_stream(self, player),
+        }
+        Ok(())
+    }
+}
+
+// Makers of rings of plain items that take three bytes.
+fn play_plain_of_three<M: Maker<u8>>(player: &mut Player<M>) -> Done {
+    let mut bytes = three(player);
+    let made = match player.up_to(2) {
+        0 => CopyRingBuffer::from_array(bytes),
+        1 => CopyRingBuffer::from_array_ref(&bytes),
+        _ => CopyRingBuffer::from_mut_array(&mut bytes),
+    };
+    try_out(made, player)
+}
+
+impl<const CAP: usize> PlayedBytes for CopyRingBuffer<u8, CAP> {
+    fn play_bytes<M: Maker<u8> + Maker<char>>(&mut self, player: &mut Player<M>) -> Done {
+        match player.up_to(11) {
+            1 => *self = keep_last(self.copied(), player)?,
+            0 => {
+                let text = text(player)?;
+                if text.is_empty() {
+                    return Ok(());
+                }
+                let made = if player.flip() {
+                    CopyRingBuffer::<char, 5>::from_text(&text)
+                } else {
+                    CopyRingBuffer::<char, 5>::from_string(text)
+                };
+                return try_out(made, player);
+            }
+            2 => return play_plain_of_three(player),
             _ => return play_stream(self, player),
         }
         Ok(())

@@ -2,7 +2,10 @@
 
 use super::items::Maker;
 use super::player::{Done, Player};
-use ringbuffer::{AllocRingBuffer, ConstGenericRingBuffer, GrowableAllocRingBuffer, RingBuffer};
+use super::rings::Plain;
+use ringbuffer::{
+    AllocRingBuffer, ConstGenericRingBuffer, CopyRingBuffer, GrowableAllocRingBuffer, RingBuffer,
+};
 use std::alloc::AllocError;
 use std::collections::{LinkedList, VecDeque};
 
@@ -69,6 +72,41 @@ impl<T: Clone + Drop, const CAP: usize> Made<T> for ConstGenericRingBuffer<T, CA
                     7 => Self::from_slice(&items)?,
                     8 => Self::from_mut_slice(&mut items)?,
                     _ => Self::from_growable(GrowableAllocRingBuffer::from(items)),
+                };
+            }
+        }
+        Ok(())
+    }
+}
+
+impl<T: Plain, const CAP: usize> Made<T> for CopyRingBuffer<T, CAP> {
+    fn play_makers<M: Maker<T>>(&mut self, player: &mut Player<M>) -> Done {
+        let (alloc, call) = (player.alloc, player.up_to(9));
+        if CAP == 0 {
+            return Ok(());
+        }
+        let filler = T::default();
+        match call {
+            0 => {
+                if !self.is_empty() {
+                    return try_out(AllocRingBuffer::from_const(alloc, self.copied())?, player);
+                }
+            }
+            1 => {
+                let made = GrowableAllocRingBuffer::from_const(alloc, self.copied())?;
+                return try_out(made, player);
+            }
+            2 => *self = Self::from_linked_list(filler, list(player)?),
+            3 => *self = Self::from_alloc(filler, heap(player)?),
+            _ => {
+                let mut items: Vec<T> = player.items()?;
+                *self = match call {
+                    4 => Self::from_iter(filler, items),
+                    5 => Self::from_vec(filler, items),
+                    6 => Self::from_deque(filler, VecDeque::from(items)),
+                    7 => Self::from_slice(filler, &items),
+                    8 => Self::from_mut_slice(filler, &mut items),
+                    _ => Self::from_growable(filler, GrowableAllocRingBuffer::from(items)),
                 };
             }
         }

@@ -6,8 +6,8 @@ use super::items::{Maker, Wide};
 use super::makers::Made;
 use super::player::{Done, Player};
 use ringbuffer::{
-    AllocRingBuffer, ConstGenericRingBuffer, DoubleEndedRing, GrowableAllocRingBuffer, RingBuffer,
-    move_all,
+    AllocRingBuffer, ConstGenericRingBuffer, CopyRingBuffer, DoubleEndedRing,
+    GrowableAllocRingBuffer, RingBuffer, move_all,
 };
 use std::alloc::AllocError;
 use std::collections::VecDeque;
@@ -173,6 +173,40 @@ impl<T: Clone + Drop, const CAP: usize> Played<T> for ConstGenericRingBuffer<T, 
 }
 
 impl<T: Plain, const CAP: usize> PlayedCopies<T> for ConstGenericRingBuffer<T, CAP> {
+    fn play_copies<M: Maker<T>>(&mut self, player: &mut Player<M>) -> Done {
+        match player.up_to(2) {
+            0..=1 => play_copies!(self, player, items, self.extend_from_slice(&items)),
+            _ => comparing::play(self, player),
+        }
+    }
+}
+
+/// The calls are those of array rings, so that the answers are.
+impl<T: Plain, const CAP: usize> Played<T> for CopyRingBuffer<T, CAP> {
+    fn play_own<M: Maker<T>>(&mut self, player: &mut Player<M>) -> Done {
+        match player.up_to(15) {
+            0..=6 => play_ends!(self, player),
+            7..=13 => play_middle!(self, player),
+            14 => fill(self, player)?,
+            _ => {
+                let items: Vec<T> = player.items()?;
+                if 0 < CAP {
+                    let mut ring = CopyRingBuffer::<T, CAP>::from_iter(T::default(), items);
+                    player.note_ring(&ring);
+                    self.copy_into(&mut ring);
+                    player.note_ring(&ring);
+                }
+            }
+        }
+        Ok(())
+    }
+
+    fn extend_by_std(&mut self, items: Vec<T>) -> Done {
+        Extend::extend(self, items)
+    }
+}
+
+impl<T: Plain, const CAP: usize> PlayedCopies<T> for CopyRingBuffer<T, CAP> {
     fn play_copies<M: Maker<T>>(&mut self, player: &mut Player<M>) -> Done {
         match player.up_to(2) {
             0..=1 => play_copies!(self, player, items, self.extend_from_slice(&items)),

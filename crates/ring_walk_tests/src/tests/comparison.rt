@@ -4,7 +4,8 @@ use super::{assert_equal, assert_holds, assert_steps, push_all};
 use ring_test_support::steps::Step;
 use ring_test_support::{on_fixed, on_growable, on_heap};
 use ringbuffer::{
-    AllocRingBuffer, ConstGenericRingBuffer, DoubleEndedRing, GrowableAllocRingBuffer, RingBuffer,
+    AllocRingBuffer, ConstGenericRingBuffer, CopyRingBuffer, DoubleEndedRing,
+    GrowableAllocRingBuffer, RingBuffer,
 };
 use std::alloc::AllocError;
 use std::fmt::Debug;
@@ -62,6 +63,8 @@ fn assert_equal_where_items_are<R: DoubleEndedRing<i64> + PartialEq + Drop>(
 fn rings_are_equal_where_their_items_are(rt: HostRuntime) -> Result<(), AllocError> {
     let one = ConstGenericRingBuffer::<i64, 4>::new();
     assert_equal_where_items_are(&rt, one, ConstGenericRingBuffer::new());
+    let one = CopyRingBuffer::<i64, 4>::new(0);
+    assert_equal_where_items_are(&rt, one, CopyRingBuffer::new(7));
     let one = AllocRingBuffer::new(rt.alloc(), 4)?;
     assert_equal_where_items_are(&rt, one, AllocRingBuffer::new(rt.alloc(), 4)?);
     let one = GrowableAllocRingBuffer::with_capacity(rt.alloc(), 4)?;

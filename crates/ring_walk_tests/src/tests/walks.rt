@@ -7,7 +7,7 @@ use ring_test_support::steps::End::{self, Back, Front};
 use ring_test_support::steps::Step::{
     self, Adds, Clear, Contains, Drains, Holds, Len, Lends, PushAll, Reads, Skip,
 };
-use ring_test_support::{on_each, on_fixed, on_growable};
+use ring_test_support::{on_each, on_each_of_any, on_fixed, on_growable};
 use ringbuffer::{
     DoubleEndedRing, FixedRing, GrowableAllocRingBuffer, RingBuffer, RingBufferExt,
     RingBufferIntoIterator,
@@ -175,10 +175,10 @@ fn assert_borrows<T: Copy + PartialEq + Debug + Drop, R: RingBuffer<T> + Drop>(
 fn items_may_be_borrowed(rt: HostRuntime) -> Result<(), AllocError> {
     let text = String::from_str(rt.alloc(), "abc")?;
     let letters = [&text[0..1], &text[1..2], &text[2..3]];
-    on_each!(&rt, 8, assert_borrows, &letters, &["a", "b", "c"]);
+    on_each_of_any!(&rt, 8, assert_borrows, &letters, &["a", "b", "c"]);
     let numbers = [1, 2, 3];
     let items = [&numbers[0], &numbers[1], &numbers[2]];
-    on_each!(&rt, 3, assert_borrows, &items, &[&1, &2, &3]);
+    on_each_of_any!(&rt, 3, assert_borrows, &items, &[&1, &2, &3]);
     Ok(())
 }
 

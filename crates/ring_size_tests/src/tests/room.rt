@@ -1,0 +1,90 @@
+//! The room of growable rings: how it grows, and that it stays.
+
+use super::{assert_equal, assert_numbers, block};
+use ringbuffer::{GrowableAllocRingBuffer, RingBuffer, dequeue_while, retain};
+use std::alloc::AllocError;
+use std::io::BufRead;
+
+// As a deque's, room grows to twice what it was: some 80,000 items need it to grow 14 times from 8 on.
+#[test]
+fn room_grows_by_doubling(rt: HostRuntime) -> Result<(), AllocError> {
+    let mut ring = GrowableAllocRingBuffer::<u64>::new(rt.alloc());
+    let (mut growths, mut held, mut room) = (0usize, 0usize, 0usize);
+    for _ in 0..10_000 {
+        let items = block::<u64>(rt.alloc(), held, 8)?;
+        ring.extend_from_slice(items.as_slice())?;
+        held = held.saturating_add(8);
+        if ring.capacity() != room {
+            assert!(&rt; ring.capacity() <= room.saturating_mul(2).max(held));
+            room = ring.capacity();
+            growths = growths.saturating_add(1);
+        }
+    }
+    assert!(&rt; growths <= 15);
+    assert_numbers(&rt, &ring, 0, 80_000);
+    Ok(())
+}
+
+#[test]
+fn an_extension_takes_no_more_room_than_twice(rt: HostRuntime) -> Result<(), AllocError> {
+    for (room, count) in [(0, 16), (100, 101), (1000, 1001), (1000, 70_000)] {
+        let items = block::<u64>(rt.alloc(), 0, count)?;
+        let most = count.max(2usize.saturating_mul(room));
+        let mut by_slice = GrowableAllocRingBuffer::<u64>::with_capacity(rt.alloc(), room)?;
+        by_slice.extend_from_slice(items.as_slice())?;
+        assert!(&rt; by_slice.capacity() >= count && by_slice.capacity() <= most);
+        let mut by_source = GrowableAllocRingBuffer::<u64>::with_capacity(rt.alloc(), room)?;
+        by_source.extend(items.iter().copied())?;
+        assert!(&rt; by_source.capacity() >= count && by_source.capacity() <= most);
+    }
+    Ok(())
+}
+
+#[test]
+fn room_stays_where_items_leave(rt: HostRuntime) -> Result<(), AllocError> {
+    let mut ring = GrowableAllocRingBuffer::<u64>::new(rt.alloc());
+    ring.extend_from_slice(block(rt.alloc(), 0, 5000)?.as_slice())?;
+    let room = ring.capacity();
+    let _ = ring.pop_back();
+    let _ = ring.dequeue();
+    ring.keep_newest(4000);
+    ring.truncate(3000);
+    assert_equal(&rt, ring.capacity(), room);
+    assert_equal(&rt, retain(&mut ring, |item| *item % 2 == 0), Ok(()));
+    let _ = dequeue_while(&mut ring, |item| *item < 2000);
+    assert_equal(&rt, ring.capacity(), room);
+    let mut output = block(rt.alloc(), 0, 100)?;
+    let _ = ring.dequeue_into(output.as_mut_slice());
+    ring.clear();
+    assert_equal(&rt, ring.capacity(), room);
+    Ok(())
+}
+
+#[test]
+fn an_empty_ring_uses_its_room(rt: HostRuntime) -> Result<(), AllocError> {
+    for count in [1, 15, 16, 17, 1000] {
+        let items = block::<u64>(rt.alloc(), 0, count)?;
+        let mut ring = GrowableAllocRingBuffer::<u64>::with_capacity(rt.alloc(), 1000)?;
+        let room = ring.capacity();
+        ring.extend_from_slice(items.as_slice())?;
+        assert_equal(&rt, ring.capacity(), room);
+        ring.clear();
+        ring.extend(items.iter().copied())?;
+        assert_equal(&rt, ring.capacity(), room);
+        assert_numbers(&rt, &ring, 0, count);
+    }
+    Ok(())
+}
+
+#[test]
+fn room_stays_where_bytes_are_lent(rt: HostRuntime) -> Result<(), AllocError> {
+    let mut ring = GrowableAllocRingBuffer::<u8>::with_capacity(rt.alloc(), 1000)?;
+    ring.extend_from_slice(block(rt.alloc(), 0, 600)?.as_slice())?;
+    let room = ring.capacity();
+    let lent = ring.fill_buf().map_or(0, |bytes| bytes.len());
+    assert_equal(&rt, lent, 600);
+    assert_equal(&rt, ring.capacity(), room);
+    ring.consume(500);
+    assert_equal(&rt, ring.capacity(), room);
+    Ok(())
+}
