@@ -1,0 +1,78 @@
+//! A push onto a window and its reading.
+
+use crate::case::Case;
+use ringbuffer::RingBuffer;
+use std::alloc::{AllocError, Global};
+use window::{
+    AllocWindowFold, AllocWindowMin, AllocWindowSum, Candidate, ConstGenericWindowMin,
+    ConstGenericWindowSum, Gcd, Kept, Order, WindowFold, WindowLeast, WindowSum,
+};
+
+/// Slides the window that a case names over a random walk, and returns what it found, as a number.
+pub fn slide(alloc: Global, kind: &str, case: Case<'_>) -> Result<u64, AllocError> {
+    let capacity = case.held.max(1);
+    Ok(match (kind, case.call) {
+        ("heap", "sum") => sum(&mut AllocWindowSum::on_heap(alloc, capacity)?, case.times),
+        ("array", "sum") => sum(&mut ConstGenericWindowSum::<1000>::in_array(), case.times),
+        ("heap", "least") => least(
+            &mut AllocWindowMin::<i64>::on_heap(alloc, capacity)?,
+            case.times,
+        ),
+        ("array", "least") => least(
+            &mut ConstGenericWindowMin::<i64, 1000>::in_array(),
+            case.times,
+        ),
+        ("heap", "fold") => fold(
+            &mut AllocWindowFold::<Gcd>::on_heap(alloc, capacity)?,
+            case.times,
+        ),
+        _ => 0,
+    })
+}
+
+/// Returns the next number of a walk, after Knuth.
+#[inline]
+fn next(number: u64) -> u64 {
+    number
+        .wrapping_mul(6_364_136_223_846_793_005)
+        .wrapping_add(1_442_695_040_888_963_407)
+}
+
+#[inline(never)]
+fn sum<R: RingBuffer<i64>>(window: &mut WindowSum<R>, times: u32) -> u64 {
+    let mut number = 7;
+    let mut found = 0u64;
+    for _ in 0..times {
+        number = next(number);
+        let _ = window.push((number >> 40) as i64);
+        found ^= window.len() as u64;
+    }
+    found
+}
+
+#[inline(never)]
+fn least<O: Order<i64>, R: RingBuffer<Candidate<i64>>>(
+    window: &mut WindowLeast<i64, O, R>,
+    times: u32,
+) -> u64 {
+    let mut number = 7;
+    let mut found = 0u64;
+    for _ in 0..times {
+        number = next(number);
+        let _ = window.push((number >> 40) as i64);
+        found ^= window.least().map_or(0, |least| least.cast_unsigned());
+    }
+    found
+}
+
+#[inline(never)]
+fn fold<R: RingBuffer<Kept<Gcd>>>(window: &mut WindowFold<Gcd, R>, times: u32) -> u64 {
+    let mut number = 7;
+    let mut found = 0u64;
+    for _ in 0..times {
+        number = next(number);
+        let _ = window.push(Gcd(number >> 40));
+        found ^= window.fold().0;
+    }
+    found
+}
