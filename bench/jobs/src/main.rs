@@ -1,4 +1,4 @@
-//! `ring-jobs-yardstick JOB SEED ROUNDS`: does the jobs of `crates/ring_jobs` over the Rust crate `ringbuffer` and std, and
+//! `ring-jobs-yardstick JOB SEED ROUNDS`: does the jobs of `crates/ring_jobs` and `crates/ring_streams` over the Rust crate `ringbuffer` and std, and
 //! prints the same digest.
 //!
 //! The crate's rings do what they have a call for. Where they lack one, a `VecDeque` that is kept to a capacity by hand does.
@@ -9,6 +9,8 @@ mod commands;
 mod digest;
 mod edits;
 mod fold_hasher;
+mod frames;
+mod lines;
 mod overwriting;
 mod pipe;
 mod random;
@@ -35,11 +37,13 @@ fn one(job: &str, seed: u64, rounds: u32) -> u64 {
         "pipe" => pipe::run(seed, rounds),
         "samples" => samples::run(seed, rounds),
         "edits" => edits::run(seed, rounds),
+        "frames" => frames::run(seed, rounds),
+        "lines" => lines::run(seed, rounds),
         _ => 0,
     }
 }
 
-/// Does all jobs, and returns a digest of their digests.
+/// Does all jobs of `ring_jobs`, and returns a digest of their digests.
 fn all(seed: u64, rounds: u32) -> u64 {
     let mut digest = Digest::new();
     for job in JOBS {
