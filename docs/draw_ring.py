@@ -12,7 +12,7 @@ ROOT = pathlib.Path(__file__).resolve().parent.parent
 NAMES = {
     "crates/ring_slots/src/place.rt": ["masked", "mask"],
     "crates/ringbuffer/src/steps.rt": ["put_over", "start", "len"],
-    "crates/ringbuffer/src/contiguous.rt": ["as_slices"],
+    "crates/ringbuffer/src/slices.rt": ["as_slices"],
     "crates/ringbuffer/src/fixed.rt": ["capacity", "get_signed"],
 }
 

@@ -3,11 +3,9 @@
 //! `time` prints a line `work;capacity;contender;nanoseconds` for each, `time WORK` those of one kind of work, `time-own`
 //! those of this repository's rings. `list` prints the same names, each with how many items to count instructions for,
 //! and `once CONTENDER WORK CAPACITY ITEMS` does one piece of work, for a program that counts them. `table TIMES COUNTS`
-//! prints both as tables of Markdown, where a time that is given twice is the lesser, and `chart COUNTS` a picture of
-//! ratios to the best rival.
+//! prints both as tables of Markdown, where a time that is given twice is the lesser.
 
 mod bounded;
-mod chart;
 mod limit;
 mod pipe;
 mod rust_side;
@@ -204,7 +202,6 @@ fn main() {
             let read = |path: &str| fs::read_to_string(path).expect("a file of measurements");
             print!("{}", table::tables(&read(times), &read(counts)));
         }
-        ["chart", counts] => print!("{}", chart::svg(&table::ratios_to_best(&fs::read_to_string(counts).expect("a file of measurements")))),
-        _ => panic!("time [WORK] | time-own | list | once CONTENDER WORK CAPACITY ITEMS | table TIMES COUNTS | chart COUNTS"),
+        _ => panic!("time [WORK] | time-own | list | once CONTENDER WORK CAPACITY ITEMS | table TIMES COUNTS"),
     }
 }

@@ -1,6 +1,5 @@
 //! Tables of Markdown out of lines `work;capacity;contender;number`.
 
-use crate::chart::Panel;
 use crate::work::Work;
 use crate::CONTENDERS;
 use std::collections::HashMap;
@@ -26,10 +25,17 @@ fn numbers(lines: &str) -> Numbers<'_> {
     numbers
 }
 
-/// Each kind of work at each capacity that was measured.
+/// The capacity that the tables show. Work that isn't measured there is shown at all of its own.
+const SHOWN: usize = 1000;
+
+/// Each kind of work that was measured, at the capacity that is shown.
 fn rows<'a>(numbers: &'a Numbers) -> impl Iterator<Item = Row> + 'a {
-    let all = Work::ALL.into_iter().flat_map(|work| work.capacities().iter().map(move |capacity| (work.name(), *capacity)));
-    all.filter(|row| numbers.keys().any(|(work, capacity, _)| (*work, *capacity) == *row))
+    let measured = |row: &Row| numbers.keys().any(|(work, capacity, _)| (*work, *capacity) == *row);
+    Work::ALL.into_iter().flat_map(move |work| {
+        let all: Vec<Row> = work.capacities().iter().map(|capacity| (work.name(), *capacity)).filter(measured).collect();
+        let shown: Vec<Row> = all.iter().copied().filter(|(_, capacity)| *capacity == SHOWN).collect();
+        if shown.is_empty() { all } else { shown }
+    })
 }
 
 /// A number as a cell. A byte takes so little that two places of it would say nothing.
@@ -41,7 +47,7 @@ fn cell(number: Option<f64>) -> String {
     }
 }
 
-/// A table of Markdown: in each row a cell of each column, of which it has the name and the number.
+/// A table of Markdown: in each row a cell of each column, of which it has the name and the number. A row without numbers is left out.
 fn table<C>(numbers: &Numbers, columns: &[C], name: impl Fn(&C) -> String, number: impl Fn(&C, Row) -> Option<f64>) -> String {
     let mut text = String::from("| work | capacity |");
     for column in columns {
@@ -50,7 +56,7 @@ fn table<C>(numbers: &Numbers, columns: &[C], name: impl Fn(&C) -> String, numbe
     text.push_str("\n|---|---|");
     text.push_str(&"---|".repeat(columns.len()));
     text.push('\n');
-    for row in rows(numbers) {
+    for row in rows(numbers).filter(|row| columns.iter().any(|column| number(column, *row).is_some())) {
         write!(text, "| {} | {} |", row.0, row.1).unwrap();
         for column in columns {
             text.push_str(&cell(number(column, row)));
@@ -84,28 +90,6 @@ fn ratios(numbers: &Numbers) -> String {
         of(*ours).zip(of(*theirs)).map(|(ours, theirs)| ours / theirs)
     };
     table(numbers, &pairs, |(ours, theirs)| format!("{ours} / {theirs}"), number)
-}
-
-/// Rings of this repository, each with the others that a program could take in its place.
-const RIVALS: [(&str, &[&str]); 3] = [
-    ("heap", &["Rust heap", "VecDeque", "Rattle VecDeque", "circular_buffer", "Boost"]),
-    ("growable", &["Rust growable", "VecDeque", "Rattle VecDeque", "Boost"]),
-    ("array", &["Rust array"]),
-];
-
-/// For each ring its ratios to the least number that a rival has, at a capacity of 1024 items.
-pub fn ratios_to_best(lines: &str) -> Vec<Panel> {
-    let numbers = numbers(lines);
-    let ratio = |ours, rivals: &[&str], work| {
-        let of = |contender| numbers.get(&(work, 1024, contender)).copied();
-        let best = rivals.iter().filter_map(|rival| of(rival)).reduce(f64::min);
-        of(ours).zip(best).map(|(ours, best)| ours / best)
-    };
-    let ratios = |ours, rivals: &[&str]| {
-        let works = Work::ALL.into_iter().map(Work::name);
-        works.filter_map(|work| ratio(ours, rivals, work).map(|ratio| (work, ratio))).collect()
-    };
-    RIVALS.into_iter().map(|(ring, rivals)| Panel { ring, ratios: ratios(ring, rivals) }).collect()
 }
 
 pub fn tables(times: &str, counts: &str) -> String {
