@@ -7,7 +7,7 @@ use std::collections::VecDeque;
 
 /// Makes a call.
 pub fn play<'a, T: Item<'a>, R: Played<'a, T>>(ring: &mut R, player: &mut Player<'a>) {
-    match player.up_to(6) {
+    match player.up_to(9) {
         0 => {
             let (is_full, item) = (R::IS_FIXED && ring.is_full(), player.item());
             player.note_taken(ring.as_deque(|items| {
@@ -27,7 +27,39 @@ pub fn play<'a, T: Item<'a>, R: Played<'a, T>>(ring: &mut R, player: &mut Player
         }
         4 => ring.extend(player.items()),
         5 => ring.as_deque(|items| take(items, player)),
-        _ => take(&mut ring.clone().into_iter().collect(), player),
+        6 => take(&mut ring.clone().into_iter().collect(), player),
+        _ => play_middle(ring, player),
+    }
+}
+
+// Makes a call at an index, or of a range.
+fn play_middle<'a, T: Item<'a>, R: Played<'a, T>>(ring: &mut R, player: &mut Player<'a>) {
+    let is_full = R::IS_FIXED && ring.is_full();
+    let len = ring.len();
+    let (item, index) = (player.item(), player.up_to(len));
+    match player.up_to(6) {
+        0 | 1 if is_full => player.note_taken(Some(item)),
+        0 => {
+            ring.push(item);
+            player.note_taken(None::<T>);
+        }
+        1 => {
+            ring.as_deque(|items| items.insert(index, item));
+            player.note_taken(None::<T>);
+        }
+        2 => player.note_taken(ring.as_deque(|items| items.remove(index))),
+        3 => ring.as_deque(|items| items.rotate_left(index)),
+        4 => ring.as_deque(|items| items.rotate_right(index)),
+        5 => {
+            let other = player.up_to(len);
+            if index.max(other) < len {
+                ring.as_deque(|items| items.swap(index, other));
+            }
+        }
+        _ => {
+            let end = player.up_to(len + 2).min(len).max(index);
+            ring.as_deque(|items| drop(items.drain(index..end)));
+        }
     }
 }
 

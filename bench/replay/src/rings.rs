@@ -91,8 +91,9 @@ impl<'a, T: Item<'a>, const CAP: usize> Played<'a, T> for ConstGenericRingBuffer
     where
         T: Plain,
     {
-        match player.up_to(2) {
+        match player.up_to(3) {
             0..=1 => play_copies(self, player),
+            2 => player.note_each(&self.to_vec()),
             _ => comparing::play(self, player),
         }
     }
@@ -105,7 +106,7 @@ macro_rules! played_on_the_heap {
             type Three = AllocRingBuffer<u8>;
 
             fn play_own(&mut self, player: &mut Player<'a>) {
-                match player.up_to(15) {
+                match player.up_to(16) {
                     0..=5 => play_ends(self, player),
                     6..=11 => play_middle(self, player),
                     12 => play_slices(self, player),
@@ -115,6 +116,7 @@ macro_rules! played_on_the_heap {
                         self.extend(items);
                     }
                     14 => fill(self, player),
+                    15 => player.note_ring(&self.clone()),
                     _ => {
                         let ring = GrowableAllocRingBuffer::<T>::from(player.items());
                         if !ring.is_empty() {
@@ -161,7 +163,7 @@ impl<'a, T: Item<'a>> Played<'a, T> for GrowableAllocRingBuffer<T> {
     }
 
     fn play_own(&mut self, player: &mut Player<'a>) {
-        match player.up_to(7) {
+        match player.up_to(8) {
             0..=4 => play_ends(self, player),
             5 => play_slices(self, player),
             6 => {
@@ -175,6 +177,7 @@ impl<'a, T: Item<'a>> Played<'a, T> for GrowableAllocRingBuffer<T> {
                     player.draw();
                 }
             }
+            7 => player.note_ring(&self.clone()),
             _ => *self = VecDeque::from(player.items()).into(),
         }
     }

@@ -26,16 +26,42 @@ pub fn play<T: Clone + Drop, M: Maker<T>, R: Played<T>>(
     ring: &mut R,
     player: &mut Player<M>,
 ) -> Done {
-    match player.up_to(6) {
+    match player.up_to(9) {
         0 => return push_front(ring, player),
         1 => player.note_taken(ring.pop_back()),
         2 => ring.truncate(player.kept_of(ring.len())),
         3 => ring.keep_newest(player.kept_of(ring.len())),
         4 => return ring.extend_by_std(player.items()?),
         5 => take!(RingBufferDrainingIterator::new(ring), player),
-        _ => take!(RingBufferIntoIterator::new(ring.clone()?), player),
+        6 => take!(RingBufferIntoIterator::new(ring.clone()?), player),
+        _ => play_middle(ring, player),
     }
     Ok(())
+}
+
+/// Makes a call at an index, or of a range.
+fn play_middle<T: Clone + Drop, M: Maker<T>, R: DoubleEndedRing<T>>(
+    ring: &mut R,
+    player: &mut Player<M>,
+) {
+    let (item, index) = (player.item(), player.up_to(ring.len()));
+    match player.up_to(6) {
+        0 => player.note_taken(ring.try_push(item).err()),
+        1 => player.note_taken(ring.insert(index, item).err()),
+        2 => player.note_taken(ring.remove(index)),
+        3 => ring.rotate_left(index),
+        4 => ring.rotate_right(index),
+        5 => {
+            let other = player.up_to(ring.len());
+            if index < ring.len() && other < ring.len() {
+                ring.swap(index, other);
+            }
+        }
+        _ => {
+            let end = player.up_to(ring.len().saturating_add(2));
+            ring.remove_range(index..end);
+        }
+    }
 }
 
 fn push_front<T: Clone + Drop, M: Maker<T>, R: DoubleEndedRing<T>>(

@@ -117,6 +117,16 @@ macro_rules! play_slices {
     };
 }
 
+// Clones the items onto a ring that holds some of them.
+macro_rules! play_clone_into {
+    ($ring:expr, $player:expr) => {{
+        let mut twin = $ring.clone()?;
+        twin.truncate(3);
+        DoubleEndedRing::clone_into($ring, &mut twin)?;
+        $player.note_ring(&twin);
+    }};
+}
+
 // Calls that copy items, or compare them.
 macro_rules! play_copies {
     ($ring:expr, $player:expr, $items:ident, $extended:expr) => {{
@@ -174,10 +184,12 @@ impl<T: Clone + Drop, const CAP: usize> Played<T> for ConstGenericRingBuffer<T, 
 
 impl<T: Plain, const CAP: usize> PlayedCopies<T> for ConstGenericRingBuffer<T, CAP> {
     fn play_copies<M: Maker<T>>(&mut self, player: &mut Player<M>) -> Done {
-        match player.up_to(2) {
-            0..=1 => play_copies!(self, player, items, self.extend_from_slice(&items)),
-            _ => comparing::play(self, player),
+        match player.up_to(3) {
+            0..=1 => return play_copies!(self, player, items, self.extend_from_slice(&items)),
+            2 => player.note_each(&self.to_vec_copied(player.alloc)?),
+            _ => comparing::play(self, player)?,
         }
+        Ok(())
     }
 }
 
@@ -208,21 +220,24 @@ impl<T: Plain, const CAP: usize> Played<T> for CopyRingBuffer<T, CAP> {
 
 impl<T: Plain, const CAP: usize> PlayedCopies<T> for CopyRingBuffer<T, CAP> {
     fn play_copies<M: Maker<T>>(&mut self, player: &mut Player<M>) -> Done {
-        match player.up_to(2) {
-            0..=1 => play_copies!(self, player, items, self.extend_from_slice(&items)),
-            _ => comparing::play(self, player),
+        match player.up_to(3) {
+            0..=1 => return play_copies!(self, player, items, self.extend_from_slice(&items)),
+            2 => player.note_each(&self.to_vec_copied(player.alloc)?),
+            _ => comparing::play(self, player)?,
         }
+        Ok(())
     }
 }
 
 impl<T: Clone + Drop> Played<T> for AllocRingBuffer<T> {
     fn play_own<M: Maker<T>>(&mut self, player: &mut Player<M>) -> Done {
-        match player.up_to(15) {
+        match player.up_to(16) {
             0..=5 => play_ends!(self, player),
             6..=11 => play_middle!(self, player),
             12 => play_slices!(self, player),
             13 => self.set_capacity(player.up_to(299) + 1)?,
             14 => fill(self, player)?,
+            15 => play_clone_into!(self, player),
             _ => {
                 let ring = GrowableAllocRingBuffer::<T>::from(player.items()?);
                 if !ring.is_empty() {
@@ -256,7 +271,7 @@ impl<T: Plain> PlayedCopies<T> for AllocRingBuffer<T> {
 
 impl<T: Clone + Drop> Played<T> for GrowableAllocRingBuffer<T> {
     fn play_own<M: Maker<T>>(&mut self, player: &mut Player<M>) -> Done {
-        match player.up_to(7) {
+        match player.up_to(8) {
             0..=4 => play_ends!(self, player),
             5 => play_slices!(self, player),
             6 => {
@@ -264,6 +279,7 @@ impl<T: Clone + Drop> Played<T> for GrowableAllocRingBuffer<T> {
                 fill(self, player)?;
                 self.truncate(len);
             }
+            7 => play_clone_into!(self, player),
             _ => *self = GrowableAllocRingBuffer::from(VecDeque::from(player.items()?)),
         }
         Ok(())
