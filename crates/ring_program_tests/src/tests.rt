@@ -210,6 +210,31 @@ fn makes_the_ring_before_it_reads(rt: HostRuntime) {
     }
 }
 
+// More than two mebibytes are read, and more than four printed.
+#[test]
+fn runs_many_lines(rt: HostRuntime) {
+    let script = repeated(&rt, &[("push 7\n", 350_000)]);
+    let output = [
+        ("pushed\n", 3),
+        ("pushed over 7\n", 349_997),
+        ("items 7 7 7\n", 1),
+    ];
+    let output = repeated(&rt, &output);
+    let outcome = run_script(&rt, &["array", "3"], script.as_bytes());
+    assert_ended(&rt, "350,000 lines", &outcome, prints(output.as_str()));
+}
+
+#[test]
+fn runs_a_long_line(rt: HostRuntime) {
+    let script = repeated(&rt, &[("extend", 1), (" 7", 70_000), ("\nskip\n", 1)]);
+    let output = [("extended\nskipped\nitems", 1), (" 7", 69_999), ("\n", 1)];
+    let output = repeated(&rt, &output);
+    for words in [["grow", "0"], ["heap", "70000"]] {
+        let outcome = run_script(&rt, &words, script.as_bytes());
+        assert_ended(&rt, words, &outcome, prints(output.as_str()));
+    }
+}
+
 #[test]
 fn names_a_line_that_is_no_command(rt: HostRuntime) {
     // lines, with a bar between two

@@ -1,5 +1,6 @@
 //! Windows over each type of ring.
 
+mod counted;
 mod refused;
 
 use ringbuffer::{AllocRingBuffer, ConstGenericRingBuffer, GrowableAllocRingBuffer, RingBuffer};
