@@ -363,12 +363,12 @@ fn refuses_what_only_begins_as_a_number(rt: HostRuntime) {
 
 #[test]
 fn names_the_first_line_that_is_no_command(rt: HostRuntime) {
-    let scripts: [(&[u8], &str); 2] = [
-        (b"push 1\npush x", "ringrun: line 2: not a command\n"),
-        (b"\n\npush x", "ringrun: line 3: not a command\n"),
+    let scripts: [(&str, &[u8], &str); 2] = [
+        ("2", b"push 1\npush x", "ringrun: line 2: not a command\n"),
+        ("3", b"\n\npush x", "ringrun: line 3: not a command\n"),
     ];
-    for (script, want) in scripts {
-        let outcome = run_script(&rt, &["array", "2"], script);
+    for (capacity, script, want) in scripts {
+        let outcome = run_script(&rt, &["array", capacity], script);
         assert_ended(&rt, script, &outcome, fails(1, want));
     }
 }

@@ -3,13 +3,25 @@
 use super::{answers, assert_equal, assert_steps, push_all};
 use ring_slots::RingSlots;
 use ring_test_support::steps::Step::{
-    Back, Clear, Dequeue, DequeueAll, Extend, Fill, Front, Get, GetAll, GetAllSigned, GetSigned,
-    Holds, Len, PushAll, Write, WriteBack, WriteFront, WriteSigned,
+    Back, Clear, Dequeue, DequeueAll, Extend, Front, Get, GetAll, GetAllSigned, GetSigned, Holds,
+    IsFull, Len, PushAll, Write, WriteBack, WriteFront, WriteSigned,
 };
 use ring_test_support::steps::{Step, first_fault};
 use ring_test_support::{on_each, on_fixed, on_growable};
 use ringbuffer::{DoubleEndedRing, FixedRing, GrowableAllocRingBuffer, RingBuffer};
 use std::process::Abort;
+
+const THE_ENDS: &[Step] = &[PushAll(&[1, 2]), Front(Some(1)), Back(Some(2))];
+
+const BELOW_ZERO: &[Step] = &[PushAll(&[1, 2]), GetAllSigned(-3, &[2, 1, 2, 1, 2])];
+
+const WRAPPED_WRITES: &[Step] = &[
+    PushAll(&[1, 2, 3]),
+    WriteSigned(-4, 9),
+    Holds(&[1, 2, 9]),
+    Write(4, 8),
+    Holds(&[1, 8, 9]),
+];
 
 /// Calls of a ring with room for eight.
 const OF_EIGHT: &[(&str, &[Step])] = &[
@@ -20,10 +32,7 @@ const OF_EIGHT: &[(&str, &[Step])] = &[
             GetAll(0, &[0, 1, 2, 3, 4, 5, 6, 7]),
         ],
     ),
-    (
-        "the ends have names",
-        &[PushAll(&[1, 2]), Front(Some(1)), Back(Some(2))],
-    ),
+    ("the ends have names", THE_ENDS),
     (
         "the ends can be written",
         &[
@@ -51,10 +60,7 @@ const OF_EIGHT: &[(&str, &[Step])] = &[
             GetAllSigned(-4, &[0, 1, 0, 1]),
         ],
     ),
-    (
-        "positions wrap below zero",
-        &[PushAll(&[1, 2]), GetAllSigned(-3, &[2, 1, 2, 1, 2])],
-    ),
+    ("positions wrap below zero", BELOW_ZERO),
     (
         "a write changes its place alone",
         &[
@@ -65,16 +71,7 @@ const OF_EIGHT: &[(&str, &[Step])] = &[
             Holds(&[3, 4]),
         ],
     ),
-    (
-        "writes wrap by the length",
-        &[
-            PushAll(&[1, 2, 3]),
-            WriteSigned(-4, 9),
-            Holds(&[1, 2, 9]),
-            Write(4, 8),
-            Holds(&[1, 8, 9]),
-        ],
-    ),
+    ("writes wrap by the length", WRAPPED_WRITES),
 ];
 
 // The remainders of -(2^63), 2^63 - 1 and 2^64 - 1 by the lengths 3, 5, 7 and 1 were found by hand.
@@ -114,16 +111,17 @@ fn positions_wrap_by_the_length(rt: HostRuntime) {
     for (name, steps) in OF_EIGHT {
         on_each!(&rt, 8, answers, name, steps);
     }
+    on_each!(&rt, 2, answers, "the ends of two", THE_ENDS);
+    let growable = GrowableAllocRingBuffer::new(rt.alloc());
+    answers(&rt, growable, "a new ring wraps below zero", BELOW_ZERO);
+    on_each!(&rt, 4, answers, "writes wrap in four slots", WRAPPED_WRITES);
     on_each!(&rt, 8, wraps_extreme_positions);
     on_each!(&rt, 8, reads_the_newest);
 }
 
 /// Calls of a fixed ring of two.
 const FIXED_OF_TWO: &[(&str, &[Step])] = &[
-    (
-        "positions wrap below zero",
-        &[PushAll(&[1, 2]), GetAllSigned(-3, &[2, 1, 2, 1, 2])],
-    ),
+    ("positions wrap below zero", BELOW_ZERO),
     (
         "positions move with the oldest item",
         &[
@@ -251,14 +249,17 @@ fn assert_indexed<R: Indexed + Drop>(rt: &impl Abort, mut ring: R) {
     assert_steps(rt, &mut ring, &[Holds(&[9, 2, 3])]);
 }
 
-/// Extends a full ring of zeros, and reads by indexes what that leaves.
+/// Pushes zeros onto a ring until it is full, extends it, and reads by indexes what that leaves.
 fn assert_extended<R: Indexed + Drop>(
     rt: &impl Abort,
     mut ring: R,
     source: &'static [i64],
     left: &[i64],
 ) {
-    assert_steps(rt, &mut ring, &[Fill(0), Extend(source)]);
+    for _ in left {
+        push_all(rt, &mut ring, &[0]);
+    }
+    assert_steps(rt, &mut ring, &[IsFull(true), Extend(source)]);
     for (index, item) in left.iter().enumerate() {
         assert_equal(rt, (index, ring.item(index)), (index, Some(*item)));
     }

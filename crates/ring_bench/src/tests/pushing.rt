@@ -48,7 +48,19 @@ const FIXED_OF_TWO: &[(&str, &[Step])] = &[
     ),
     (
         "length stops at the capacity",
-        &[Len(0), PushToLen(&[1, 2, 2, 2])],
+        &[
+            Len(0),
+            PushAll(&[1]),
+            Len(1),
+            PushAll(&[2]),
+            Len(2),
+            PushAll(&[3]),
+            Len(2),
+            PushAll(&[4]),
+            Len(2),
+            Clear,
+            PushToLen(&[1, 2, 2, 2]),
+        ],
     ),
     (
         "a ring is full at its capacity alone",
@@ -120,6 +132,17 @@ fn a_fixed_ring_overwrites_its_oldest_item(rt: HostRuntime) {
         on_fixed!(&rt, 3, answers, name, steps);
     }
     on_fixed!(&rt, 5, answers, "round the slots", ROUND_THE_SLOTS);
+    on_fixed!(&rt, 2, gives_its_items_as_a_vector);
+}
+
+/// Overwrites the first of three items, and asks for a vector of the others.
+fn gives_its_items_as_a_vector<R: DoubleEndedRing<i64> + Drop>(
+    rt: &(impl Abort + AllocGlobal),
+    mut ring: R,
+) {
+    assert_steps(rt, &mut ring, OVERWRITES_THE_FIRST);
+    let items = ring.to_vec(rt.alloc()).expect(rt, "memory");
+    assert!(rt; items.as_slice() == [42, 1].as_slice());
 }
 
 /// Calls of a growable ring with room for two.
@@ -131,7 +154,18 @@ const GROWABLE: &[(&str, &[Step])] = &[
             DequeueAll(&[1, 2, 3]),
         ],
     ),
-    ("length grows", &[Len(0), PushToLen(&[1, 2, 3])]),
+    (
+        "length grows",
+        &[
+            Len(0),
+            PushAll(&[0]),
+            Len(1),
+            PushAll(&[1]),
+            Len(2),
+            PushAll(&[2]),
+            Len(3),
+        ],
+    ),
     (
         "nothing is overwritten",
         &[
@@ -162,7 +196,10 @@ fn a_growable_ring_overwrites_nothing(rt: HostRuntime) {
 
 /// Calls of a ring that has room for what is pushed.
 const ROOMY: &[(&str, &[Step])] = &[
-    ("length counts the pushes", &[Len(0), PushToLen(&[1, 2])]),
+    (
+        "length counts the pushes",
+        &[Len(0), PushAll(&[1]), Len(1), PushAll(&[2]), Len(2)],
+    ),
     (
         "a cleared ring is empty",
         &[

@@ -167,6 +167,7 @@ fn assert_move_refused<R: RingBuffer<i64> + Drop>(rt: &(impl Abort + AllocGlobal
 #[test]
 fn a_refused_call_leaves_what_there_was_room_for(rt: HostRuntime) {
     on_growable!(&rt, 0, assert_refused);
+    assert_refused(&rt, GrowableAllocRingBuffer::new(rt.alloc()));
     on_growable!(&rt, 0, assert_extension_refused);
     on_growable!(&rt, 0, assert_move_refused);
 }

@@ -137,6 +137,7 @@ fn pushes_on_a_clone_leave_the_source(rt: HostRuntime) {
     on_growable!(&rt, 0, assert_cloned_empty);
     on_fixed!(&rt, 4, assert_source_is_left);
     on_growable!(&rt, 0, assert_source_is_left);
+    assert_source_is_left(&rt, GrowableAllocRingBuffer::new(rt.alloc()));
 }
 
 /// Leaves a full ring of five.

@@ -238,6 +238,41 @@ const IN_PART: &[&[Step]] = &[
     &[Drains(&[Back, Back, Front], &[4, 3, 1]), Holds(&[2])],
 ];
 
+/// Writes the first item and the last through a cursor, and then the first alone. Both know how many are left.
+fn assert_lends_both_ends<R: DoubleEndedRing<i64> + Drop>(rt: &impl Abort, mut ring: R) {
+    push_all(rt, &mut ring, &[1, 2, 3, 4]);
+    {
+        let mut cursor = ring.iter_mut();
+        assert_equal(rt, cursor.next().map(|item| add(item, 10)), Some(1));
+        assert_equal(rt, cursor.next_back().map(|item| add(item, 20)), Some(4));
+        assert_equal(rt, cursor.size_hint(), (2, Some(2)));
+    }
+    assert_steps(rt, &mut ring, &[Holds(&[11, 2, 3, 24]), Clear]);
+    push_all(rt, &mut ring, &[1, 2, 3]);
+    {
+        let mut cursor = ring.iter_mut();
+        assert_equal(rt, cursor.next().map(|item| add(item, 4)), Some(1));
+    }
+    assert_steps(rt, &mut ring, &[Holds(&[5, 2, 3])]);
+    let mut walk = RingBufferIntoIterator::new(ring);
+    assert_equal(rt, walk.size_hint(), (3, Some(3)));
+    assert_equal(rt, walk.next(), Some(5));
+    assert_equal(rt, walk.size_hint(), (2, Some(2)));
+}
+
+/// Adds to an item. Returns what it was.
+fn add(item: &mut i64, more: i64) -> i64 {
+    let was = *item;
+    *item = was.wrapping_add(more);
+    was
+}
+
+#[test]
+fn a_cursor_lends_both_ends(rt: HostRuntime) {
+    on_each!(&rt, 4, assert_lends_both_ends);
+    on_each!(&rt, 8, assert_lends_both_ends);
+}
+
 /// Drains a ring of sixteen that holds eight.
 const DRAINED: &[Step] = &[
     PushAll(&[0, 1, 2, 3, 4, 5, 6, 7]),

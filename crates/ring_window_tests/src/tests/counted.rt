@@ -26,11 +26,11 @@ impl Monoid for Last<'_> {
     ghost op = { λ x y. record { 0 = latest x.0 y.0 } };
 
     ghost laws = { record {
-        valid_neutral = tt;
-        valid_op = λ x y _ _. tt;
-        left_identity = λ x _. ap (λ v. record { 0 = v }) (latest-left x.0);
-        right_identity = λ x _. refl;
-        assoc = λ x y z _ _ _. ap (λ v. record { 0 = v }) (latest-assoc x.0 y.0 z.0);
+      valid_neutral = tt;
+      valid_op = λ x y _ _. tt;
+      left_identity = λ x _. ap (λ v. record { 0 = v }) (latest-left x.0);
+      right_identity = λ x _. refl;
+      assoc = λ x y z _ _ _. ap (λ v. record { 0 = v }) (latest-assoc x.0 y.0 z.0);
     } };
 
     fn neutral() -> Self {

@@ -32,6 +32,16 @@ fn sum_after_a_refused_push(rt: HostRuntime) {
 }
 
 #[test]
+fn sum_after_a_refused_first_push(rt: HostRuntime) {
+    let mut window = WindowSum::new(GrowableAllocRingBuffer::new(rt.alloc()));
+    let drought = Drought::total(rt.alloc()).expect(&rt, "memory");
+    let refused = window.push(7);
+    drop(drought);
+    assert_equal(&rt, refused, Err(7));
+    assert_equal(&rt, (window.sum(), window.len()), (0, 0));
+}
+
+#[test]
 fn fold_after_a_refused_push(rt: HostRuntime) {
     let ring = roomy::<Kept<Gcd>>(&rt);
     let room = ring.capacity();
