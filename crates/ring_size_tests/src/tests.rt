@@ -3,6 +3,7 @@
 mod drops;
 mod large;
 mod room;
+mod spared;
 
 use ringbuffer::RingBuffer;
 use std::alloc::{AllocError, Global};
