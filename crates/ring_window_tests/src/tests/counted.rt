@@ -92,10 +92,10 @@ struct Level<'a> {
 struct ByHeight;
 
 impl<'a> Order<Level<'a>> for ByHeight {
-    ghost use Rattle.std.specs.Cmp.{nat_cmp_total, on_total, on};
+    ghost use Rattle.std.specs.Cmp.{nat_cmp_total, on_total};
     ghost use Rattle.std.specs.Ordering.{nat_cmp};
 
-    ghost cmp = { on (λ level. level.height) nat_cmp };
+    ghost cmp = { λ x y. nat_cmp x.height y.height };
 
     ghost total = { on_total (λ level. level.height) nat_cmp_total };
 
