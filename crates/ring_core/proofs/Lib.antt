@@ -1,6 +1,7 @@
 pub mod Answered
 pub mod BothMeanings
 pub mod Callers
+pub mod Cloned
 pub mod CommandLoop
 pub mod Drained
 pub mod Filling
@@ -14,6 +15,7 @@ pub mod MovedItems
 pub mod Picking
 pub mod Reading
 pub mod RunParts
+pub mod Turned
 pub mod Walks
 mod Words
 pub mod WorkedRuns

@@ -1,9 +1,11 @@
 //! Walks over any ring buffer: reading, writing, and taking the items out.
 
-ghost use Rattle.std.specs.Prelude.{◌≡◌, ◌+◌, ◌-◌, ◌↔◌, true, false, [], drop, find, position, length, max, min, IfSome, IsNone, Some, slice_get};
+ghost use Rattle.std.specs.Prelude.{◌≡◌, ◌+◌, ◌-◌, ◌<◌, ◌↔◌, ⊤, true, false, [], drop, find, position, length, max, min, IfSome, IsNone, IsTrue, MatchOption, OnSome, Some, slice_get};
+ghost use Rattle.std.specs.Bool.{MatchBool, OnFalse, OnTrue};
 ghost use Rattle.std.specs.Borrow.{sem};
 ghost use Rattle.std.specs.List.{list_any, list_all};
-ghost use Rattle.std.specs.Iterator.{CallableWhile, CallableWhileAt, ChecksAll, ChecksAny, FindsItem, FindsPosition, YieldsFirstRef, YieldsLastRef, UpTo, at_most, item_count};
+ghost use Rattle.std.specs.Iterator.{CallableWhile, CallableWhileAt, ChecksAll, ChecksAny, FindsItem, FindsPosition, IsNearerEnd, MakesProgress, YieldsFirstRef, YieldsLastRef, UpTo, at_most, item_count};
+ghost use Rattle.std.specs.Iterator.Runs.{AllItemsGive, AnyItemGives, EndsAtFirstPassing, IsFirstToGive, NoItemPasses, SomeRun};
 ghost use Rattle.std.specs.Iterator.SizeHint.{IsWithinCount};
 ghost use Rattle.std.specs.Range.Bound.{end_index, start_index};
 ghost use Rattle.std.specs.Option.{option_copied, option_copied_mut};
@@ -131,6 +133,10 @@ impl<'rb, T: Drop, RB: RingBuffer<T>> RingBufferIterator<'rb, T, RB> {
         ensures ran { ChecksAny (YieldsFirstRef (iterator_to_come RB.contents)) F.FnMut self.old f result self.new }
         ensures value { ByTest F.FnMut f (iterator_to_come RB.contents self.old)
             (λ test xs. result ≡ list_any test xs) }
+        ensures runs { SomeRun (YieldsFirstRef (iterator_to_come RB.contents)) self.old (λ p. MatchBool result
+            (AnyItemGives p F.FnMut f true) (IsTrue p.whole × AllItemsGive p F.FnMut f false)) }
+        ensures progress { OnTrue result (IsNearerEnd (λ _. ⊤)
+            (item_count (iterator_to_come RB.contents)) self.old self.new) }
     {
         Iterator::any(self, f)
     }
@@ -141,6 +147,10 @@ impl<'rb, T: Drop, RB: RingBuffer<T>> RingBufferIterator<'rb, T, RB> {
         ensures ran { ChecksAll (YieldsFirstRef (iterator_to_come RB.contents)) F.FnMut self.old f result self.new }
         ensures value { ByTest F.FnMut f (iterator_to_come RB.contents self.old)
             (λ test xs. result ≡ list_all test xs) }
+        ensures runs { SomeRun (YieldsFirstRef (iterator_to_come RB.contents)) self.old (λ p. MatchBool result
+            (IsTrue p.whole × AllItemsGive p F.FnMut f true) (AnyItemGives p F.FnMut f false)) }
+        ensures progress { OnFalse result (IsNearerEnd (λ _. ⊤)
+            (item_count (iterator_to_come RB.contents)) self.old self.new) }
     {
         Iterator::all(self, f)
     }
@@ -151,6 +161,12 @@ impl<'rb, T: Drop, RB: RingBuffer<T>> RingBufferIterator<'rb, T, RB> {
         ensures ran { FindsPosition (YieldsFirstRef (iterator_to_come RB.contents)) F.FnMut self.old f result self.new }
         ensures value { ByTest F.FnMut f (iterator_to_come RB.contents self.old)
             (λ test xs. result ≡ position test xs) }
+        ensures bound { IfSome result (λ i. i < length (iterator_to_come RB.contents self.old)) }
+        ensures runs { SomeRun (YieldsFirstRef (iterator_to_come RB.contents)) self.old (λ u. MatchOption result
+            (IsTrue u.whole × AllItemsGive u F.FnMut f false)
+            (λ i. (u.len ≡ i + 1) × IsFirstToGive u F.FnMut f true false i)) }
+        ensures progress { OnSome result (IsNearerEnd (λ _. ⊤)
+            (item_count (iterator_to_come RB.contents)) self.old self.new) }
     {
         let _ = self.len();
         Iterator::position(self, f)
@@ -162,6 +178,10 @@ impl<'rb, T: Drop, RB: RingBuffer<T>> RingBufferIterator<'rb, T, RB> {
         ensures ran { FindsItem (YieldsFirstRef (iterator_to_come RB.contents)) F.FnMut self.old f result self.new }
         ensures value { ByTestAt F.FnMut f (iterator_to_come RB.contents self.old)
             (λ test xs. option_copied result ≡ find test xs) }
+        ensures goes { MakesProgress (λ _. ⊤) (item_count (iterator_to_come RB.contents))
+            self.old result self.new }
+        ensures runs { SomeRun (YieldsFirstRef (iterator_to_come RB.contents)) self.old (λ u. MatchOption result
+            (IsTrue u.whole × NoItemPasses u F.FnMut f) (EndsAtFirstPassing u F.FnMut f)) }
     {
         Iterator::find(self, f)
     }
@@ -427,65 +447,3 @@ impl<T: Drop, RB: RingBuffer<T> + Drop> ExactSizeIterator for RingBufferIntoIter
 }
 
 impl<T: Drop, RB: RingBuffer<T> + Drop> FusedIterator for RingBufferIntoIterator<T, RB> {}
-
-/// The walks over a ring of any type. Each `RingBuffer` has them.
-pub trait RingBufferExt<T: Drop>: RingBuffer<T> {
-    /// Returns a walk over the items, oldest first, from either end.
-    ///
-    /// ```rust
-    /// ring.iter().count()
-    /// ```
-    fn iter(&self) -> RingBufferIterator<'_, T, Self>
-        ensures left { iterator_to_come Self.contents result ≡ Self.contents self.now }
-        ensures runs { ReadsInOrder Self.contents }
-        ensures runs_back { ReadsInReverse Self.contents };
-
-    /// Returns a walk over the items at the indexes in a range, as `2..5` or `3..`, without walking over those before it.
-    /// A bound past the length is cut to it, and a range that ends before it starts has no items.
-    fn range<X: RangeBounds<usize>>(&self, range: X) -> RingBufferIterator<'_, T, Self>
-        requires { X.has_bounds range }
-        ensures left { iterator_to_come Self.contents result
-            ≡ items_between (X.start_bound range) (X.end_bound range) (Self.contents self.now) }
-        ensures runs { ReadsInOrder Self.contents }
-        ensures runs_back { ReadsInReverse Self.contents };
-
-    /// Returns a cursor that lends the items for writing, one at a time, from either end.
-    fn iter_mut(&mut self) -> RingBufferMutIterator<'_, T, Self>
-        ensures same_reference { result.ring.ghost_name ≡ self.entry.ghost_name }
-        ensures ring { result.ring.now ≡ self.entry.now }
-        ensures starts { StartsOver Self.contents result };
-
-    /// Returns a walk that takes the items out, oldest first, and from either end if the ring is a `DoubleEndedRing`.
-    /// Those that it didn't hand out stay.
-    ///
-    /// ```rust
-    /// ring.drain().collect(alloc)
-    /// ```
-    fn drain(&mut self) -> RingBufferDrainingIterator<'_, T, Self>
-        ensures same_reference { result.ring.ghost_name ≡ self.entry.ghost_name }
-        ensures ring { result.ring.now ≡ self.entry.now }
-        ensures runs { DrainsInOrder Self.contents Self.limit Self.slot_changes }
-        ensures runs_back { DrainsInReverse Self.contents Self.limit Self.slot_changes };
-}
-
-impl<T: Drop, R: RingBuffer<T>> RingBufferExt<T> for R {
-    #[inline]
-    fn iter(&self) -> RingBufferIterator<'_, T, R> {
-        RingBufferIterator::new(self)
-    }
-
-    #[inline]
-    fn range<X: RangeBounds<usize>>(&self, range: X) -> RingBufferIterator<'_, T, R> {
-        RingBufferIterator::range(self, range)
-    }
-
-    #[inline]
-    fn iter_mut(&mut self) -> RingBufferMutIterator<'_, T, R> {
-        RingBufferMutIterator::new(self)
-    }
-
-    #[inline]
-    fn drain(&mut self) -> RingBufferDrainingIterator<'_, T, R> {
-        RingBufferDrainingIterator::new(self)
-    }
-}

@@ -3,6 +3,7 @@
 #![tactic(auto)]
 
 mod double_ended;
+mod ext;
 mod iter;
 mod last_bytes;
 mod mapping;
@@ -11,12 +12,14 @@ mod retaining;
 mod ring;
 mod runs;
 mod searching;
+mod taking;
 mod written;
 
 pub use double_ended::DoubleEndedRing;
+pub use ext::{DoubleEndedRingExt, RingBufferExt};
 pub use iter::{
-    RingBufferDrainingIterator, RingBufferExt, RingBufferIntoIterator, RingBufferIterator,
-    RingBufferMutIterator, range_within,
+    RingBufferDrainingIterator, RingBufferIntoIterator, RingBufferIterator, RingBufferMutIterator,
+    range_within,
 };
 pub use last_bytes::LastBytes;
 pub use mapping::map_each;

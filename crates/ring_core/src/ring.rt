@@ -1,12 +1,12 @@
 //! The trait that every ring buffer implements.
 
-ghost use Rattle.std.specs.Prelude.{◌≡◌, ℕ, ◌+◌, ◌-◌, ◌<◌, ◌≤◌, ◌↔◌, List, [], drop, length, All, IfOk, IfSome, IsNone, IsOk, IsSome, IsTrue, OnErr, OnOk, Option, slice_get, slice_set};
+ghost use Rattle.std.specs.Prelude.{◌≡◌, ℕ, ◌+◌, ◌-◌, ◌<◌, ◌≤◌, ◌↔◌, ◌++◌, List, [], drop, length, min, take, All, IfOk, IfSome, IsNone, IsOk, IsSome, IsTrue, OnErr, OnOk, Option, slice_get, slice_set};
 ghost use Rattle.std.specs.Borrow.{LendsIf, sem};
 ghost use Rattle.std.specs.Iterator.{IsFiniteIterable};
 ghost use Rattle.std.specs.List.{AllZip, FoldsTo, IsAnyAnswer, list_any};
 ghost use Rattle.std.specs.Option.{option_copied, option_copied_mut};
-ghost use Rattle.ring_core.specs.Contents.{Counts, IsInRange, IsWithin, Pushes, index_at, index_in_range, signed_index_at};
-ghost use Rattle.ring_core.specs.Extension.{Extends};
+ghost use Rattle.ring_core.specs.Contents.{Counts, IsInRange, IsWithin, Pushes, index_at, index_in_range, keep_last, signed_index_at};
+ghost use Rattle.ring_core.specs.Extension.{ClonesOut, Extends, ExtendsByClones};
 
 use std::alloc::{AllocError, Global};
 
@@ -115,6 +115,36 @@ pub trait RingBuffer<T: Drop>: Sized {
             (slot_changes self.new) result }
         ensures limit { limit self.new ≡ limit self.old }
         ensures succeeds { IsSome (limit self.old) → IsOk result };
+
+    /// Pushes clones of a slice's items, in order. Items that later ones would overwrite may be passed over. Takes O(n) in
+    /// those that are pushed.
+    ///
+    /// ```rust
+    /// samples.extend_from_slice(block).unwrap();
+    /// ```
+    ///
+    /// # Errors
+    ///
+    /// Where a clone was refused or, on a ring without a limit, memory was. The clones pushed until then stay.
+    fn extend_from_slice(&mut self, items: &[T]) -> Result<(), AllocError>
+    where
+        T: Clone,
+        ensures extends { ExtendsByClones T.is_clone (limit self.old) items.now (contents self.old) (contents self.new) result }
+        ensures items_if_clones_equal { ((x y : T) → T.is_clone x y → y ≡ x)
+            → OnOk result (contents self.new ≡ keep_last (limit self.old) (contents self.old ++ items.now)) }
+        ensures succeeds { IsSome (limit self.old) → ((x : T) → T.is_infallible x) → IsOk result }
+        ensures limit { limit self.new ≡ limit self.old }
+        ensures changes { Counts limit contents slot_changes self.old self.new (length items.now) }
+    {
+        // For the proof: the contents are within the limit.
+        let _ = self.len();
+        for item in items {
+            if let Err(_) = self.push(item.clone()?) {
+                return Err(AllocError);
+            }
+        }
+        Ok(())
+    }
 
     /// Takes out the oldest item.
     ///
@@ -309,6 +339,28 @@ pub trait RingBuffer<T: Drop>: Sized {
             items.push(self.get(i).unwrap().clone()?)?;
         }
         Ok(items)
+    }
+
+    /// Puts clones of the oldest items into the first places of a slice, as many as it has, and returns how many. Takes O(n)
+    /// in these.
+    ///
+    /// # Errors
+    ///
+    /// Where a clone was refused. The places of the clones before it are written then, and the others are as they were.
+    fn copy_to_slice(&self, output: &mut [T]) -> Result<usize, AllocError>
+    where
+        T: Clone,
+        ensures clones { ClonesOut T.is_clone (contents self.now) output.old output.new result }
+        ensures items_if_clones_equal { ((x y : T) → T.is_clone x y → y ≡ x) → IfOk result
+            (λ n. output.new ≡ take n (contents self.now) ++ drop n output.old) }
+        ensures count { IfOk result (λ n. n ≡ min (length output.old) (length (contents self.now))) }
+        ensures succeeds { ((x : T) → T.is_infallible x) → IsOk result }
+    {
+        let count = output.len().min(self.len());
+        for i in 0..count {
+            output[i] = self.get(i).unwrap().clone()?;
+        }
+        Ok(count)
     }
 
     /// Returns whether an item equals `x`. Takes O(n).

@@ -1,0 +1,53 @@
+-- What stands while clones of a list's items are pushed.
+use Rattle.ring_core.proofs.Words.{◌≡◌, ℕ, ◌+◌, ◌-◌, ◌<◌, ◌≤◌, List, [], ◌∷◌, ◌++◌, length, take, drop, min, Option, None, Some, IfSome, IsSome, OnOk, Result, Ok, Err, refl, append_assoc, set-append_seam, slice_set, get_or, false≢true, ap, sym, ◌∙◌, arith, take_all, drop-drop, drop_min, length-append, length-drop, keep_last}
+use Rattle.std.specs.Prelude.{IfOk}
+use Rattle.std.proofs.lemmas.List.{drop_more}
+use Rattle.std.proofs.lemmas.List.Elements.{same_from_all_zip}
+use Rattle.ring_core.specs.Extension.{ClonesOut, ExtendsByClones, IsOver}
+use Rattle.ring_core.proofs.Items.{drop-append}
+
+-- A limit leaves of a list and of the newest of others what it leaves of them all.
+pub keep_last-newest : {A : Type 0} (limit : Option ℕ) (over : ℕ) (xs ys : List A) → IsOver limit ys over
+    → keep_last limit (xs ++ drop over ys) ≡ keep_last limit (xs ++ ys)
+keep_last-newest None over xs ys is = rw is refl
+keep_last-newest (Some n) over xs ys within =
+    let newest = drop over ys in
+    let cut = length (xs ++ newest) - n in let all_cut = length (xs ++ ys) - n in
+    let front : min cut (length xs) ≡ min all_cut (length xs) = omega (arith, length-append xs newest, length-append xs ys, length-drop over ys) in
+    let back : over + (cut - length xs) ≡ all_cut - length xs = omega (arith, length-append xs newest, length-append xs ys, length-drop over ys) in
+    sym (drop-append cut xs newest) ∙ rw (← drop_min cut xs, front, drop_min, drop-drop, back) (drop-append all_cut xs ys)
+
+-- Nothing may always be passed over.
+pub none_over : {A : Type 0} (limit : Option ℕ) (items : List A) → IsOver limit items 0
+none_over None items = refl
+none_over (Some n) items = omega arith
+
+-- Clones that each equal their item, of all items that aren't passed over, are as good as the items.
+pub equal_clones_pushed : {A E : Type 0} (IsClone : A → A → Type 0) (limit : Option ℕ) (items old new : List A) (r : Result (Unit {0}) E)
+    → ExtendsByClones IsClone limit items old new r → ((x y : A) → IsClone x y → y ≡ x) → OnOk r (new ≡ keep_last limit (old ++ items))
+equal_clones_pushed IsClone limit items old new (Err e) pushed same = tt
+equal_clones_pushed IsClone limit items old new (Ok u) (over, ys, is_over, clones, kept, all) same =
+    let others = drop over items in
+    let long : length others ≤ length ys = omega (arith, length-drop over items) in
+    let is : ys ≡ others = same_from_all_zip IsClone others ys (rw (take_all (length ys) others long) at clones) same in
+    kept ∙ ap (λ l. keep_last limit (old ++ l)) is ∙ keep_last-newest limit over old items is_over
+
+-- One more clone takes its place in an output.
+pub clone_out : {A : Type 0} (old ys : List A) (i : ℕ) (y : A) → length ys ≡ i → i < length old
+    → slice_set (ys ++ drop i old) i y ≡ (ys ++ y ∷ []) ++ drop (i + 1) old
+clone_out old ys i y long within =
+    rw (drop_more old i y within, ← long) (set-append_seam ys (get_or old (length ys) y) (drop (length ys + 1) old) y)
+    ∙ sym (append_assoc ys (y ∷ []) (drop (i + 1) old))
+
+-- Clones that each equal their item are as good as the items in an output.
+pub equal_clones_out : {A E : Type 0} (IsClone : A → A → Type 0) (items old new : List A) (r : Result ℕ E)
+    → ClonesOut IsClone items old new r → ((x y : A) → IsClone x y → y ≡ x) → IfOk r (λ n. new ≡ take n items ++ drop n old)
+equal_clones_out IsClone items old new (Err e) out same = tt
+equal_clones_out IsClone items old new (Ok n) (ys, clones, is, long) same =
+    let all : ys ≡ take (length ys) items = same_from_all_zip IsClone (take (length ys) items) ys clones same in
+    rw long (is ∙ ap (λ l. l ++ drop (length ys) old) all)
+
+-- All that are more than a limit may be passed over.
+pub past_limit_over : {A : Type 0} (limit : Option ℕ) (capacity : ℕ) (items : List A) → IsSome limit → IfSome limit (λ n. capacity ≡ n) → IsOver limit items (length items - capacity)
+past_limit_over None capacity items some is = absurd (false≢true some)
+past_limit_over (Some n) capacity items some is = omega (arith, is)

@@ -1,0 +1,241 @@
+//! Calls by a dot on any ring.
+
+ghost use Rattle.std.specs.Prelude.{◌≡◌, ◌+◌, ◌-◌, ◌*◌, ◌≤◌, [], IfErr, IfOk, IsOk, IsSome, OnErr, OnOk, drop, filter, length, map, min, take};
+ghost use Rattle.std.specs.Fn.{CalledAt};
+ghost use Rattle.std.specs.List.{prefix_len};
+ghost use Rattle.std.specs.List.Retain.{IsFiltered};
+ghost use Rattle.std.specs.Range.Bound.{end_index, start_index};
+ghost use Rattle.ring_core.specs.Contents.{Counts};
+ghost use Rattle.ring_core.specs.Filtering.{FiltersPart, PassesFirst};
+ghost use Rattle.ring_core.specs.Mapping.{ByMap, MapsEach};
+ghost use Rattle.ring_core.specs.Walk.{DrainsInOrder, DrainsInReverse, ReadsInOrder, ReadsInReverse, StartsOver, items_between, items_outside, iterator_to_come};
+
+use crate::double_ended::DoubleEndedRing;
+use crate::iter::{
+    RingBufferDrainingIterator, RingBufferIterator, RingBufferMutIterator, range_within,
+};
+use crate::mapping::map_each;
+use crate::retaining::{dequeue_while, retain};
+use crate::ring::RingBuffer;
+use crate::taking::{split_off, take_all, take_between};
+use std::alloc::{AllocError, Global};
+use std::ops::RangeBounds;
+
+/// The walks over a ring of any type, and calls that stand on the trait alone. Each `RingBuffer` has them.
+pub trait RingBufferExt<T: Drop>: RingBuffer<T> {
+    /// Returns a walk over the items, oldest first, from either end.
+    ///
+    /// ```rust
+    /// ring.iter().count()
+    /// ```
+    fn iter(&self) -> RingBufferIterator<'_, T, Self>
+        ensures left { iterator_to_come Self.contents result ≡ Self.contents self.now }
+        ensures runs { ReadsInOrder Self.contents }
+        ensures runs_back { ReadsInReverse Self.contents };
+
+    /// Returns a walk over the items at the indexes in a range, as `2..5` or `3..`, without walking over those before it.
+    /// A bound past the length is cut to it, and a range that ends before it starts has no items.
+    fn range<X: RangeBounds<usize>>(&self, range: X) -> RingBufferIterator<'_, T, Self>
+        requires { X.has_bounds range }
+        ensures left { iterator_to_come Self.contents result
+            ≡ items_between (X.start_bound range) (X.end_bound range) (Self.contents self.now) }
+        ensures runs { ReadsInOrder Self.contents }
+        ensures runs_back { ReadsInReverse Self.contents };
+
+    /// Returns a cursor that lends the items for writing, one at a time, from either end.
+    fn iter_mut(&mut self) -> RingBufferMutIterator<'_, T, Self>
+        ensures same_reference { result.ring.ghost_name ≡ self.entry.ghost_name }
+        ensures ring { result.ring.now ≡ self.entry.now }
+        ensures starts { StartsOver Self.contents result };
+
+    /// Returns a walk that takes the items out, oldest first, and from either end if the ring is a `DoubleEndedRing`.
+    /// Those that it didn't hand out stay.
+    ///
+    /// ```rust
+    /// ring.drain().collect(alloc)
+    /// ```
+    fn drain(&mut self) -> RingBufferDrainingIterator<'_, T, Self>
+        ensures same_reference { result.ring.ghost_name ≡ self.entry.ghost_name }
+        ensures ring { result.ring.now ≡ self.entry.now }
+        ensures runs { DrainsInOrder Self.contents Self.limit Self.slot_changes }
+        ensures runs_back { DrainsInReverse Self.contents Self.limit Self.slot_changes };
+
+    /// Takes out all items, oldest first, in new memory, and leaves the ring empty. Takes O(n). This call is the
+    /// library's own: the Rust crate has none like it.
+    ///
+    /// ```rust
+    /// ring.take_all(alloc)
+    /// ```
+    ///
+    /// # Errors
+    ///
+    /// Where memory was refused. The ring is as it was.
+    fn take_all(&mut self, alloc: Global) -> Result<Vec<T>, AllocError>
+        ensures taken { IfOk result (λ v. v.items ≡ Self.contents self.old) }
+        ensures emptied { OnOk result (Self.contents self.new ≡ []) }
+        ensures refused { OnErr result (self.new ≡ self.old) }
+        ensures limit { Self.limit self.new ≡ Self.limit self.old }
+        ensures changes { Counts Self.limit Self.contents Self.slot_changes self.old self.new 0 };
+
+    /// Calls the function `retain`: keeps the items for which `keep` returns `true`, in order, and drops the others.
+    ///
+    /// ```rust
+    /// readings.retain(|reading| *reading <= limit).unwrap();
+    /// ```
+    ///
+    /// # Errors
+    ///
+    /// As the function.
+    fn retain<F: FnMut(&T) -> bool>(&mut self, keep: F) -> Result<(), T>
+        requires { F.IsAlwaysCallable keep }
+        ensures filtered { OnOk result
+            (IsFiltered (CalledAt F.FnMut) keep (Self.contents self.old) (Self.contents self.new)) }
+        ensures value { OnOk result (ByMap (CalledAt F.FnMut) keep
+            (λ keeps. Self.contents self.new ≡ filter keeps (Self.contents self.old))) }
+        ensures refused { IfErr result
+            (FiltersPart (CalledAt F.FnMut) keep (Self.contents self.old) (Self.contents self.new)) }
+        ensures succeeds { IsSome (Self.limit self.old) → IsOk result }
+        ensures limit { Self.limit self.new ≡ Self.limit self.old }
+        ensures changes { Counts Self.limit Self.contents Self.slot_changes self.old self.new
+            (length (Self.contents self.new)) };
+
+    /// Calls the function `dequeue_while`: drops the oldest items while `test` returns `true` of them, and returns how
+    /// many.
+    ///
+    /// ```rust
+    /// let _ = events.dequeue_while(|event| event.time < time);
+    /// ```
+    fn dequeue_while<F: FnMut(&T) -> bool>(&mut self, test: F) -> usize
+        requires { F.IsAlwaysCallable test }
+        ensures rest { Self.contents self.new ≡ drop result (Self.contents self.old) }
+        ensures within { result ≤ length (Self.contents self.old) }
+        ensures called { PassesFirst (CalledAt F.FnMut) test result (Self.contents self.old) }
+        ensures value { ByMap (CalledAt F.FnMut) test
+            (λ passes. result ≡ prefix_len passes (Self.contents self.old)) }
+        ensures limit { Self.limit self.new ≡ Self.limit self.old }
+        ensures changes { Counts Self.limit Self.contents Self.slot_changes self.old self.new 0 };
+
+    /// Calls the function `map_each`: replaces each item by what `f` returns for it, oldest first.
+    ///
+    /// ```rust
+    /// readings.map_each(|x| *x / 2);
+    /// ```
+    fn map_each<F: FnMut(&T) -> T>(&mut self, f: F)
+        requires { F.IsAlwaysCallable f }
+        ensures called { MapsEach (CalledAt F.FnMut) f (Self.contents self.old) (Self.contents self.new) }
+        ensures value { ByMap (CalledAt F.FnMut) f
+            (λ g. Self.contents self.new ≡ map g (Self.contents self.old)) }
+        ensures limit { Self.limit self.new ≡ Self.limit self.old }
+        ensures changes { IsSome (Self.limit self.old)
+            → (Self.slot_changes self.old ≤ Self.slot_changes self.new)
+            × (Self.slot_changes self.new
+            ≤ Self.slot_changes self.old + length (Self.contents self.old)) };
+}
+
+impl<T: Drop, R: RingBuffer<T>> RingBufferExt<T> for R {
+    #[inline]
+    fn iter(&self) -> RingBufferIterator<'_, T, R> {
+        RingBufferIterator::new(self)
+    }
+
+    #[inline]
+    fn range<X: RangeBounds<usize>>(&self, range: X) -> RingBufferIterator<'_, T, R> {
+        RingBufferIterator::range(self, range)
+    }
+
+    #[inline]
+    fn iter_mut(&mut self) -> RingBufferMutIterator<'_, T, R> {
+        RingBufferMutIterator::new(self)
+    }
+
+    #[inline]
+    fn drain(&mut self) -> RingBufferDrainingIterator<'_, T, R> {
+        RingBufferDrainingIterator::new(self)
+    }
+
+    #[inline]
+    fn take_all(&mut self, alloc: Global) -> Result<Vec<T>, AllocError> {
+        take_all(self, alloc)
+    }
+
+    #[inline]
+    fn retain<F: FnMut(&T) -> bool>(&mut self, keep: F) -> Result<(), T> {
+        retain(self, keep)
+    }
+
+    #[inline]
+    fn dequeue_while<F: FnMut(&T) -> bool>(&mut self, test: F) -> usize {
+        dequeue_while(self, test)
+    }
+
+    #[inline]
+    fn map_each<F: FnMut(&T) -> T>(&mut self, f: F) {
+        map_each(self, f);
+    }
+}
+
+/// Calls of any ring that changes at both ends, which take items out of it into new memory. Each `DoubleEndedRing` has
+/// them. They are the library's own: the Rust crate has none like them.
+pub trait DoubleEndedRingExt<T: Drop>: DoubleEndedRing<T> {
+    /// Takes out the items at the indexes in a range, as `2..5` or `3..`, in order, in new memory. A bound past the length
+    /// is cut to it, and a range that ends before it starts has no items. Moves the fewer of the items before and behind,
+    /// each twice: O(n).
+    ///
+    /// ```rust
+    /// ring.drain_range(2..5, alloc)
+    /// ```
+    ///
+    /// # Errors
+    ///
+    /// Where memory was refused. The ring is as it was.
+    fn drain_range<X: RangeBounds<usize>>(
+        &mut self,
+        range: X,
+        alloc: Global,
+    ) -> Result<Vec<T>, AllocError>
+        requires { X.has_bounds range }
+        ensures taken { IfOk result (λ v. v.items
+            ≡ items_between (X.start_bound range) (X.end_bound range) (Self.contents self.old)) }
+        ensures rest { OnOk result (Self.contents self.new
+            ≡ items_outside (X.start_bound range) (X.end_bound range) (Self.contents self.old)) }
+        ensures refused { OnErr result (self.new ≡ self.old) }
+        ensures limit { Self.limit self.new ≡ Self.limit self.old }
+        ensures changes { Counts Self.limit Self.contents Self.slot_changes self.old self.new
+            (let len = length (Self.contents self.old) in
+            2 * min (start_index (X.start_bound range)) (len - end_index (X.end_bound range) len)) };
+
+    /// Takes out the items from index `at` on, in order, in new memory, and keeps those before it. Takes O(n) in the
+    /// items taken out.
+    ///
+    /// ```rust
+    /// queue.split_off(at, alloc)
+    /// ```
+    ///
+    /// # Errors
+    ///
+    /// Where memory was refused. The ring is as it was.
+    fn split_off(&mut self, at: usize, alloc: Global) -> Result<Vec<T>, AllocError>
+        requires { at ≤ length (Self.contents self.old) }
+        ensures taken { IfOk result (λ v. v.items ≡ drop at (Self.contents self.old)) }
+        ensures rest { OnOk result (Self.contents self.new ≡ take at (Self.contents self.old)) }
+        ensures refused { OnErr result (self.new ≡ self.old) }
+        ensures limit { Self.limit self.new ≡ Self.limit self.old }
+        ensures changes { Counts Self.limit Self.contents Self.slot_changes self.old self.new 0 };
+}
+
+impl<T: Drop, R: DoubleEndedRing<T>> DoubleEndedRingExt<T> for R {
+    #[inline]
+    fn drain_range<X: RangeBounds<usize>>(
+        &mut self,
+        range: X,
+        alloc: Global,
+    ) -> Result<Vec<T>, AllocError> {
+        let range = range_within(&range, self.len());
+        take_between(self, range.start, range.end, alloc)
+    }
+
+    #[inline]
+    fn split_off(&mut self, at: usize, alloc: Global) -> Result<Vec<T>, AllocError> {
+        split_off(self, at, alloc)
+    }
+}
