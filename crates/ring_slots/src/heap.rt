@@ -27,7 +27,7 @@ const GREATEST_POWER_OF_TWO: usize = 1 << (usize::BITS - 1);
 ///
 /// A contract sees what each slot holds, and how many changes the slots have had. That count takes no bytes, begins at
 /// 0, and rises by the calls of `RingSlots` and by `slice_mut`, `put_copies`, `move_down` and `bring_first`
-/// alone.
+/// alone; `count_anew` begins it again.
 pub struct HeapSlots<T> {
     ptr: *mut T,
     // The number of slots less one, which is the mask of their places.
@@ -157,6 +157,13 @@ impl<T> HeapSlots<T> {
         let count = size - from + len;
         self.changes = self.changes.after(count).after(count);
         self.owner.bring_first(self.ptr, size, from, len);
+    }
+
+    /// Counts the changes of the slots from 0 again.
+    pub fn count_anew(&mut self)
+        ensures { self.new ≡ record self.old { changes = 0 } }
+    {
+        self.changes = ChangeCount::new();
     }
 
     /// Returns the count of changes of the slots.
