@@ -6,8 +6,11 @@ pub mod EmptiedStretches
 pub mod LaysApart
 pub mod LaysOut
 pub mod LentItem
+pub mod Paired
 pub mod Passed
 pub mod Poured
+pub mod PushedClones
+pub mod PushedStretch
 pub mod PutFirst
 pub mod PutOver
 pub mod RepeatedSteps
@@ -21,6 +24,7 @@ pub mod Swapped
 pub mod Turns
 mod Words
 pub use Rattle.ring_core.proofs.Callers
+pub use Rattle.ring_core.proofs.Cloned
 pub use Rattle.ring_core.proofs.Drained
 pub use Rattle.ring_core.proofs.Items
 pub use Rattle.ring_core.proofs.Limits

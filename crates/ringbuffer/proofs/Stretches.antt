@@ -1,8 +1,8 @@
 -- The items of a ring are two stretches of full slots: those up to the last slot, and those that go on at the first.
-use Rattle.ringbuffer.proofs.Words.{◌≡◌, ℕ, ◌+◌, ◌-◌, ◌<◌, ◌≤◌, List, [], ◌∷◌, ◌++◌, length, map, take, drop, get_or, Option, None, Some, refl, sym, ap, ◌∙◌, arith, slice_get, min, mod-eq_of_lt, ext_get_or, get_or-take, get_or-drop, length-map, length-take, length-drop, take-append-drop, slice_get-drop, slice_get-take, Slots, HoldsStretch, IsFullStretch, items_from, IsLaidOut, somes}
+use Rattle.ringbuffer.proofs.Words.{◌≡◌, ℕ, ◌+◌, ◌-◌, ◌<◌, ◌≤◌, ◌%◌, ◌⊎◌, List, [], ◌∷◌, ◌++◌, length, map, take, drop, get_or, Option, None, Some, refl, sym, ap, ◌∙◌, arith, slice_get, min, mod-eq_of_lt, ext_get_or, get_or-take, get_or-drop, length-map, length-take, length-drop, take-append-drop, slice_get-drop, slice_get-take, Slots, HoldsStretch, IsFullStretch, items_from, IsLaidOut, somes}
 use Rattle.std.proofs.Math.Seq.{take-add}
 use Rattle.ring_slots.proofs.Filled.{get_or-map_some}
-use Rattle.ringbuffer.proofs.SlotsHold.{wrap}
+use Rattle.ringbuffer.proofs.SlotsHold.{straight_on, wrap}
 
 module _ {X : Type 0} where
   -- items that are known one by one are a stretch
@@ -79,3 +79,24 @@ module _ {X : Type 0} (s : Slots X) (start : ℕ) (laid_out : IsLaidOut s start)
   pub both_stretches : (xs ys : List X) → HoldsStretch s.slots start first xs → HoldsStretch s.slots 0 (len - first) ys → xs ++ ys ≡ items
   both_stretches xs ys before after =
       rw (stretch_is s.slots start first xs (take first items) before first_held, stretch_is s.slots 0 (len - first) ys (drop first items) after second_held) (take-append-drop first items)
+
+-- items between two indices lie in one stretch where they don't go on at the first slot
+module _ {X : Type 0} (s : Slots X) (start : ℕ) (laid_out : IsLaidOut s start) (index n : ℕ)
+    (some : index + n ≤ length (items_from s.slots start)) (straight : (start + index + n ≤ length s.slots) ⊎ (length s.slots ≤ start + index)) where
+  abbrev from : ℕ
+  from = (start + index) % length s.slots
+
+  reach : (from + n ≤ length s.slots) × ((k : ℕ) → k < n → from + k ≡ (start + (index + k)) % length s.slots)
+  reach =
+      let within = laid_out.start_within in let fit = laid_out.fit in let size = length s.slots in
+      let at = wrap start index size within (omega arith) in
+      let ends : from + n ≤ size = grind (arith, at, straight) in
+      (ends, λ k low. straight_on start index from size k refl (omega arith))
+
+  pub between_held : HoldsStretch s.slots from n (take n (drop index (items_from s.slots start)))
+  between_held =
+      let items = items_from s.slots start in let fit = laid_out.fit in
+      stretch_of s.slots from n (take n (drop index items)) (omega (arith, length-take n (drop index items), length-drop index items)) reach.0 (λ k low. grind (arith, laid_out.layout (index + k), reach.1 k low, slice_get-take, slice_get-drop))
+
+  pub between_stretch : IsFullStretch s.slots from n
+  between_stretch = (reach.0, (take n (drop index (items_from s.slots start)), between_held))

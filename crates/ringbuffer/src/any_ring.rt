@@ -1,8 +1,7 @@
 //! Rings of any type: comparing two of them, and pushing clones.
 
-ghost use Rattle.std.specs.Prelude.{◌≡◌, [], ◌∷◌, ◌++◌, IsOk, IsSome, List, OnErr, OnOk, Some, fold, length, map};
+ghost use Rattle.std.specs.Prelude.{◌≡◌, [], ◌∷◌, ◌++◌, IsOk, IsSome, List, OnErr, OnOk, Some, length, map};
 ghost use Rattle.std.specs.Cmp.Lexicographic.{pointwise, slice_cmp, slice_partial_cmp};
-ghost use Rattle.std.specs.Hash as fed;
 ghost use Rattle.std.specs.Borrow.{Bor};
 ghost use Rattle.std.specs.Iterator.{Drains, IsFinite, YieldsThen};
 ghost use Rattle.std.specs.List.{AllZip};
@@ -12,7 +11,6 @@ ghost use Rattle.ringbuffer.specs.Somes.{somes};
 use ring_core::{RingBuffer, RingBufferIterator};
 use std::alloc::AllocError;
 use std::cmp::Ordering;
-use std::hash::{Hash, Hasher};
 
 /// Returns whether two rings hold equal items, place by place.
 pub fn same_items<T: PartialEq + Drop, R: RingBuffer<T>>(a: &R, b: &R) -> bool
@@ -35,18 +33,6 @@ pub fn cmp_items<T: Ord + Drop, R: RingBuffer<T>>(a: &R, b: &R) -> Ordering
     ensures { result ≡ slice_cmp T.cmp (R.contents a.now) (R.contents b.now) }
 {
     RingBufferIterator::new(a).cmp(RingBufferIterator::new(b))
-}
-
-/// Feeds the number of items of a ring to a hasher, and then each item.
-pub fn hash_items<T: Hash + Drop, R: RingBuffer<T>, H: Hasher>(ring: &R, state: &mut H)
-    ensures { state.new
-        ≡ fold H.write state.old (fed.slice T.hash_input (R.contents ring.now)) }
-{
-    let n = ring.len();
-    state.write_usize(n);
-    for i in 0..n {
-        ring.get(i).unwrap().hash(state);
-    }
 }
 
 // Pushes an item, and drops the one that it overwrites. An item that is refused is dropped too.

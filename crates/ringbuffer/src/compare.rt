@@ -7,7 +7,8 @@ ghost use Rattle.std.specs.Hash.{items_Alike, on_Alike, second_alike};
 ghost use Rattle.std.specs.Ordering.{nat_cmp, ordering_then, partial_ordering_then};
 ghost use Rattle.std.proofs.lemmas.Cmp.{and_equiv, lists_equiv, lists_total, nat_cmp_total, nat_eq_equiv, on_equiv, on_total, then_total};
 
-use crate::any_ring::{cmp_items, hash_items, partial_cmp_items, same_items};
+use crate::any_ring::{cmp_items, partial_cmp_items, same_items};
+use crate::by_stretch::FEW;
 use crate::fixed::FixedRing;
 use crate::two_slices::same_in_slices;
 use ring_core::RingBuffer;
@@ -28,6 +29,7 @@ impl<T: PartialEq + Drop, S: RingSlots<T>> PartialEq for FixedRing<T, S> {
         }
         match (self.rows(), other.rows()) {
             (Some(a), Some(b)) => same_in_slices(a, b),
+            _ if self.len() > FEW => self.same_by_stretch(other),
             _ => same_items(self, other),
         }
     }
@@ -89,6 +91,6 @@ impl<T: Hash + Drop, S: RingSlots<T>> Hash for FixedRing<T, S> {
         (on_Alike (λ ring. ring.items) (items_Alike (record { fed = T.respects_eq })))).fed };
 
     fn hash<H: Hasher>(&self, state: &mut H) {
-        hash_items(self, state);
+        self.hash_by_stretch(state);
     }
 }

@@ -1,6 +1,6 @@
 //! Pushing the items of a source onto a ring of a fixed capacity.
 ghost use Rattle.std.specs.Prelude.{◌≡◌, ◌+◌, ◌-◌, ◌%◌, ◌^◌, ◌<◌, ◌≤◌, if◌then◌else◌, false, ◌++◌, IsOk, List, length, true, Some};
-ghost use Rattle.std.specs.Iterator.{Drains, IsFinite, IsFiniteIterable};
+ghost use Rattle.std.specs.Iterator.{Drains, ExtendsWithItems, IsFinite, IsFiniteIterable};
 ghost use Rattle.ringbuffer.specs.View.{after_put, after_take, after_extend};
 ghost use Rattle.ringbuffer.specs.Sources.{Gives};
 ghost use Rattle.ringbuffer.specs.Layout.{after_pushes, CanPush, IsLaidOut, LaysOut, view_from};
@@ -171,7 +171,7 @@ impl<T: Drop, S: RingSlots<T>> FixedRing<T, S> {
 
     // Returns the number of pushes up to the last slot, or to the capacity if the ring isn't full.
     #[inline]
-    fn pushes_to_end(size: usize, end: usize, room: usize, full: bool) -> usize
+    pub(crate) fn pushes_to_end(size: usize, end: usize, room: usize, full: bool) -> usize
         requires { end ≤ size }
         ensures end { end + result ≤ size }
         ensures room { full ≡ false → result ≤ room }
@@ -185,7 +185,7 @@ impl<T: Drop, S: RingSlots<T>> FixedRing<T, S> {
 
     // Returns where the items lie after `count` pushes: onto a full ring the start moves on, otherwise the length grows.
     #[inline]
-    fn after_pushes(slots: &S, span: Span, count: usize, full: bool) -> Span
+    pub(crate) fn after_pushes(slots: &S, span: Span, count: usize, full: bool) -> Span
         requires start { span.start < length (S.seen slots.now).slots }
         requires count { count ≤ length (S.seen slots.now).slots }
         requires fits { full ≡ false → span.len + count < 2 ^ 64 }
@@ -203,7 +203,7 @@ impl<T: Drop, S: RingSlots<T>> FixedRing<T, S> {
 
     // Pushes an item, where the place after the last is known, and whether the first gives way.
     #[inline]
-    fn push_at(slots: &mut S, span: Span, place: usize, item: T, full: bool)
+    pub(crate) fn push_at(slots: &mut S, span: Span, place: usize, item: T, full: bool)
         requires laid_out { IsLaidOut (S.seen slots.old) span.start }
         requires len { span.len ≡ length (view_from (S.seen slots.old) span.start).items }
         requires some { full ≡ true → 0 < span.len }
@@ -231,7 +231,15 @@ impl<T: Drop, S: RingSlots<T>> Extend<T> for FixedRing<T, S> {
         × (S.limit made.capacity ≡ S.limit ring.capacity)
         × ChangesSlots ring.changes ring.items made.changes made.items (length items) };
 
-    fn extend<U: IntoIterator<Item = T>>(&mut self, items: U) -> Result<(), AllocError> {
+    fn extend<U: IntoIterator<Item = T>>(&mut self, items: U) -> Result<(), AllocError>
+        requires { IsFiniteIterable U.into_iter_gives U.IntoIter.can_next U.IntoIter.remaining
+            items }
+        ensures ran { ExtendsWithItems U.into_iter_gives U.IntoIter.next_gives (λ ring items made.
+            (made.items ≡ keep_last (Some (S.limit ring.capacity)) (ring.items ++ items))
+            × (S.limit made.capacity ≡ S.limit ring.capacity)
+            × ChangesSlots ring.changes ring.items made.changes made.items (length items)) items self.old self.new result }
+        ensures succeeds { IsOk result }
+    {
         FixedRing::extend(self, items)
     }
 }

@@ -7,8 +7,9 @@ ghost use Rattle.ring_core.proofs.Limits.{counts_one};
 ghost use Rattle.ringbuffer.specs.View.{View, after_push, after_write};
 ghost use Rattle.ringbuffer.specs.Layout.{IsSound, view_from};
 
+use crate::by_stretch::FEW;
 use crate::position::{index_at, signed_index_at};
-use crate::two_slices::clone_slices;
+use crate::two_slices::{clone_slices, clone_slices_into};
 use core::mem::replace_with;
 use ring_core::RingBuffer;
 use ring_slots::RingSlots;
@@ -233,6 +234,17 @@ impl<T: Drop, S: RingSlots<T>> RingBuffer<T> for FixedRing<T, S> {
         Ok(())
     }
 
+    fn extend_from_slice(&mut self, items: &[T]) -> Result<(), AllocError>
+    where
+        T: Clone,
+    {
+        if S::goes_by_value() {
+            replace_with(self, items, Self::extend_by_clones_owned)
+        } else {
+            self.extend_by_clones(items)
+        }
+    }
+
     #[inline]
     fn dequeue(&mut self) -> Option<T> {
         self.take_first()
@@ -273,12 +285,23 @@ impl<T: Drop, S: RingSlots<T>> RingBuffer<T> for FixedRing<T, S> {
         }
     }
 
+    fn copy_to_slice(&self, output: &mut [T]) -> Result<usize, AllocError>
+    where
+        T: Clone,
+    {
+        match self.rows() {
+            Some(rows) => clone_slices_into(rows, output),
+            None => self.clone_each_into(output),
+        }
+    }
+
     fn contains(&self, x: &T) -> bool
     where
         T: PartialEq,
     {
         match self.rows() {
             Some((first, second)) => first.contains(x) || second.contains(x),
+            None if self.span.len > FEW => self.holds_by_stretch(x),
             None => self.holds(x),
         }
     }

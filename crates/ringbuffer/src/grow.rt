@@ -17,7 +17,7 @@ mod slices;
 use self::extend::pour;
 use self::fill::clones;
 use crate::position::{index_at, signed_index_at};
-use crate::two_slices::clone_slices;
+use crate::two_slices::{clone_slices, clone_slices_into};
 use ring_core::RingBuffer;
 use std::alloc::{AllocError, Global};
 use std::collections::VecDeque;
@@ -27,11 +27,14 @@ use std::mem;
 // Fewer items go into the deque one at a time: a block costs some steps of its own.
 const FEW: usize = 16;
 
-// As many small items, and more, leave the deque by turns, which move a stretch at once.
+// Fewer items are popped straight to where they are copied: a copy of the slices costs some steps of its own.
+const FEW_OUT: usize = 8;
+
+// As many small items, and more, leave the deque by rotations, which move a stretch at once.
 const MANY: usize = 32;
 
-// Items of more bytes leave by pops: a turn copies all their bytes.
-const MOST_BYTES_TURNED: usize = 16;
+// Items of more bytes leave by pops: a rotation copies all their bytes.
+const MOST_BYTES_ROTATED: usize = 16;
 
 /// A ring buffer without a limit: it keeps every item, and grows as a `VecDeque` does.
 ///
@@ -210,6 +213,13 @@ impl<T: Drop> RingBuffer<T> for GrowableAllocRingBuffer<T> {
         T: Clone,
     {
         clone_slices(self.deque.as_slices(), alloc)
+    }
+
+    fn copy_to_slice(&self, output: &mut [T]) -> Result<usize, AllocError>
+    where
+        T: Clone,
+    {
+        clone_slices_into(self.deque.as_slices(), output)
     }
 
     fn contains(&self, x: &T) -> bool

@@ -4,7 +4,9 @@
 
 mod any_ring;
 mod array;
+mod by_stretch;
 mod bytes;
+mod clone_slices;
 mod clones;
 mod compare;
 mod contiguous;
@@ -28,9 +30,9 @@ pub use grow::GrowableAllocRingBuffer;
 pub use heap::AllocRingBuffer;
 pub use plain::CopyRingBuffer;
 pub use ring_core::{
-    Command, DoubleEndedRing, LastBytes, Refused, Reply, RingBuffer, RingBufferDrainingIterator,
-    RingBufferExt, RingBufferIntoIterator, RingBufferIterator, RingBufferMutIterator, RunFault,
-    Stopped, apply, binary_search, dequeue_while, map_each, move_all, partition_point, retain, run,
-    run_into, runs_join,
+    Command, DoubleEndedRing, DoubleEndedRingExt, LastBytes, Refused, Reply, RingBuffer,
+    RingBufferDrainingIterator, RingBufferExt, RingBufferIntoIterator, RingBufferIterator,
+    RingBufferMutIterator, RunFault, Stopped, apply, binary_search, dequeue_while, map_each,
+    move_all, partition_point, retain, run, run_into, runs_join,
 };
 pub use slices::{ShowsRows, TakesCopies};

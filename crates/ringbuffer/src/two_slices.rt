@@ -1,7 +1,8 @@
 //! Lists that lie in two slices: copied, cloned and compared.
-ghost use Rattle.std.specs.Prelude.{◌≡◌, ◌+◌, ◌++◌, IfOk, drop, length, min, take};
+ghost use Rattle.std.specs.Prelude.{◌≡◌, ◌+◌, ◌++◌, IfOk, IsOk, drop, length, min, take};
 ghost use Rattle.std.specs.Cmp.Lexicographic.{pointwise};
 ghost use Rattle.std.specs.List.{AllZip};
+ghost use Rattle.ring_core.specs.Extension.{ClonesOut};
 
 use std::alloc::{AllocError, Global};
 use std::vec::{Vec, VecCloneMethods};
@@ -65,6 +66,40 @@ pub fn clone_slices<T: Clone + Drop>(
     VecCloneMethods::extend_from_slice(&mut clones, first)?;
     VecCloneMethods::extend_from_slice(&mut clones, second)?;
     Ok(clones)
+}
+
+/// Puts clones of the items of two slices, in order, into the first places of a third, as many as it has. Returns how many.
+///
+/// # Errors
+///
+/// Where a clone was refused. The places of the clones before it are written then.
+pub fn clone_slices_into<T: Clone + Drop>(
+    items: (&[T], &[T]),
+    output: &mut [T],
+) -> Result<usize, AllocError>
+    ensures clones { ClonesOut T.is_clone (items.entry.0.now ++ items.entry.1.now) output.old output.new result }
+    ensures count { IfOk result
+        (λ n. n ≡ min (length output.old) (length items.entry.0.now + length items.entry.1.now)) }
+    ensures succeeds { ((x : T) → T.is_infallible x) → IsOk result }
+{
+    let (first, second) = items;
+    let before = first.len().min(output.len());
+    let (front, back) = output.split_at_mut(before);
+    clone_slice_into(&first[..before], front)?;
+    Ok(before + clone_slice_into(second, back)?)
+}
+
+// Puts clones of the items of a slice into the first places of another, as many as it has. Returns how many.
+fn clone_slice_into<T: Clone + Drop>(items: &[T], output: &mut [T]) -> Result<usize, AllocError>
+    ensures clones { ClonesOut T.is_clone items.now output.old output.new result }
+    ensures count { IfOk result (λ n. n ≡ min (length output.old) (length items.now)) }
+    ensures succeeds { ((x : T) → T.is_infallible x) → IsOk result }
+{
+    let count = items.len().min(output.len());
+    for i in 0..count {
+        output[i] = items[i].clone()?;
+    }
+    Ok(count)
 }
 
 /// Returns whether the items of two slices and the items of two others are equal, place by place.

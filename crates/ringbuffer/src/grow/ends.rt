@@ -1,8 +1,11 @@
 //! Both ends and the middle of a growable ring.
-ghost use Rattle.std.specs.Prelude.{◌≡◌, ◌-◌, ◌++◌, None, Some, length, option_to_list, slice_get, take};
+ghost use Rattle.std.specs.Prelude.{◌≡◌, ◌-◌, ◌≤◌, ◌++◌, IsOk, None, Some, drop, filter, length, option_to_list, slice_get, take};
+ghost use Rattle.std.specs.Fn.{CalledAt};
+ghost use Rattle.std.specs.List.Retain.{IsFiltered};
 ghost use Rattle.ring_core.specs.Contents.{keep_last};
+ghost use Rattle.ring_core.specs.Mapping.{ByMap};
 
-use super::GrowableAllocRingBuffer;
+use super::{GrowableAllocRingBuffer, MANY};
 use ring_core::{DoubleEndedRing, RingBuffer, range_within};
 use std::alloc::AllocError;
 use std::ops::RangeBounds;
@@ -31,7 +34,40 @@ impl<T: Drop> GrowableAllocRingBuffer<T> {
         ensures { self.new ≡ keep_last (Some len) self.old }
     {
         let others = self.deque.len().saturating_sub(len);
-        self.deque.drain(..others);
+        self.drop_between(0, others);
+    }
+
+    /// Keeps the items for which `keep` returns `true`, in order, and drops the others. It asks about each item once, oldest
+    /// first. This call is the library's own: the Rust crate has none like it. It is never refused, unlike `retain` of any
+    /// ring without a limit, which it answers as.
+    pub fn retain<F: FnMut(&T) -> bool>(&mut self, keep: F) -> Result<(), T>
+        requires { F.IsAlwaysCallable keep }
+        ensures filtered { IsFiltered (CalledAt F.FnMut) keep self.old self.new }
+        ensures value { ByMap (CalledAt F.FnMut) keep (λ keeps. self.new ≡ filter keeps self.old) }
+        ensures succeeds { IsOk result }
+    {
+        self.deque.retain(keep);
+        Ok(())
+    }
+
+    // Drops the items from one index up to another, and leaves the others where the deque's `drain` would. Many are rotated to
+    // the front, where a stretch leaves at once.
+    fn drop_between(&mut self, start: usize, end: usize)
+        requires order { start ≤ end }
+        requires within { end ≤ length self.old }
+        ensures { self.new ≡ take start self.old ++ drop end self.old }
+    {
+        if end - start < MANY {
+            self.deque.drain(start..end);
+            return;
+        }
+        if start == 0 {
+            return self.drop_first(end);
+        }
+        let others = self.deque.len() - start;
+        self.deque.rotate_right(others);
+        self.drop_first(end - start);
+        self.deque.rotate_right(start);
     }
 }
 
@@ -76,7 +112,7 @@ impl<T: Drop> DoubleEndedRing<T> for GrowableAllocRingBuffer<T> {
 
     fn remove_range<X: RangeBounds<usize>>(&mut self, range: X) {
         let range = range_within(&range, self.deque.len());
-        self.deque.drain(range);
+        self.drop_between(range.start, range.end);
     }
 
     fn swap(&mut self, i: usize, j: usize) {

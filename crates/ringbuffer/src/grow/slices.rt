@@ -2,10 +2,13 @@
 ghost use Rattle.std.specs.Prelude.{◌≡◌, ◌↔◌, ◌-◌, ◌<◌, ◌≤◌, ◌++◌, IfOk, drop, length, min, take};
 ghost use Rattle.std.specs.Borrow.{sem};
 
-use super::{GrowableAllocRingBuffer, MANY, MOST_BYTES_TURNED};
+use super::{FEW_OUT, GrowableAllocRingBuffer, MANY, MOST_BYTES_ROTATED};
 use crate::two_slices::{copy_slices, slices_to_vec};
+use core::mem::replace_with;
 use ring_slots::item_size;
 use std::alloc::{AllocError, Global};
+use std::collections::VecDeque;
+use std::mem;
 
 impl<T: Copy + Drop> GrowableAllocRingBuffer<T> {
     /// Returns copies of the items, oldest first, in new memory, as `to_vec` returns clones. Takes O(n).
@@ -30,36 +33,74 @@ impl<T: Copy + Drop> GrowableAllocRingBuffer<T> {
 
     /// Takes out the oldest items, as many as a slice has places, copies them to its first places, and returns how many.
     /// Takes O(n) in these.
+    // Inlined always, since a call would save and restore six registers.
+    #[inline(always)]
     pub fn dequeue_into(&mut self, output: &mut [T]) -> usize
         ensures count { result ≡ min (length output.old) (length self.old) }
         ensures copied { output.new ≡ take result self.old ++ drop result output.old }
         ensures rest { self.new ≡ drop result self.old }
     {
+        if output.len() < FEW_OUT {
+            return self.dequeue_each(output);
+        }
         let count = self.copy_to_slice(output);
         self.drop_first(count);
         count
     }
 
-    // Drops the first items. Most of many small ones go by turns, and the last by pops: the others then lie where pops alone
+    // Does what `dequeue_into` does, item by item. The deque is a value meanwhile, so that its fields stay in registers. Out of
+    // line, so that blocks take no step for it.
+    #[inline(never)]
+    fn dequeue_each(&mut self, output: &mut [T]) -> usize
+        ensures count { result ≡ min (length output.old) (length self.old) }
+        ensures copied { output.new ≡ take result self.old ++ drop result output.old }
+        ensures rest { self.new ≡ drop result self.old }
+    {
+        let alloc = *self.deque.allocator();
+        let mut deque = mem::replace(&mut self.deque, VecDeque::new(alloc));
+        let count = output.len().min(deque.len());
+        for k in 0..count {
+            output[k] = deque.pop_front().unwrap();
+        }
+        self.deque = deque;
+        count
+    }
+}
+
+impl<T: Drop> GrowableAllocRingBuffer<T> {
+    // Drops the first items. Most of many small ones go by rotations, and the last by pops: the others then lie where pops alone
     // would leave them, also where that is the end of the deque's memory.
     #[inline]
     pub(crate) fn drop_first(&mut self, count: usize)
         requires { count ≤ length self.old }
         ensures { self.new ≡ drop count self.old }
     {
-        let left = if item_size::<T>() <= MOST_BYTES_TURNED {
-            self.drop_by_turns(count)
+        let left = if count >= MANY && item_size::<T>() <= MOST_BYTES_ROTATED {
+            self.drop_by_rotations(count)
         } else {
             count
         };
-        self.deque.drain(..left);
+        // Rotations mostly leave one item, for which a call costs more than the pop.
+        if left == 1 {
+            self.deque.pop_front();
+        } else {
+            self.drop_by_pops(left);
+        }
     }
 
-    // Drops some of the first items, and returns how many of `count` are left to drop. A turn moves items behind the others,
-    // no more than there are of these, and cuts them off there, which takes no step for each. Out of line, since LLVM unrolls
-    // the pops where it sees how few are left, into more instructions for each.
+    // Drops the first items one at a time. Out of line, since LLVM unrolls the pops where it sees how few they are, into more
+    // instructions for each.
     #[inline(never)]
-    fn drop_by_turns(&mut self, count: usize) -> usize
+    fn drop_by_pops(&mut self, count: usize)
+        requires { count ≤ length self.old }
+        ensures { self.new ≡ drop count self.old }
+    {
+        replace_with(&mut self.deque, count, without_first);
+    }
+
+    // Drops some of the first items, and returns how many of `count` are left to drop. A rotation moves items behind the others,
+    // no more than there are of these, and cuts them off there, which takes no step for each.
+    fn drop_by_rotations(&mut self, count: usize) -> usize
         requires { count ≤ length self.old }
         ensures bound { result ≤ count }
         ensures rest { self.new ≡ drop (count - result) self.old }
@@ -96,4 +137,19 @@ impl<T: Drop> GrowableAllocRingBuffer<T> {
     {
         self.deque.make_contiguous()
     }
+}
+
+// Drops the first items of a deque, one at a time. It is a value here and not behind a reference, so that its fields stay in
+// registers.
+#[inline]
+fn without_first<T: Drop>(deque: VecDeque<T>, count: usize) -> (VecDeque<T>, ())
+    requires { count ≤ length deque.items }
+    ensures { result.0.items ≡ drop count deque.items }
+{
+    let mut deque = deque;
+    let rest = deque.len() - count;
+    while deque.len() > rest {
+        deque.pop_front();
+    }
+    (deque, ())
 }

@@ -111,7 +111,7 @@ impl<T: Copy + Drop, const CAP: usize> CopyRingBuffer<T, CAP> {
         Self::from_const(filler, ring)
     }
 
-    /// Makes a ring of the last `CAP` items of an array ring, or all where they are fewer. The others are dropped.
+    /// Makes a ring of the last `CAP` items of a fixed ring, or all where they are fewer. The others are dropped.
     pub fn from_const<S: RingSlots<T>>(filler: T, ring: FixedRing<T, S>) -> Self
         requires { 0 < CAP }
         ensures { HoldsLast CAP ring.items result }

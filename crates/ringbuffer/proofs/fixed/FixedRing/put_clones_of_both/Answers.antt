@@ -1,16 +1,8 @@
-use Rattle.ringbuffer.proofs.Words.{◌≡◌, ◌<◌, ℕ, Err, MatchResult, Ok, Result, ◌++◌, AllZip, AllZip-join, List, after_puts, arith, length, length-append, subst, sym, take, take-append-add, take_all, ◌∙◌, ◌+◌, ap, view_from}
+use Rattle.ringbuffer.proofs.Words.{◌≡◌, ◌<◌, ℕ, Err, MatchResult, Ok, Result, ◌++◌, after_puts, arith, length, length-append, ◌+◌, view_from}
 use Rattle.ringbuffer.proofs.LaysOut.{LaysOut-then}
+use Rattle.ringbuffer.proofs.PushedClones.{joined}
 use Rattle.ringbuffer.proofs.RepeatedSteps.{after_puts-then}
 use Rattle.ringbuffer.proofs.fixed.FixedRing.put_clones_of_both.Goals as goal
-
--- clones of a whole list, and of a beginning of another, are those of a beginning of both
-joined : {X : Type 0} (is_clone : X → X → Type 0) (xs more ys zs : List X) → AllZip is_clone (take (length ys) xs) ys → length ys ≡ length xs
-    → AllZip is_clone (take (length zs) more) zs → AllZip is_clone (take (length (ys ++ zs)) (xs ++ more)) (ys ++ zs)
-joined is_clone xs more ys zs first whole second =
-    let long : length (ys ++ zs) ≡ length xs + length zs = length-append ys zs ∙ ap (λ n. n + length zs) whole in
-    let both : take (length (ys ++ zs)) (xs ++ more) ≡ xs ++ take (length zs) more = ap (λ n. take n (xs ++ more)) long ∙ take-append-add xs more (length zs) in
-    let all : take (length ys) xs ≡ xs = take_all (length ys) xs (omega (arith, whole)) in
-    subst (λ l. AllZip is_clone l (ys ++ zs)) (sym both) (AllZip-join is_clone xs (take (length zs) more) ys zs (rw all at first) second)
 
 -- where the second slice is done, both are
 both_done : {E : Type 0} (Some : Type 0) (done more first second : ℕ) (r : Result (Unit {0}) E) (count : ℕ) → count ≡ done + more → done ≡ first

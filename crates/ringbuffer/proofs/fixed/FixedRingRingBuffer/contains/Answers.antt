@@ -16,4 +16,7 @@ returns-else-contains-clause-cases g c =
     IsAnyAnswer-list_any is c.args.self.now.items c.contains-else-contains.result value
 
 pub returns-in-None-clause-cases : goal.returns-in-None-clause-cases
-returns-in-None-clause-cases g c = IsAnyAnswer-list_any _ _ _ c.holds.ensures
+returns-in-None-clause-cases g c = IsAnyAnswer-list_any _ _ _ c.holds_by_stretch.ensures
+
+pub returns-in-None-2-clause-cases : goal.returns-in-None-2-clause-cases
+returns-in-None-2-clause-cases g c = IsAnyAnswer-list_any _ _ _ c.holds.ensures

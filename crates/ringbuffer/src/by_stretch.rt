@@ -1,0 +1,120 @@
+//! Walks over the items of rings of a fixed capacity by stretches of slots that lie side by side: up to the last slot,
+//! and on from the first. No place is counted round in a loop here.
+ghost use Rattle.std.specs.Prelude.{◌≡◌, List, fold, length};
+ghost use Rattle.std.specs.Cmp.Lexicographic.{pointwise};
+ghost use Rattle.std.specs.Hash as fed;
+ghost use Rattle.std.specs.List.{flat_map, list_any};
+ghost use Rattle.ring_slots.specs.Slots.{HoldsStretch, IsFullStretch};
+
+use crate::fixed::FixedRing;
+use ring_slots::RingSlots;
+use std::hash::{Hash, Hasher};
+
+// As many items, and fewer, are read index by index where slots show no row: their stretches cost more to find.
+pub(crate) const FEW: usize = 12;
+
+impl<T: Drop, S: RingSlots<T>> FixedRing<T, S> {
+    // Returns whether two rings hold equal items, place by place. Each of the three stretches ends where one of the
+    // rings goes on at its first slot, or ends. Out of line, so that few items take no step for it.
+    #[inline(never)]
+    pub(crate) fn same_by_stretch(&self, other: &Self) -> bool
+    where
+        T: PartialEq,
+        requires { length self.now.items ≡ length other.now.items }
+        ensures { result ≡ pointwise T.eq self.now.items other.now.items }
+    {
+        let len = self.span.len;
+        let (a, b) = (self.span.start, other.span.start);
+        let before_a = len.min(self.slots.size() - a);
+        let before_b = len.min(other.slots.size() - b);
+        let first = before_a.min(before_b);
+        let second = before_a.max(before_b);
+        if !Self::same_stretch(&self.slots, a, &other.slots, b, first) {
+            return false;
+        }
+        let (a_on, b_on) = (self.slots.place(a, first), other.slots.place(b, first));
+        let (a_last, b_last) = (self.slots.place(a, second), other.slots.place(b, second));
+        Self::same_stretch(&self.slots, a_on, &other.slots, b_on, second - first)
+            && Self::same_stretch(&self.slots, a_last, &other.slots, b_last, len - second)
+    }
+
+    // Returns whether the items of slots side by side equal those of others, place by place.
+    #[inline]
+    fn same_stretch(slots: &S, from: usize, others: &S, other_from: usize, len: usize) -> bool
+    where
+        T: PartialEq,
+        requires full { IsFullStretch (S.seen slots.now).slots from len }
+        requires others_full { IsFullStretch (S.seen others.now).slots other_from len }
+        ensures { (xs ys : List T) → HoldsStretch (S.seen slots.now).slots from len xs
+            → HoldsStretch (S.seen others.now).slots other_from len ys → result ≡ pointwise T.eq xs ys }
+    {
+        // For the proof: the numbers of slots fit a word.
+        let _ = (slots.size(), others.size());
+        for k in 0..len {
+            let same = *slots.get(from + k) == *others.get(other_from + k);
+            if !same {
+                return false;
+            }
+        }
+        true
+    }
+    // Returns whether an item equals `x`. Out of line, so that few items take no step for it.
+    #[inline(never)]
+    pub(crate) fn holds_by_stretch(&self, x: &T) -> bool
+    where
+        T: PartialEq,
+        ensures { result ≡ list_any (λ y. T.eq y x.now) self.now.items }
+    {
+        let first = self.span.len.min(self.slots.size() - self.span.start);
+        Self::stretch_holds(&self.slots, self.span.start, first, x)
+            || Self::stretch_holds(&self.slots, 0, self.span.len - first, x)
+    }
+
+    // Returns whether an item of slots side by side equals `x`.
+    #[inline]
+    fn stretch_holds(slots: &S, from: usize, len: usize, x: &T) -> bool
+    where
+        T: PartialEq,
+        requires { IsFullStretch (S.seen slots.now).slots from len }
+        ensures { (ys : List T) → HoldsStretch (S.seen slots.now).slots from len ys
+            → result ≡ list_any (λ y. T.eq y x.now) ys }
+    {
+        // For the proof: the number of slots fits a word.
+        let _ = slots.size();
+        for k in 0..len {
+            if *slots.get(from + k) == *x {
+                return true;
+            }
+        }
+        false
+    }
+
+    // Feeds the number of items to a hasher, and then each item.
+    pub(crate) fn hash_by_stretch<H: Hasher>(&self, state: &mut H)
+    where
+        T: Hash,
+        ensures { state.new ≡ fold H.write state.old (fed.slice T.hash_input self.now.items) }
+    {
+        let len = self.span.len;
+        let first = len.min(self.slots.size() - self.span.start);
+        state.write_usize(len);
+        Self::hash_stretch(&self.slots, self.span.start, first, state);
+        Self::hash_stretch(&self.slots, 0, len - first, state);
+    }
+
+    // Feeds each item of slots side by side to a hasher.
+    #[inline]
+    fn hash_stretch<H: Hasher>(slots: &S, from: usize, len: usize, state: &mut H)
+    where
+        T: Hash,
+        requires { IsFullStretch (S.seen slots.now).slots from len }
+        ensures { (xs : List T) → HoldsStretch (S.seen slots.now).slots from len xs
+            → state.new ≡ fold H.write state.old (flat_map T.hash_input xs) }
+    {
+        // For the proof: the number of slots fits a word.
+        let _ = slots.size();
+        for k in 0..len {
+            slots.get(from + k).hash(state);
+        }
+    }
+}
