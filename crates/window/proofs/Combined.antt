@@ -1,13 +1,13 @@
 -- What the laws give of `combined`, and how a window's folds change.
 use Rattle.std.proofs.Common.{◌≡◌, ℕ, zero, suc, ◌+◌, ◌-◌, List, [], ◌∷◌, ◌++◌, length, take, drop, All, Option, None, Some, option_to_list, refl, ap, sym, ◌∙◌, arith, length-append, slice_get, slice_set}
-use Rattle.std.proofs.lemmas.List.{length-map, map-append, take-append-drop, take-append-le, drop-append-le, drop-map, take_all, drop_all}
+use Rattle.std.proofs.lemmas.List.{length-map, map-append, take-append-drop, take-append-le, drop-append-le, drop-map}
 use Rattle.std.proofs.lemmas.List.Elements.{All-cons, All-drop, All-head, All-nil, All-push, All-tail, All-take}
 use Rattle.std.specs.List.{take-map}
 use Rattle.std.specs.Option.{option_map}
 use Rattle.ringbuffer.specs.Contents.{keep_last, overwritten}
 use Rattle.ringbuffer.proofs.Limits.{map-keep_last}
 use Rattle.window.specs.Laws.{MonoidLaws, combined}
-use Rattle.window.specs.Folds.{AreFolded, HoldsFolds, Removes, items, item_of}
+use Rattle.window.specs.Folds.{HoldsFolds, Removes, items, item_of}
 use Rattle.window.specs.declared.fold_window.Kept.{Kept}
 
 module _ {M : Type 0} {valid : M → Type 0} {neutral : M} {op : M → M → M} (laws : MonoidLaws valid neutral op) where
