@@ -215,11 +215,15 @@ fn clone_into<T: Item, R: Measured<T> + Drop>(ring: &R, times: u32) -> u64 {
 
 #[inline(never)]
 fn eq<T: Item, R: Measured<T> + Drop>(ring: &R, times: u32) -> u64 {
-    let Ok(other) = ring.clone() else {
+    let Ok(mut other) = ring.clone() else {
         return 0;
     };
     let mut sum = 0u64;
-    for _ in 0..times {
+    // The newest item changes between two calls, so that none can be left out.
+    for number in 0..times {
+        if let Some(newest) = other.back_mut() {
+            *newest = T::numbered(u64::from(number));
+        }
         sum = sum.wrapping_add(u64::from(*ring == other));
     }
     sum

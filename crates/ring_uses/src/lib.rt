@@ -4,6 +4,7 @@
 
 pub mod array_pipe;
 pub mod average;
+pub mod batches;
 pub mod both_ends;
 pub mod callers;
 pub mod crossing;

@@ -81,14 +81,14 @@ pub fn halve<R: RingBuffer<u32>>(readings: &mut R)
 pub fn halve_in_array(readings: &mut ConstGenericRingBuffer<u32, 4>)
     ensures { readings.new.items ≡ map (λ x. x / 2) readings.old.items }
 {
-    map_each(readings, |x| *x / 2);
+    readings.map_each(|x| *x / 2);
 }
 
 /// Halves each reading of a growable ring.
 pub fn halve_in_growable(readings: &mut GrowableAllocRingBuffer<u32>)
     ensures { readings.new ≡ map (λ x. x / 2) readings.old }
 {
-    map_each(readings, |x| *x / 2);
+    readings.map_each(|x| *x / 2);
 }
 
 /// Drops the oldest events up to the first that isn't before a time, and returns how many.
@@ -104,5 +104,5 @@ pub fn forget_before_on_heap(events: &mut AllocRingBuffer<Event>, time: u64)
     ensures { events.new.items
         ≡ drop (prefix_len (λ event. nat_lt event.time time) events.old.items) events.old.items }
 {
-    let _ = dequeue_while(events, |event| event.time < time);
+    let _ = events.dequeue_while(|event| event.time < time);
 }

@@ -4,8 +4,8 @@ ghost use Rattle.std.specs.Prelude.{◌≡◌, ℕ, ◌<◌, ◌≤◌, IfErr, I
 ghost use Rattle.std.specs.List.Sorted.{IsNonDecreasing};
 
 use ringbuffer::{
-    AllocRingBuffer, ConstGenericRingBuffer, GrowableAllocRingBuffer, RingBuffer, binary_search,
-    partition_point, retain,
+    AllocRingBuffer, ConstGenericRingBuffer, GrowableAllocRingBuffer, RingBuffer, RingBufferExt,
+    binary_search, partition_point, retain,
 };
 
 /// Drops the readings above a limit.
@@ -44,7 +44,7 @@ pub fn drop_above_on_heap(readings: &mut AllocRingBuffer<u32>, limit: u32)
     ensures { readings.new.items
         ≡ filter (λ reading. nat_le reading limit) readings.old.items }
 {
-    drop_above(readings, limit).unwrap();
+    readings.retain(|reading| *reading <= limit).unwrap();
 }
 
 /// Drops the readings above a limit from an array ring, which is never refused.
@@ -63,7 +63,7 @@ pub fn drop_above_in_growable(
     ensures { OnOk result
         (readings.new ≡ filter (λ reading. nat_le reading limit) readings.old) }
 {
-    drop_above(readings, limit)
+    readings.retain(|reading| *reading <= limit)
 }
 
 /// Finds a time in a heap ring of times that rise.
