@@ -15,9 +15,11 @@ mod moving;
 mod positions;
 mod pushing;
 mod runs;
+mod searches;
 mod selection;
 mod slices;
 mod sums;
+mod taking;
 mod uses;
 mod windows;
 

@@ -2,6 +2,7 @@
 
 ghost use Rattle.std.specs.Prelude.{◌<◌};
 
+mod clones;
 mod conversions;
 mod rows;
 mod sources;

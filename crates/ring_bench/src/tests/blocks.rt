@@ -1,7 +1,7 @@
 //! Blocks of items into growable rings and out of them, on both sides of each choice that lengths and sizes make there.
 
 use super::assert_equal;
-use ringbuffer::{GrowableAllocRingBuffer, RingBuffer};
+use ringbuffer::{DoubleEndedRing, GrowableAllocRingBuffer, RingBuffer};
 use std::alloc::{AllocError, Global};
 use std::fmt::Debug;
 use std::io::BufRead;
@@ -249,6 +249,53 @@ fn assert_all_blocks<T: Numbered>(rt: &impl Abort, alloc: Global) -> Result<(), 
         }
     }
     Ok(())
+}
+
+/// Removes `count` items at an index of a ring as `ring_of` makes it. The others lie as where a deque's `drain` took them out.
+fn assert_removes<T: Numbered>(
+    rt: &impl Abort,
+    alloc: Global,
+    capacity: usize,
+    start: usize,
+    held: usize,
+    from: usize,
+    count: usize,
+) -> Result<(), AllocError> {
+    let mut ring = ring_of::<T>(rt, alloc, capacity, start, held)?;
+    let mut drained = ring_of::<T>(rt, alloc, capacity, start, held)?;
+    let from = from.min(held);
+    let to = from.saturating_add(count).min(held);
+    ring.remove_range(from..to);
+    let deque = drained.as_mut();
+    assert!(rt; to <= deque.len());
+    deque.drain(from..to);
+    assert_lie_alike(rt, alloc, ring, drained)
+}
+
+/// Removes the items of each row from each start: the oldest, some in the middle, and the newest. What is kept of the newest
+/// lies as where the others were popped.
+fn assert_all_removals<T: Numbered>(rt: &impl Abort, alloc: Global) -> Result<(), AllocError> {
+    for (held, count) in ROWS {
+        let last = held.saturating_sub(*count);
+        for start in starts(*held, *count) {
+            for from in [0, 1, last / 2, last.saturating_sub(1), last] {
+                assert_removes::<T>(rt, alloc, *held, start, *held, from, *count)?;
+            }
+            let mut ring = ring_of::<T>(rt, alloc, *held, start, *held)?;
+            ring.keep_newest(last);
+            let popped = popped_of(rt, alloc, *held, start, *held, *count)?;
+            assert_lie_alike(rt, alloc, ring, popped)?;
+        }
+    }
+    Ok(())
+}
+
+#[test]
+fn blocks_leave_the_middle(rt: HostRuntime) -> Result<(), AllocError> {
+    assert_all_removals::<u8>(&rt, rt.alloc())?;
+    assert_all_removals::<u64>(&rt, rt.alloc())?;
+    assert_all_removals::<[u8; 17]>(&rt, rt.alloc())?;
+    assert_all_removals::<()>(&rt, rt.alloc())
 }
 
 #[test]

@@ -146,7 +146,7 @@ fn assert_copies<R: Slices + Drop>(rt: &impl Abort, mut ring: R, alloc: Global) 
             assert_equal(rt, &*copies, items);
             let mut output = [9; 6];
             let output = &mut output[..copied.len().min(6)];
-            assert_equal(rt, ring.copy_to_slice(output), *count);
+            assert_equal(rt, Slices::copy_to_slice(&ring, output), *count);
             assert_equal(rt, &*output, copied);
             assert_steps(rt, &mut ring, &[Holds(items)]);
             output.fill(9);

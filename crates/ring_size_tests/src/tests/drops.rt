@@ -1,4 +1,4 @@
-//! Many items that leave at once: each is dropped exactly once, and at once.
+//! Many items that leave at once: each is dropped exactly once, at once and in order.
 
 use super::assert_equal;
 use ring_test_support::counted::{Counted, Supply};
@@ -61,6 +61,7 @@ fn assert_keep_newest<'a, R: DoubleEndedRing<Counted<'a>> + Drop>(
     push_many(rt, &mut ring, supply);
     ring.keep_newest(30);
     assert_dropped(rt, supply, 0, 70);
+    assert!(rt; supply.is_in_order());
     drop(ring);
     assert_equal(rt, supply.first_fault(0), None);
 }
@@ -79,6 +80,7 @@ fn assert_truncate<'a, R: DoubleEndedRing<Counted<'a>> + Drop>(
     push_many(rt, &mut ring, supply);
     ring.truncate(30);
     assert_dropped(rt, supply, 30, MANY);
+    assert!(rt; supply.is_in_order());
     drop(ring);
     assert_equal(rt, supply.first_fault(0), None);
 }
@@ -97,6 +99,7 @@ fn assert_remove_range<'a, R: DoubleEndedRing<Counted<'a>> + Drop>(
     push_many(rt, &mut ring, supply);
     ring.remove_range(20..80);
     assert_dropped(rt, supply, 20, 80);
+    assert!(rt; supply.is_in_order());
     drop(ring);
     assert_equal(rt, supply.first_fault(0), None);
 }

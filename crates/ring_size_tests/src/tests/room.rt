@@ -1,7 +1,7 @@
 //! The room of growable rings: how it grows, and that it stays.
 
 use super::{assert_equal, assert_numbers, block};
-use ringbuffer::{GrowableAllocRingBuffer, RingBuffer, dequeue_while, retain};
+use ringbuffer::{DoubleEndedRing, GrowableAllocRingBuffer, RingBuffer, dequeue_while, retain};
 use std::alloc::AllocError;
 use std::io::BufRead;
 
@@ -49,8 +49,11 @@ fn room_stays_where_items_leave(rt: HostRuntime) -> Result<(), AllocError> {
     let _ = ring.dequeue();
     ring.keep_newest(4000);
     ring.truncate(3000);
+    ring.remove_range(100..200);
+    ring.remove_range(2000..);
     assert_equal(&rt, ring.capacity(), room);
     assert_equal(&rt, retain(&mut ring, |item| *item % 2 == 0), Ok(()));
+    assert_equal(&rt, ring.retain(|item| *item % 4 == 0), Ok(()));
     let _ = dequeue_while(&mut ring, |item| *item < 2000);
     assert_equal(&rt, ring.capacity(), room);
     let mut output = block(rt.alloc(), 0, 100)?;
@@ -72,6 +75,40 @@ fn an_empty_ring_uses_its_room(rt: HostRuntime) -> Result<(), AllocError> {
         ring.extend(items.iter().copied())?;
         assert_equal(&rt, ring.capacity(), room);
         assert_numbers(&rt, &ring, 0, count);
+    }
+    Ok(())
+}
+
+#[test]
+fn clones_go_into_the_room_of_another_ring(rt: HostRuntime) -> Result<(), AllocError> {
+    let mut ring = GrowableAllocRingBuffer::<u64>::with_capacity(rt.alloc(), 100)?;
+    for number in 0..150 {
+        let _ = ring.push(number);
+        if number < 60 {
+            ring.skip();
+        }
+    }
+    // The items go round the end of their memory, and the other ring's begin at each place of its own.
+    let (first, second) = ring.as_slices();
+    assert_equal(&rt, (first.len(), second.len()), (40, 50));
+    for room in [89, 90, 91, 200] {
+        for start in [0, 1, 50] {
+            let mut other = GrowableAllocRingBuffer::<u64>::with_capacity(rt.alloc(), room)?;
+            for number in 0..start {
+                let _ = other.push(number);
+                other.skip();
+            }
+            let _ = other.push(7);
+            DoubleEndedRing::clone_into(&ring, &mut other)?;
+            assert_equal(&rt, other == ring, true);
+            // A deque that begins at its memory's first place grows by twice, and else to what is asked for.
+            let most = match (room, start) {
+                (89, 0) => 178,
+                (89, _) => 90,
+                _ => room,
+            };
+            assert_equal(&rt, other.capacity(), most);
+        }
     }
     Ok(())
 }

@@ -39,6 +39,8 @@ fn heap_rings_ask_for_one_block(rt: HostRuntime) -> Result<(), AllocError> {
     assert_numbers(&rt, &twin, 0, COUNT);
     sparing!(&rt, IN_SLOTS, twin.set_capacity(COUNT + 1));
     assert_numbers(&rt, &twin, 0, COUNT);
+    sparing!(&rt, 0, twin.set_capacity(COUNT + 1));
+    assert_numbers(&rt, &twin, 0, COUNT);
     let made = sparing!(&rt, IN_SLOTS, AllocRingBuffer::from_vec(rt.alloc(), items));
     assert_equal(&rt, made == ring, true);
     Ok(())
