@@ -3,6 +3,7 @@ pub mod BothMeanings
 pub mod Callers
 pub mod Cloned
 pub mod CommandLoop
+pub mod ComparedWalks
 pub mod Drained
 pub mod Filling
 pub mod Halving

@@ -1,6 +1,7 @@
 //! Calls by a dot on any ring.
 
 ghost use Rattle.std.specs.Prelude.{◌≡◌, ◌+◌, ◌-◌, ◌*◌, ◌≤◌, [], IfErr, IfOk, IsOk, IsSome, OnErr, OnOk, drop, filter, length, map, min, take};
+ghost use Rattle.std.specs.Cmp.Lexicographic.{pointwise};
 ghost use Rattle.std.specs.Fn.{CalledAt};
 ghost use Rattle.std.specs.List.{prefix_len};
 ghost use Rattle.std.specs.List.Retain.{IsFiltered};
@@ -59,6 +60,16 @@ pub trait RingBufferExt<T: Drop>: RingBuffer<T> {
         ensures ring { result.ring.now ≡ self.entry.now }
         ensures runs { DrainsInOrder Self.contents Self.limit Self.slot_changes }
         ensures runs_back { DrainsInReverse Self.contents Self.limit Self.slot_changes };
+
+    /// Returns whether the items equal those of a slice, place by place. `==` compares a ring with one of its type alone.
+    ///
+    /// ```rust
+    /// assert!(ring.eq_slice(&[1, 2]));
+    /// ```
+    fn eq_slice(&self, items: &[T]) -> bool
+    where
+        T: PartialEq,
+        ensures { result ≡ pointwise T.eq (Self.contents self.now) items.now };
 
     /// Takes out all items, oldest first, in new memory, and leaves the ring empty. Takes O(n). This call is the
     /// library's own: the Rust crate has none like it.
@@ -151,6 +162,14 @@ impl<T: Drop, R: RingBuffer<T>> RingBufferExt<T> for R {
     #[inline]
     fn drain(&mut self) -> RingBufferDrainingIterator<'_, T, R> {
         RingBufferDrainingIterator::new(self)
+    }
+
+    #[inline]
+    fn eq_slice(&self, items: &[T]) -> bool
+    where
+        T: PartialEq,
+    {
+        RingBufferIterator::new(self).eq(items.iter())
     }
 
     #[inline]

@@ -5,11 +5,6 @@ use Rattle.std.proofs.Common.{Ordering, Less, Equal, Greater}
 use Rattle.std.specs.Ordering.{MatchOrdering, ordering_then, partial_ordering_then}
 use Rattle.std.specs.Prelude.{⊤}
 
--- what a walk gave and what it has left is what it had
-pub given : {S A : Type 0} (left : S → List A) (s t : S) (xs : List (Bor A)) → Yields (YieldsFirstRef left) s xs t → left s ≡ map (λ x. x.now) xs ++ left t
-given left s t [] took = ap left took
-given left s t (x ∷ xs) took = took.1 ∙ ap (λ l. x.now ∷ l) (given left took.0 t xs took.2)
-
 module _ {A : Type 0} (cmp : A → A → Ordering) where
   pub cmp-after_equal : (xs ys : List (Bor A)) (vs ws : List A) → AllZip (λ x y. cmp x.now y.now ≡ Equal) xs ys → slice_cmp cmp (map (λ x. x.now) xs ++ vs) (map (λ x. x.now) ys ++ ws) ≡ slice_cmp cmp vs ws
   cmp-after_equal [] [] vs ws same = refl

@@ -1,10 +1,10 @@
-//! Rings as collections of std's `Extend`.
+//! Rings as collections of std's `Extend`, and beside slices.
 
 ghost use Rattle.std.specs.Prelude.{List, ℤ};
 
 use super::assert_equal;
 use ring_test_support::{on_each, on_fixed, on_growable};
-use ringbuffer::RingBuffer;
+use ringbuffer::{RingBuffer, RingBufferExt};
 use std::iter::repeat_n;
 use std::process::Abort;
 
@@ -27,4 +27,33 @@ fn generic_code_extends_a_ring(rt: HostRuntime) {
     on_fixed!(&rt, 3, assert_adds, &[2, 3, 4]);
     on_growable!(&rt, 3, assert_adds, &[0, 1, 2, 3, 4]);
     on_each!(&rt, 5, assert_adds, &[0, 1, 2, 3, 4]);
+}
+
+/// Compares a ring of three items, in memory that they go round in, with slices that differ at each place and in length.
+fn assert_equals_slices<R: RingBuffer<i64> + Drop>(rt: &impl Abort, mut ring: R) {
+    assert_equal(rt, (ring.eq_slice(&[]), ring.eq_slice(&[0])), (true, false));
+    for first in 0..9i64 {
+        let items = [first, first + 1, first + 2];
+        ring.clear();
+        for item in items {
+            let _ = ring.push(item);
+        }
+        assert_equal(rt, ring.eq_slice(&items), true);
+        for k in 0..3 {
+            let mut others = items;
+            others[k] = -1;
+            assert_equal(rt, ring.eq_slice(&others), false);
+            assert_equal(rt, ring.eq_slice(&items[..k]), false);
+            assert_equal(rt, ring.eq_slice(&items[k + 1..]), false);
+        }
+        assert_equal(rt, ring.eq_slice(&[first, first + 1, first + 2, first + 3]), false);
+        let _ = ring.dequeue();
+        assert_equal(rt, ring.eq_slice(&items[1..]), true);
+    }
+}
+
+#[test]
+fn a_ring_is_compared_with_slices(rt: HostRuntime) {
+    on_each!(&rt, 3, assert_equals_slices);
+    on_each!(&rt, 4, assert_equals_slices);
 }

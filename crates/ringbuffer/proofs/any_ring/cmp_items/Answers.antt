@@ -1,6 +1,7 @@
 use Rattle.ringbuffer.proofs.Words.{◌≡◌, ◌∙◌, ◌++◌, ap, map, sym}
 use Rattle.ring_core.specs.Walk.{iterator_to_come}
-use Rattle.ringbuffer.proofs.Compared.{given, cmp-after_equal, cmp-ended}
+use Rattle.ring_core.proofs.ComparedWalks.{given}
+use Rattle.ringbuffer.proofs.Compared.{cmp-after_equal, cmp-ended}
 use Rattle.ringbuffer.proofs.any_ring.cmp_items.Goals as goal
 
 -- Both walks gave equal items pair by pair, and the two answers after them decide.

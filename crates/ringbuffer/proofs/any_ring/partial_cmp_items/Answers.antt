@@ -1,6 +1,7 @@
 use Rattle.ringbuffer.proofs.Words.{◌≡◌, ◌∙◌, ◌++◌, ap, map, sym}
 use Rattle.ring_core.specs.Walk.{iterator_to_come}
-use Rattle.ringbuffer.proofs.Compared.{given, partial_cmp-after_equal, partial_cmp-ended}
+use Rattle.ring_core.proofs.ComparedWalks.{given}
+use Rattle.ringbuffer.proofs.Compared.{partial_cmp-after_equal, partial_cmp-ended}
 use Rattle.ringbuffer.proofs.any_ring.partial_cmp_items.Goals as goal
 
 -- Both walks gave equal items pair by pair, and the two answers after them decide.
