@@ -34,4 +34,4 @@ module _ {S R A : Type 0} (left : S → List A) (other_left : R → List A) (eq 
       → r ≡ pointwise eq (left a) (other_left b)
   same_in_order a s u b t v xs ys o p took took_too same stepped stepped_too last =
       rw (given left a s xs took, given other_left b t ys took_too, pointwise-after_equal eq xs ys (left s) (other_left t) same)
-          (ended_as s u t v o p stepped stepped_too last)
+      (ended_as s u t v o p stepped stepped_too last)

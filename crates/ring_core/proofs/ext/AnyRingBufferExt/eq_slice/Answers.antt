@@ -16,4 +16,4 @@ pub returns : goal.returns
 returns g c =
     let (it, xs, ys, o, p, u, v, is_it, (s, took, stepped), (t, took_too, stepped_too), same, last) = c.eq.ensures.ran in
     rw (← c.new.ensures.left, ← c.iter.ensures.rest, ← is_it)
-        (same_in_order (iterator_to_come g.R.RingBuffer.contents) iter_rest g.T.PartialEq.eq c.eq.result c.new.result s u it t v xs ys o p took took_too same stepped (front_step t v p stepped_too) last)
+    (same_in_order (iterator_to_come g.R.RingBuffer.contents) iter_rest g.T.PartialEq.eq c.eq.result c.new.result s u it t v xs ys o p took took_too same stepped (front_step t v p stepped_too) last)
