@@ -1,4 +1,3 @@
-pub mod Compared
 pub mod Conversions
 pub mod CopiedOut
 pub mod Copies
@@ -6,6 +5,7 @@ pub mod EmptiedStretches
 pub mod LaysApart
 pub mod LaysOut
 pub mod LentItem
+pub mod Ordered
 pub mod Paired
 pub mod Passed
 pub mod Poured

@@ -1,39 +1,14 @@
-//! Rings of any type: comparing two of them, and pushing clones.
+//! Pushing clones, or the items of an array, onto a ring of any type.
 
 ghost use Rattle.std.specs.Prelude.{◌≡◌, [], ◌∷◌, ◌++◌, IsOk, IsSome, List, OnErr, OnOk, Some, length, map};
-ghost use Rattle.std.specs.Cmp.Lexicographic.{pointwise, slice_cmp, slice_partial_cmp};
 ghost use Rattle.std.specs.Borrow.{Bor};
 ghost use Rattle.std.specs.Iterator.{Drains, IsFinite, YieldsThen};
 ghost use Rattle.std.specs.List.{AllZip};
 ghost use Rattle.ring_core.specs.Contents.{keep_last};
 ghost use Rattle.ringbuffer.specs.Somes.{somes};
 
-use ring_core::{RingBuffer, RingBufferIterator};
+use ring_core::RingBuffer;
 use std::alloc::AllocError;
-use std::cmp::Ordering;
-
-/// Returns whether two rings hold equal items, place by place.
-pub fn same_items<T: PartialEq + Drop, R: RingBuffer<T>>(a: &R, b: &R) -> bool
-    ensures { result ≡ pointwise T.eq (R.contents a.now) (R.contents b.now) }
-{
-    a.len() == b.len() && RingBufferIterator::new(a).eq(RingBufferIterator::new(b))
-}
-
-/// Returns how the items of two rings compare, where they do: as those at the first place where they differ, or as the
-/// numbers of items.
-pub fn partial_cmp_items<T: PartialOrd + Drop, R: RingBuffer<T>>(a: &R, b: &R) -> Option<Ordering>
-    ensures { result ≡ slice_partial_cmp T.partial_cmp (R.contents a.now) (R.contents b.now) }
-{
-    RingBufferIterator::new(a).partial_cmp(RingBufferIterator::new(b))
-}
-
-/// Returns how the items of two rings compare: as those at the first place where they differ, or as the numbers of
-/// items.
-pub fn cmp_items<T: Ord + Drop, R: RingBuffer<T>>(a: &R, b: &R) -> Ordering
-    ensures { result ≡ slice_cmp T.cmp (R.contents a.now) (R.contents b.now) }
-{
-    RingBufferIterator::new(a).cmp(RingBufferIterator::new(b))
-}
 
 // Pushes an item, and drops the one that it overwrites. An item that is refused is dropped too.
 fn push_item<T: Drop, R: RingBuffer<T>>(ring: &mut R, item: T) -> Result<(), AllocError>

@@ -1,63 +1,103 @@
 //! Walks over the items of rings of a fixed capacity by stretches of slots that lie side by side: up to the last slot,
 //! and on from the first. No place is counted round in a loop here.
-ghost use Rattle.std.specs.Prelude.{◌≡◌, List, fold, length};
-ghost use Rattle.std.specs.Cmp.Lexicographic.{pointwise};
+ghost use Rattle.std.specs.Prelude.{◌≡◌, ◌≤◌, List, fold, length};
+ghost use Rattle.std.specs.Cmp.Lexicographic.{slice_partial_cmp};
 ghost use Rattle.std.specs.Hash as fed;
-ghost use Rattle.std.specs.List.{flat_map, list_any};
+ghost use Rattle.std.specs.List.{common_prefix_len, flat_map, list_any};
 ghost use Rattle.ring_slots.specs.Slots.{HoldsStretch, IsFullStretch};
 
 use crate::fixed::FixedRing;
 use ring_slots::RingSlots;
+use std::cmp::Ordering;
 use std::hash::{Hash, Hasher};
 
 // As many items, and fewer, are read index by index where slots show no row: their stretches cost more to find.
 pub(crate) const FEW: usize = 12;
 
 impl<T: Drop, S: RingSlots<T>> FixedRing<T, S> {
-    // Returns whether two rings hold equal items, place by place. Each of the three stretches ends where one of the
-    // rings goes on at its first slot, or ends. Out of line, so that few items take no step for it.
-    #[inline(never)]
-    pub(crate) fn same_by_stretch(&self, other: &Self) -> bool
+    // Returns how many items in front of two rings are equal, place by place.
+    pub(crate) fn common_prefix_len(&self, other: &Self) -> usize
     where
         T: PartialEq,
-        requires { length self.now.items ≡ length other.now.items }
-        ensures { result ≡ pointwise T.eq self.now.items other.now.items }
+        ensures { result ≡ common_prefix_len T.eq self.now.items other.now.items }
     {
-        let len = self.span.len;
+        let len = self.span.len.min(other.span.len);
+        if len > FEW {
+            return self.prefix_by_stretch(other);
+        }
+        for k in 0..len {
+            let same = *self.at(k) == *other.at(k);
+            if !same {
+                return k;
+            }
+        }
+        len
+    }
+
+    // Does what `common_prefix_len` does, in three stretches. Each ends where one of the rings goes on at its first slot, or
+    // ends. Out of line, so that few items take no step for it.
+    #[inline(never)]
+    fn prefix_by_stretch(&self, other: &Self) -> usize
+    where
+        T: PartialEq,
+        ensures { result ≡ common_prefix_len T.eq self.now.items other.now.items }
+    {
+        let len = self.span.len.min(other.span.len);
         let (a, b) = (self.span.start, other.span.start);
         let before_a = len.min(self.slots.size() - a);
         let before_b = len.min(other.slots.size() - b);
         let first = before_a.min(before_b);
         let second = before_a.max(before_b);
-        if !Self::same_stretch(&self.slots, a, &other.slots, b, first) {
-            return false;
+        let found = Self::stretch_prefix(&self.slots, a, &other.slots, b, first);
+        if found < first {
+            return found;
         }
         let (a_on, b_on) = (self.slots.place(a, first), other.slots.place(b, first));
+        let more = Self::stretch_prefix(&self.slots, a_on, &other.slots, b_on, second - first);
+        if more < second - first {
+            return first + more;
+        }
         let (a_last, b_last) = (self.slots.place(a, second), other.slots.place(b, second));
-        Self::same_stretch(&self.slots, a_on, &other.slots, b_on, second - first)
-            && Self::same_stretch(&self.slots, a_last, &other.slots, b_last, len - second)
+        second + Self::stretch_prefix(&self.slots, a_last, &other.slots, b_last, len - second)
     }
 
-    // Returns whether the items of slots side by side equal those of others, place by place.
+    // Returns how many items in front of slots side by side equal those of others, place by place.
     #[inline]
-    fn same_stretch(slots: &S, from: usize, others: &S, other_from: usize, len: usize) -> bool
+    fn stretch_prefix(slots: &S, from: usize, others: &S, other_from: usize, len: usize) -> usize
     where
         T: PartialEq,
         requires full { IsFullStretch (S.seen slots.now).slots from len }
         requires others_full { IsFullStretch (S.seen others.now).slots other_from len }
-        ensures { (xs ys : List T) → HoldsStretch (S.seen slots.now).slots from len xs
-            → HoldsStretch (S.seen others.now).slots other_from len ys → result ≡ pointwise T.eq xs ys }
+        ensures within { result ≤ len }
+        ensures value { (xs ys : List T) → HoldsStretch (S.seen slots.now).slots from len xs
+            → HoldsStretch (S.seen others.now).slots other_from len ys
+            → result ≡ common_prefix_len T.eq xs ys }
     {
         // For the proof: the numbers of slots fit a word.
         let _ = (slots.size(), others.size());
         for k in 0..len {
             let same = *slots.get(from + k) == *others.get(other_from + k);
             if !same {
-                return false;
+                return k;
             }
         }
-        true
+        len
     }
+
+    // Returns how the items of two rings compare, where they do: as those at the first place where they differ, or as the
+    // numbers of items.
+    pub(crate) fn partial_cmp_items(&self, other: &Self) -> Option<Ordering>
+    where
+        T: PartialOrd,
+        ensures { result ≡ slice_partial_cmp T.partial_cmp self.now.items other.now.items }
+    {
+        let k = self.common_prefix_len(other);
+        if k < self.span.len.min(other.span.len) {
+            return self.at(k).partial_cmp(other.at(k));
+        }
+        Some(self.span.len.cmp(&other.span.len))
+    }
+
     // Returns whether an item equals `x`. Out of line, so that few items take no step for it.
     #[inline(never)]
     pub(crate) fn holds_by_stretch(&self, x: &T) -> bool

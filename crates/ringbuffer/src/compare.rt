@@ -7,8 +7,6 @@ ghost use Rattle.std.specs.Hash.{items_Alike, on_Alike, second_alike};
 ghost use Rattle.std.specs.Ordering.{nat_cmp, ordering_then, partial_ordering_then};
 ghost use Rattle.std.proofs.lemmas.Cmp.{and_equiv, lists_equiv, lists_total, nat_cmp_total, nat_eq_equiv, on_equiv, on_total, then_total};
 
-use crate::any_ring::{cmp_items, partial_cmp_items, same_items};
-use crate::by_stretch::FEW;
 use crate::fixed::FixedRing;
 use crate::two_slices::same_in_slices;
 use ring_core::RingBuffer;
@@ -29,8 +27,7 @@ impl<T: PartialEq + Drop, S: RingSlots<T>> PartialEq for FixedRing<T, S> {
         }
         match (self.rows(), other.rows()) {
             (Some(a), Some(b)) => same_in_slices(a, b),
-            _ if self.len() > FEW => self.same_by_stretch(other),
-            _ => same_items(self, other),
+            _ => self.common_prefix_len(other) == self.len(),
         }
     }
 }
@@ -53,7 +50,7 @@ impl<T: PartialOrd + Drop, S: RingSlots<T>> PartialOrd for FixedRing<T, S> {
 
     fn partial_cmp(&self, other: &Self) -> Option<Ordering> {
         match self.capacity().cmp(&other.capacity()) {
-            Ordering::Equal => partial_cmp_items(self, other),
+            Ordering::Equal => self.partial_cmp_items(other),
             decided => Some(decided),
         }
     }
@@ -77,7 +74,7 @@ impl<T: Ord + Drop, S: RingSlots<T>> Ord for FixedRing<T, S> {
 
     fn cmp(&self, other: &Self) -> Ordering {
         match self.capacity().cmp(&other.capacity()) {
-            Ordering::Equal => cmp_items(self, other),
+            Ordering::Equal => self.partial_cmp_items(other).unwrap(),
             decided => decided,
         }
     }
