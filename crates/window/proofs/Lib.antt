@@ -4,4 +4,5 @@ pub mod Orders
 pub mod Pushed
 pub mod Squares
 pub mod Sums
+pub mod Times
 pub mod WorkedSums

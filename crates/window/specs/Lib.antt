@@ -13,4 +13,5 @@ pub mod MatrixLaws
 pub mod Moments
 pub mod MonotonicQueue
 pub mod Sums
+pub mod Times
 pub mod Views

@@ -24,3 +24,10 @@ pub record RankedItems (T : Type 0) : Type 0 where
   pub limit : Option ℕ
   pub pushed : ℕ
   pub compared : ℕ
+
+-- the items that a window holds, oldest first, the most that it can hold, if there is such a number,
+-- and how much older than the newest an item may be
+pub record TimedItems (T : Type 0) : Type 0 where
+  pub contents : List T
+  pub limit : Option ℕ
+  pub span : ℕ

@@ -19,6 +19,7 @@ mod sum;
 mod summed;
 mod tally;
 mod tally_window;
+mod time_window;
 
 pub use count_if::{CountIf, Predicate};
 pub use extremes::{BoundingBox, Corners, Greatest, Least};
@@ -28,10 +29,10 @@ pub use gcd::Gcd;
 pub use least_window::{Candidate, WindowLeast, WindowMax, WindowMin};
 pub use makers::{
     AllocWindowFold, AllocWindowMax, AllocWindowMin, AllocWindowMoments, AllocWindowSum,
-    ConstGenericWindowFold, ConstGenericWindowMax, ConstGenericWindowMin,
-    ConstGenericWindowMoments, ConstGenericWindowSum, CopyWindowMoments, CopyWindowSum,
-    GrowableAllocWindowFold, GrowableAllocWindowMax, GrowableAllocWindowMin,
-    GrowableAllocWindowMoments, GrowableAllocWindowSum,
+    AllocWindowTime, ConstGenericWindowFold, ConstGenericWindowMax, ConstGenericWindowMin,
+    ConstGenericWindowMoments, ConstGenericWindowSum, ConstGenericWindowTime, CopyWindowMoments,
+    CopyWindowSum, GrowableAllocWindowFold, GrowableAllocWindowMax, GrowableAllocWindowMin,
+    GrowableAllocWindowMoments, GrowableAllocWindowSum, GrowableAllocWindowTime,
 };
 pub use matrix::Matrix;
 pub use moments::{Moments, WindowMoments};
@@ -42,3 +43,4 @@ pub use sum::{Sum, WindowSum};
 pub use summed::Summed;
 pub use tally::Tally;
 pub use tally_window::WindowTally;
+pub use time_window::{Stamped, WindowTime};

@@ -10,6 +10,7 @@ use crate::order::Order;
 use crate::sum::WindowSum;
 use crate::tally::Tally;
 use crate::tally_window::WindowTally;
+use crate::time_window::{Stamped, WindowTime};
 use ringbuffer::{
     AllocRingBuffer, ConstGenericRingBuffer, CopyRingBuffer, GrowableAllocRingBuffer,
 };
@@ -76,6 +77,18 @@ pub type CopyWindowMoments<const CAP: usize> = WindowMoments<CopyRingBuffer<i32,
 
 /// A `WindowMoments` over a growable ring.
 pub type GrowableAllocWindowMoments = WindowMoments<GrowableAllocRingBuffer<i32>>;
+
+/// A `WindowTime` over a heap ring.
+pub type AllocWindowTime<T> = WindowTime<T, AllocRingBuffer<Stamped<T>>>;
+
+/// A `WindowTime` over an array ring.
+pub type ConstGenericWindowTime<T, const CAP: usize> = WindowTime<
+    T,
+    ConstGenericRingBuffer<Stamped<T>, CAP>,
+>;
+
+/// A `WindowTime` over a growable ring.
+pub type GrowableAllocWindowTime<T> = WindowTime<T, GrowableAllocRingBuffer<Stamped<T>>>;
 
 impl<M: Monoid> WindowFold<M, AllocRingBuffer<Kept<M>>> {
     /// Returns an empty window over a heap ring of this capacity.
@@ -221,5 +234,46 @@ impl<T: Copy, S: Tally<T>> WindowTally<T, S, GrowableAllocRingBuffer<T>> {
         ensures removed { result.removed ≡ 0 }
     {
         WindowTally::new(GrowableAllocRingBuffer::new(alloc))
+    }
+}
+
+impl<T: Drop> WindowTime<T, AllocRingBuffer<Stamped<T>>> {
+    /// Returns an empty window of this span over a heap ring of this capacity.
+    ///
+    /// # Errors
+    ///
+    /// As `AllocRingBuffer::new`.
+    pub fn on_heap(alloc: Global, capacity: usize, span: u64) -> Result<Self, AllocError>
+        requires { 0 < capacity }
+        ensures contents { IfOk result (λ w. w.contents ≡ []) }
+        ensures limit { IfOk result (λ w. w.limit ≡ Some capacity) }
+        ensures span { IfOk result (λ w. w.span ≡ span) }
+        ensures too_large { 2 ^ 63 < capacity → IsErr result }
+    {
+        let ring = AllocRingBuffer::new(alloc, capacity)?;
+        Ok(WindowTime::new(ring, span))
+    }
+}
+
+impl<T: Drop, const CAP: usize> WindowTime<T, ConstGenericRingBuffer<Stamped<T>, CAP>> {
+    /// Returns an empty window of this span over an array ring of this capacity.
+    pub fn in_array(span: u64) -> Self
+        requires { 0 < CAP }
+        ensures contents { result.contents ≡ [] }
+        ensures limit { result.limit ≡ Some CAP }
+        ensures span { result.span ≡ span }
+    {
+        WindowTime::new(ConstGenericRingBuffer::new(), span)
+    }
+}
+
+impl<T: Drop> WindowTime<T, GrowableAllocRingBuffer<Stamped<T>>> {
+    /// Returns an empty window of this span over a growable ring.
+    pub fn growable(alloc: Global, span: u64) -> Self
+        ensures contents { result.contents ≡ [] }
+        ensures limit { result.limit ≡ None }
+        ensures span { result.span ≡ span }
+    {
+        WindowTime::new(GrowableAllocRingBuffer::new(alloc), span)
     }
 }
