@@ -2,6 +2,7 @@
 
 mod counted;
 mod refused;
+mod timed;
 
 use ringbuffer::{AllocRingBuffer, ConstGenericRingBuffer, GrowableAllocRingBuffer, RingBuffer};
 use std::collections::VecDeque;

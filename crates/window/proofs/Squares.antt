@@ -6,7 +6,7 @@ use Rattle.std.proofs.Math.Nat.{mul-le-mul}
 use Rattle.std.proofs.lemmas.Int.{ints}
 use Rattle.std.proofs.lemmas.List.Elements.{All-head, All-push, All-tail}
 use Rattle.std.proofs.lemmas.List.Sums.{fold_push}
-use Rattle.window.proofs.Sums.{total-cons}
+use Rattle.window.specs.SumLaws.{total-cons}
 use Rattle.window.specs.Sums.{total}
 use Rattle.window.specs.Moments.{AreMomentsOf, square, sum_of_squares}
 

@@ -1,20 +1,12 @@
 -- Sums of lists, and how a push and a dequeue change them.
-use Rattle.std.proofs.Common.{◌≡◌, ◌*◌, ◌^◌, ◌≤◌, ℤ, pos, ◌+ℤ◌, ◌-ℤ◌, ◌≤ℤ◌, neg_ℤ, List, [], ◌∷◌, ◌++◌, Option, None, Some, option_to_list, length, All, sym, arith, fold}
+use Rattle.std.proofs.Common.{◌≡◌, ◌*◌, ◌^◌, ◌≤◌, ℤ, pos, ◌+ℤ◌, ◌-ℤ◌, ◌≤ℤ◌, neg_ℤ, List, [], ◌∷◌, ◌++◌, Option, None, Some, option_to_list, length, All, sym, arith}
 use Rattle.std.specs.Prelude.{FitsSigned}
 use Rattle.std.specs.Int.{w64, w128}
 use Rattle.std.proofs.lemmas.Int.{ints}
 use Rattle.std.proofs.lemmas.List.Elements.{All-head, All-push, All-tail}
 use Rattle.std.proofs.lemmas.List.Sums.{fold_push}
+use Rattle.window.specs.SumLaws.{total-cons}
 use Rattle.window.specs.Sums.{IsSumOf, total}
-
--- By induction on the list: a sum that begins at a number is that much more.
-fold-from : (a : ℤ) (xs : List ℤ) → fold ◌+ℤ◌ a xs ≡ a +ℤ total xs
-fold-from a [] = omega (arith, ints)
-fold-from a (x ∷ xs) = omega (arith, ints, fold-from (a +ℤ x) xs, fold-from (pos 0 +ℤ x) xs)
-
--- The first number is one summand.
-pub total-cons : (x : ℤ) (xs : List ℤ) → total (x ∷ xs) ≡ x +ℤ total xs
-total-cons x xs = omega (arith, ints, fold-from (pos 0 +ℤ x) xs)
 
 -- By induction on the list: each number adds at most 2^63 - 1, and takes away at most 2^63.
 total-bounds : (xs : List ℤ) → All (FitsSigned w64) xs

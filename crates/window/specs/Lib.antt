@@ -8,10 +8,12 @@ pub mod Hashes
 pub mod JoinLaws
 pub mod Laws
 pub mod Least
+pub mod LeastLaws
 pub mod Matrices
 pub mod MatrixLaws
 pub mod Moments
 pub mod MonotonicQueue
+pub mod SumLaws
 pub mod Sums
 pub mod Times
 pub mod Views

@@ -10,7 +10,7 @@ use ringbuffer::{RingBuffer, RingBufferIterator, dequeue_while};
 use std::marker::{Model, PhantomData};
 
 /// An item, and the time at which it came, in a unit of the caller's.
-#[derive(Clone, Copy, Debug, Drop, PartialEq, Eq)]
+#[derive(Clone, Copy, Debug, Default, Drop, PartialEq, Eq)]
 pub struct Stamped<T> {
     pub stamp: u64,
     pub item: T,

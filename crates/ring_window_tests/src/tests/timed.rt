@@ -1,0 +1,204 @@
+//! Windows of the items that came within a span of time.
+
+use super::assert_equal;
+use ring_test_support::drought::Drought;
+use ring_test_support::{on_each, on_fixed};
+use ringbuffer::{
+    AllocRingBuffer, ConstGenericRingBuffer, GrowableAllocRingBuffer, RingBuffer, RingBufferExt,
+};
+use std::process::Abort;
+use window::{
+    AllocWindowTime, ConstGenericWindowTime, GrowableAllocWindowTime, Stamped, WindowTime,
+};
+
+/// An item that came at a time.
+fn at(stamp: u64, item: u32) -> Stamped<u32> {
+    Stamped { stamp, item }
+}
+
+/// The window holds these items, by each way of reading it.
+fn assert_holds<R: RingBuffer<Stamped<u32>>>(
+    rt: &impl Abort,
+    window: &WindowTime<u32, R>,
+    items: &[Stamped<u32>],
+) {
+    assert_equal(rt, window.len(), items.len());
+    assert_equal(rt, window.is_empty(), items.is_empty());
+    assert_equal(rt, window.oldest().copied(), items.first().copied());
+    assert_equal(rt, window.newest().copied(), items.last().copied());
+    for (i, item) in window.iter().enumerate() {
+        assert_equal(rt, Some(*item), items.get(i).copied());
+    }
+    for (i, item) in window.ring().iter().enumerate() {
+        assert_equal(rt, Some(*item), items.get(i).copied());
+    }
+}
+
+/// Items leave once they came more than 10 before the newest, and the one before that at 10 stays.
+fn assert_newer_push_out_older<R: RingBuffer<Stamped<u32>> + Drop>(rt: &impl Abort, ring: R) {
+    let mut window = WindowTime::new(ring, 10);
+    assert_holds(rt, &window, &[]);
+    for (stamp, item) in [(0, 1), (5, 2), (10, 3)] {
+        assert_equal(rt, window.push(stamp, item), Ok(None));
+    }
+    assert_holds(rt, &window, &[at(0, 1), at(5, 2), at(10, 3)]);
+    assert_equal(rt, window.push(11, 4), Ok(None));
+    assert_holds(rt, &window, &[at(5, 2), at(10, 3), at(11, 4)]);
+    assert_equal(rt, window.push(30, 5), Ok(None));
+    assert_holds(rt, &window, &[at(30, 5)]);
+}
+
+#[test]
+fn newer_items_push_out_older_ones(rt: HostRuntime) {
+    on_each!(&rt, 4, assert_newer_push_out_older);
+}
+
+/// Of a window of two, a young item that gives way is handed back, and one that is too old isn't.
+fn assert_hands_back_the_young<R: RingBuffer<Stamped<u32>> + Drop>(rt: &impl Abort, ring: R) {
+    let mut window = WindowTime::new(ring, 10);
+    assert_equal(rt, window.push(1, 6), Ok(None));
+    assert_equal(rt, window.push(2, 7), Ok(None));
+    assert_equal(rt, window.push(11, 8), Ok(Some(at(1, 6))));
+    assert_holds(rt, &window, &[at(2, 7), at(11, 8)]);
+    assert_equal(rt, window.push(13, 9), Ok(None));
+    assert_holds(rt, &window, &[at(11, 8), at(13, 9)]);
+    assert_equal(rt, window.push(40, 5), Ok(None));
+    assert_holds(rt, &window, &[at(40, 5)]);
+}
+
+#[test]
+fn a_full_window_hands_back_young_items(rt: HostRuntime) {
+    on_fixed!(&rt, 2, assert_hands_back_the_young);
+}
+
+/// An item that is too old stays while it is behind one that isn't.
+fn assert_stays_behind_a_younger<R: RingBuffer<Stamped<u32>> + Drop>(rt: &impl Abort, ring: R) {
+    let mut window = WindowTime::new(ring, 10);
+    for (stamp, item) in [(5, 1), (1, 2), (12, 3)] {
+        assert_equal(rt, window.push(stamp, item), Ok(None));
+    }
+    assert_holds(rt, &window, &[at(5, 1), at(1, 2), at(12, 3)]);
+    assert_equal(rt, window.push(16, 4), Ok(None));
+    assert_holds(rt, &window, &[at(12, 3), at(16, 4)]);
+    // A stamp before those of the others drops nothing.
+    assert_equal(rt, window.push(3, 5), Ok(None));
+    assert_holds(rt, &window, &[at(12, 3), at(16, 4), at(3, 5)]);
+}
+
+#[test]
+fn stamps_out_of_order(rt: HostRuntime) {
+    on_each!(&rt, 4, assert_stays_behind_a_younger);
+}
+
+/// In a full window of two the first item isn't too old, and so the second stays, which is.
+#[test]
+fn stamps_out_of_order_in_a_full_window(rt: HostRuntime) {
+    let mut window = ConstGenericWindowTime::<u32, 2>::in_array(10);
+    assert_equal(&rt, window.push(5, 1), Ok(None));
+    assert_equal(&rt, window.push(1, 2), Ok(None));
+    assert_equal(&rt, window.push(12, 3), Ok(Some(at(5, 1))));
+    assert_holds(&rt, &window, &[at(1, 2), at(12, 3)]);
+}
+
+#[test]
+fn items_leave_when_asked(rt: HostRuntime) {
+    let mut window = AllocWindowTime::on_heap(rt.alloc(), 5, 3).expect(&rt, "memory");
+    for stamp in [10, 10, 11, 12, 13] {
+        assert_equal(&rt, window.push(stamp, 7), Ok(None));
+    }
+    assert_equal(&rt, (window.advance(2), window.advance(13)), (0, 0));
+    assert_equal(&rt, (window.advance(14), window.len()), (2, 3));
+    assert_equal(&rt, (window.drop_older(12), window.len()), (1, 2));
+    assert_holds(&rt, &window, &[at(12, 7), at(13, 7)]);
+    assert_equal(&rt, window.advance(18446744073709551615), 2);
+    assert_holds(&rt, &window, &[]);
+    assert_equal(&rt, window.advance(18446744073709551615), 0);
+    assert_equal(&rt, window.span(), 3);
+}
+
+#[test]
+fn the_ends_of_time(rt: HostRuntime) {
+    let end = 18446744073709551615;
+    let mut window = GrowableAllocWindowTime::growable(rt.alloc(), end);
+    assert_equal(
+        &rt,
+        (window.push(0, 1), window.push(end, 2)),
+        (Ok(None), Ok(None)),
+    );
+    assert_holds(&rt, &window, &[at(0, 1), at(end, 2)]);
+    let mut instant = GrowableAllocWindowTime::growable(rt.alloc(), 0);
+    for stamp in [end - 1, end, end] {
+        assert_equal(&rt, instant.push(stamp, 3), Ok(None));
+    }
+    assert_holds(&rt, &instant, &[at(end, 3), at(end, 3)]);
+}
+
+#[test]
+fn items_taken_out_of_a_window_of_time(rt: HostRuntime) {
+    let mut ring = ConstGenericRingBuffer::<Stamped<u32>, 3>::new();
+    for stamp in [1, 2, 50] {
+        let _ = ring.push(at(stamp, 0));
+    }
+    let mut window = WindowTime::new(ring, 10);
+    assert_holds(&rt, &window, &[at(1, 0), at(2, 0), at(50, 0)]);
+    assert_equal(&rt, window.dequeue(), Some(at(1, 0)));
+    assert_equal(&rt, window.into_ring().front().copied(), Some(at(2, 0)));
+    let mut window = WindowTime::new(
+        AllocRingBuffer::new(rt.alloc(), 2).expect(&rt, "memory"),
+        10,
+    );
+    assert_equal(&rt, (window.dequeue(), window.push(1, 1)), (None, Ok(None)));
+    window.clear();
+    assert_holds(&rt, &window, &[]);
+}
+
+/// Even an item that is too old stays where the push is refused.
+#[test]
+fn a_refused_push_drops_nothing(rt: HostRuntime) {
+    let ring = GrowableAllocRingBuffer::with_capacity(rt.alloc(), 4).expect(&rt, "memory");
+    let room = ring.capacity();
+    let mut window = WindowTime::new(ring, 10);
+    for _ in 0..room {
+        assert_equal(&rt, window.push(1, 6), Ok(None));
+    }
+    let drought = Drought::total(rt.alloc()).expect(&rt, "memory");
+    let refused = window.push(50, 7);
+    drop(drought);
+    assert_equal(&rt, refused, Err(7));
+    assert_equal(
+        &rt,
+        (window.len(), window.newest().copied()),
+        (room, Some(at(1, 6))),
+    );
+    assert_equal(
+        &rt,
+        (window.advance(50), window.push(50, 7)),
+        (room, Ok(None)),
+    );
+    assert_holds(&rt, &window, &[at(50, 7)]);
+}
+
+/// Slides a window over a ring of two, in a drought.
+fn assert_takes_no_memory<R: RingBuffer<Stamped<u32>> + Drop>(
+    rt: &(impl Abort + AllocGlobal),
+    ring: R,
+) {
+    let drought = Drought::total(rt.alloc()).expect(rt, "memory");
+    let mut window = WindowTime::new(ring, 10);
+    let pushed = (
+        window.push(1, 1),
+        window.push(2, 2),
+        window.push(12, 3),
+        window.push(13, 4),
+    );
+    let left = window.advance(23);
+    drop(drought);
+    assert_equal(rt, pushed, (Ok(None), Ok(None), Ok(None), Ok(None)));
+    assert_equal(rt, left, 1);
+    assert_holds(rt, &window, &[at(13, 4)]);
+}
+
+#[test]
+fn a_window_of_time_over_a_fixed_ring_takes_no_memory(rt: HostRuntime) {
+    on_fixed!(&rt, 2, assert_takes_no_memory);
+}
