@@ -28,3 +28,4 @@ pub mod selection;
 pub mod sliding_window;
 pub mod tail;
 pub mod undo;
+pub mod window_laws;
