@@ -1,13 +1,15 @@
 -- A size with its sign, as the machine computes it, and the number that a text begins with.
-use Rattle.std.proofs.Common.{◌≡◌, ℕ, zero, suc, ◌+◌, ◌-◌, ◌%◌, ◌^◌, ◌<◌, ◌≤◌, ◌||◌, Bool, true, false, Option, Some, None, ℤ, List, [], ◌∷◌, length, get_or, take, drop, cond, subst, pos, negsuc, neg_ℤ, ltb, eqb, refl, sym, ap, ◌∙◌, w64, arith}
+use Rattle.std.proofs.Common.{◌≡◌, ℕ, zero, suc, ◌+◌, ◌-◌, ◌%◌, ◌^◌, ◌<◌, ◌≤◌, ◌||◌, ◌==◌, Bool, true, false, Option, Some, None, ℤ, List, [], ◌∷◌, length, get_or, take, drop, cond, subst, pos, negsuc, neg_ℤ, ltb, eqb, refl, sym, ap, ◌∙◌, w64, arith}
 use Rattle.std.proofs.lemmas.Bool.Decides.{nat_tests}
 use Rattle.std.proofs.lemmas.Int.{to_z-of_z, to_z_pos}
 use mir.Val.{SFits, bool_byte, of_z, to_z}
+use Rattle.std.specs.Char.{digit_value}
 use Rattle.decimal.proofs.Cases.{by_cases, some_is}
+use Rattle.decimal.proofs.Digits.{digit, digits_done}
 use Rattle.std.proofs.lemmas.List.{take_rest}
 use Rattle.std.specs.Option.{option_and_then, option_map}
 use Rattle.std.specs.Str.Parse.{starts_with_minus, without_leading_sign}
-use Rattle.decimal.specs.Numerals.{digits_at, is_i64, signed_at, signed_of, size_at}
+use Rattle.decimal.specs.Numerals.{digit_at, digits_at, is_i64, signed_at, signed_of, size_at}
 
 pub too_large : (is_negative : Bool) (size : ℕ) → 2 ^ 63 - 1 + bool_byte is_negative < size → None ≡ signed_of is_negative size
 unfolding signed_of
@@ -82,6 +84,42 @@ pub number_read : (text digits rest : List ℕ) (size : ℕ) (n : ℤ) → digit
 unfolding signed_at
 number_read text digits rest size n d some within =
     let read : size_at (without_leading_sign text) ≡ Some (size, rest) = ap size_at (sym d) ∙ some in rw (read, sym within) refl
+
+-- ---- a number of one digit
+
+no_size : (text : List ℕ) → digits_at text ≡ [] → size_at text ≡ None
+unfolding size_at
+no_size text none = rw none refl
+
+one_size : (b : ℕ) (bs : List ℕ) → digit b ≡ true → digits_at bs ≡ [] → size_at (b ∷ bs) ≡ Some (digit_value b, bs)
+unfolding size_at digits_at
+one_size b bs d none =
+    let small : ltb (0 + digit_value b) (10 ^ 19) ≡ true = grind (arith, nat_tests) in
+    let same : 0 + digit_value b ≡ digit_value b = omega arith in
+    rw (d, none, small) (ap (λ n. Some (n, bs)) same)
+
+-- where no digit comes first, a sign before others writes no number, and no sign either
+no_digit : (b : ℕ) (bs : List ℕ) → digit b ≡ false → digits_at bs ≡ [] → signed_at (b ∷ bs) ≡ None
+unfolding digits_at
+no_digit b bs n none = by_cases (b == 45)
+    (λ minus. unread_size (b ∷ bs) bs (rw minus refl) (no_size bs none))
+    (λ h. by_cases (b == 43)
+    (λ plus. unread_size (b ∷ bs) bs (rw (h, plus) refl) (no_size bs none))
+    (λ k. unread_size (b ∷ bs) (b ∷ bs) (rw (h, k) refl) (no_size (b ∷ bs) (rw n refl))))
+
+-- where no digit comes second, the number is the digit that comes first
+pub one_digit : (text : List ℕ) → (1 < length text → digit (get_or text 1 0) ≡ false) → signed_at text ≡ digit_at text
+one_digit [] other = unread_end [] (omega arith)
+one_digit (b ∷ bs) other =
+    let none : digits_at bs ≡ [] = digits_done bs zero refl (λ l. other (omega (arith, l))) in
+    by_cases (digit b)
+    (λ d. let minus : (b == 45) ≡ false = grind (arith, nat_tests) in
+    let plus : (b == 43) ≡ false = grind (arith, nat_tests) in
+    let small : digit_value b < 2 ^ 63 = grind (arith, nat_tests) in
+    let whole : b ∷ bs ≡ without_leading_sign (b ∷ bs) = rw (minus, plus) refl in
+    let within : Some (pos (digit_value b)) ≡ signed_of (starts_with_minus (b ∷ bs)) (digit_value b) = rw minus (ap Some (sym (to_z_pos w64 (digit_value b) small)) ∙ not_negative (digit_value b) small) in
+    rw d (number_read (b ∷ bs) (b ∷ bs) bs (digit_value b) (pos (digit_value b)) whole (one_size b bs d none) within))
+    (λ n. rw n (no_digit b bs n none))
 
 -- ---- so is one that a text begins with
 

@@ -1,6 +1,6 @@
 -- The number that a text begins with.
 use Rattle.std.specs.Prelude.{ℕ, ◌^◌, ◌&&◌, nat_lt, Bool, cond, List, [], ◌∷◌, length, drop, ℤ, pos, negsuc, neg_ℤ, Option, None, Some, if◌then◌else◌}
-use Rattle.std.specs.Char.{is_digit}
+use Rattle.std.specs.Char.{digit_value, is_digit}
 use Rattle.std.specs.Option.{option_and_then, option_map}
 use Rattle.std.specs.Str.Parse.{digits_value, starts_with_minus, without_leading_sign}
 
@@ -18,6 +18,11 @@ is_i64 (negsuc n) = nat_lt n (2 ^ 63)
 unfoldable pub digits_at : List ℕ → List ℕ
 digits_at [] = []
 digits_at (byte ∷ bytes) = if is_digit byte 10 then byte ∷ digits_at bytes else []
+
+-- the digit that comes first, as a number, and what follows it
+abbrev pub digit_at : List ℕ → Option (ℤ × List ℕ)
+digit_at [] = None
+digit_at (byte ∷ bytes) = if is_digit byte 10 then Some (pos (digit_value byte), bytes) else None
 
 -- the number below 10 ^ 19 that digits at the front write, and what follows them
 unfoldable pub size_at : List ℕ → Option (ℕ × List ℕ)

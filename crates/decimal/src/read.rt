@@ -3,7 +3,7 @@
 ghost use Rattle.std.specs.Prelude.{◌≡◌, ◌==◌, ◌-◌, ◌^◌, ◌%◌, ◌<◌, ◌≤◌, ◌&&◌, not, nat_lt, IfSome, MatchOption, None, Some, SomeIff, length, take};
 ghost use Rattle.std.specs.List.{list_all};
 ghost use Rattle.std.specs.Str.Parse.{AllDigits, digits_value};
-ghost use Rattle.decimal.specs.Numerals.{digits_at, signed_at, signed_of, size_at};
+ghost use Rattle.decimal.specs.Numerals.{digit_at, digits_at, signed_at, signed_of, size_at};
 
 // A number of at most 19 digits is below 2^64.
 const SAFE_DIGITS: usize = 19;
@@ -16,14 +16,28 @@ pub fn read_decimal(text: &[u8]) -> Option<(i64, &[u8])>
         (λ found. signed_at text.now ≡ Some (found.0, found.1.now)) }
     ensures shorter { IfSome result (λ found. length found.1.now < length text.now) }
 {
-    let [first, ..] = text else {
-        return None;
+    // Where no digit comes second, one digit is the number or there is none: short numbers need no eight bytes.
+    let [first, b'0'..=b'9', ..] = text else {
+        return read_digit(text);
     };
     // Signs are hard to foretell, so no branch hangs on them.
     let is_negative = *first == b'-';
     let is_signed = is_negative | (*first == b'+');
     let (size, rest) = read_size(&text[usize::from(is_signed)..])?;
     Some((signed(is_negative, size)?, rest))
+}
+
+/// Returns the digit that comes first in `text`, and what follows it.
+#[inline(always)]
+fn read_digit(text: &[u8]) -> Option<(i64, &[u8])>
+    ensures digit { MatchOption result (digit_at text.now ≡ None)
+        (λ found. digit_at text.now ≡ Some (found.0, found.1.now)) }
+    ensures shorter { IfSome result (λ found. length found.1.now < length text.now) }
+{
+    let [digit @ b'0'..=b'9', rest @ ..] = text else {
+        return None;
+    };
+    Some((i64::from(*digit - b'0'), rest))
 }
 
 /// Returns the number below 10^19 that the digits at the front of `text` write, and what follows them.

@@ -324,10 +324,49 @@ fn reads_and_prints_numbers_of_each_length(rt: HostRuntime) {
 }
 
 #[test]
+fn reads_one_digit_before_each_byte_that_may_follow(rt: HostRuntime) {
+    // a line's numbers, and as they are printed: digits alone, in pairs and behind signs, one blank or several
+    let cases = [
+        (" 0", " 0"),
+        (" 9", " 9"),
+        (" 5 6", " 5 6"),
+        (" 5 67", " 5 67"),
+        (" 56 7", " 56 7"),
+        (" 90 09", " 90 9"),
+        (" -5 +6", " -5 6"),
+        (" -0 +9 8", " 0 9 8"),
+        ("  5  6", " 5 6"),
+        (" \t5\t6", " 5 6"),
+        ("\t5\r6\x0c7", " 5 6 7"),
+        (" 5 12345678 6", " 5 12345678 6"),
+    ];
+    for (numbers, shown) in cases {
+        // before the text's end, a line's end, and blanks
+        for end in ["", "\n", "\r\n", " ", " \n", "\t\r\n", "\n\n"] {
+            let script = joined(&rt, &["extend", numbers, end]);
+            let want = joined(&rt, &["extended\nitems", shown, "\n"]);
+            for words in [["array", "3"], ["heap", "3"], ["grow", "0"]] {
+                let outcome = run_script(&rt, &words, script.as_bytes());
+                assert_ended(&rt, (numbers, end), &outcome, prints(want.as_str()));
+            }
+        }
+    }
+}
+
+#[test]
 fn refuses_what_only_begins_as_a_number(rt: HostRuntime) {
-    let words: [&[u8]; 22] = [
+    let words: [&[u8]; 31] = [
         b":",
         b"/",
+        b"+",
+        b"-",
+        b"+-1",
+        b"--",
+        b"-/",
+        b"+:",
+        b":5",
+        b"/5",
+        b"1/",
         b"1:",
         b"12/",
         b"123;",

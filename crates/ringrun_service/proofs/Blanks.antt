@@ -1,5 +1,5 @@
 -- The blanks at the front, as a search for the first other byte passes over them.
-use Rattle.std.proofs.Common.{◌≡◌, ℕ, suc, ◌+◌, ◌-◌, ◌≤◌, cond, not, List, [], ◌∷◌, length, take, drop, get_or, subst, Option, Some, None, ltb, refl, sym, ap, ◌∙◌, arith, unwrap_or}
+use Rattle.std.proofs.Common.{◌≡◌, ℕ, suc, ◌+◌, ◌-◌, ◌<◌, ◌≤◌, false, cond, not, List, [], ◌∷◌, length, take, drop, get_or, subst, Option, Some, None, ltb, refl, sym, ap, ◌∙◌, arith, unwrap_or}
 use Rattle.std.proofs.lemmas.Bool.Decides.{nat_tests}
 use Rattle.std.proofs.lemmas.List.{take_rest}
 use Rattle.std.specs.List.{position_or_len}
@@ -39,3 +39,8 @@ pub space_at_once : (text : List ℕ) → 1 ≤ length text → get_or text 0 0 
 unfolding after_blanks
 space_at_once [] h e = absurd (omega arith)
 space_at_once (b ∷ bs) h e = subst (λ c. after_blanks (take (length (c ∷ bs) - 1) bs) ≡ after_blanks (c ∷ bs)) (sym e) (ap after_blanks (take_rest (32 ∷ bs) 1))
+
+pub word_at_once : (text : List ℕ) → 1 ≤ length text → 32 < get_or text 0 0 → after_blanks text ≡ text
+unfolding after_blanks
+word_at_once [] h above = absurd (omega arith)
+word_at_once (b ∷ bs) h above = let other : is_blank b ≡ false = grind (arith, nat_tests) in rw other refl

@@ -1,5 +1,5 @@
 -- A number at the front of a text, and the word that it stands in.
-use Rattle.std.proofs.Common.{◌≡◌, ℕ, zero, suc, ◌^◌, ◌≤◌, ◌&&◌, Bool, true, false, cond, List, [], ◌∷◌, ◌++◌, length, drop, ◌-◌, ◌≢◌, Option, Some, None, ℤ, append-nil, subst, ltb, eqb, refl, sym, ap, ◌∙◌, w64, arith}
+use Rattle.std.proofs.Common.{◌≡◌, ℕ, zero, suc, ◌^◌, ◌≤◌, ◌&&◌, Bool, true, false, cond, List, [], ◌∷◌, ◌++◌, length, length-drop, take, drop, get_or, ◌-◌, ◌≢◌, Option, Some, None, ℤ, append-nil, subst, ltb, eqb, refl, sym, ap, ◌∙◌, w64, arith}
 use Rattle.std.proofs.lemmas.Bool.{eqb-true}
 use Rattle.std.proofs.lemmas.Bool.Decides.{nat_tests}
 use Rattle.std.specs.List.{list_all}
@@ -8,6 +8,8 @@ use Rattle.std.specs.Str.Parse.{digits_value, signed_digits_value, starts_with_m
 use Rattle.decimal.proofs.Digits.{all_digits_at, digit}
 use Rattle.decimal.proofs.SignedNumbers.{signed_fits}
 use Rattle.decimal.proofs.Cases.{by_cases}
+use Rattle.std.proofs.lemmas.List.{take_rest}
+use Rattle.ringrun_service.proofs.Blanks.{space_at_once}
 use Rattle.ringrun_service.proofs.Lines.{ends_word, past_word, word_at}
 use mir.Val.{SFits}
 use Rattle.std.proofs.lemmas.List.Folds.{list_all-append}
@@ -191,6 +193,13 @@ unfolding number_at
 read_word text word e apart = by_cases (starts_blank text)
     (λ h. rw h (ap signed_at (sym e)))
     (λ h. absurd (apart (ap length (e ∙ none_passed text h))))
+
+-- behind one space, where no other blank follows it
+pub word_behind_space : (text : List ℕ) → 1 ≤ length text → get_or text 0 0 ≡ 32 → after_blanks (take (length text - 1) (drop 1 text)) ≡ take (length text - 1) (drop 1 text)
+    → number_at text ≡ signed_at (take (length text - 1) (drop 1 text))
+word_behind_space text h e stays =
+    let long = ap length (take_rest text 1) ∙ length-drop 1 text in
+    read_word text (take (length text - 1) (drop 1 text)) (sym stays ∙ space_at_once text h e) (λ same. absurd (omega (arith, h, long, same)))
 
 -- a number that is read is in range
 pub number_fits : (text : List ℕ) (n : ℤ) (after : List ℕ) → number_at text ≡ Some (n, after) → SFits w64 n

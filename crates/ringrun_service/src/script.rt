@@ -1,6 +1,6 @@
 //! A script: a command a line, its words apart by ASCII white space. It is read from its front, a line at a time.
 
-ghost use Rattle.std.specs.Prelude.{◌≡◌, ℤ, ◌+◌, codes, List, Err, Ok, ◌-◌, ◌<◌, ◌≤◌, IfErr, IfOk, IfSome, MatchOption, None, OnOk, Some, length};
+ghost use Rattle.std.specs.Prelude.{◌≡◌, ℤ, ◌+◌, codes, List, Err, Ok, ◌-◌, ◌<◌, ◌≤◌, IfErr, IfOk, IfSome, IsTrue, MatchOption, None, OnOk, Some, length};
 ghost use Rattle.ringrun_service.specs.Fault.{NamesALine};
 ghost use Rattle.ringrun_service.specs.Line.{IsLine};
 ghost use Rattle.ringrun_service.specs.Parsing.{CommandAt, HasNoCommand, NumbersAt, after_blanks, after_end, after_name, number_at};
@@ -179,10 +179,17 @@ pub fn split_number(text: &[u8]) -> Option<(i64, &[u8])>
         (λ found. number_at text.now ≡ Some (found.0, found.1.now)) }
     ensures shorter { IfSome result (λ found. length found.1.now < length text.now) }
 {
-    let word = skip_space(text);
-    if word.len() == text.len() {
-        return None;
-    }
+    // Most numbers stand behind one space, which is told without a loop.
+    let word = match text {
+        [b' ', word @ ..] if starts_word(word) => word,
+        _ => {
+            let word = skip_blanks(text);
+            if word.len() == text.len() {
+                return None;
+            }
+            word
+        }
+    };
     read_decimal(word)
 }
 
@@ -203,16 +210,12 @@ fn after_line(text: &[u8]) -> Option<&[u8]>
     }
 }
 
-/// Returns what `skip_blanks` does. Most words stand behind one space, which is told by one comparison.
+/// Returns whether a byte above all blanks comes first in `text`, which one comparison tells.
 #[inline(always)]
-fn skip_space(text: &[u8]) -> &[u8]
-    ensures rest { result.now ≡ after_blanks text.now }
-    ensures within { length result.now ≤ length text.now }
+fn starts_word(text: &[u8]) -> bool
+    ensures { IsTrue result → after_blanks text.now ≡ text.now }
 {
-    if let [b' ', rest @ ..] = text {
-        return skip_blanks(rest);
-    }
-    skip_blanks(text)
+    matches!(text, [byte, ..] if *byte > b' ')
 }
 
 /// Returns what follows the blanks at the front of `text`.
