@@ -1,5 +1,5 @@
 -- A byte above all blanks is none.
-use Rattle.std.proofs.Common.{arith, rules}
+use Rattle.std.proofs.Common.{rules}
 use Rattle.ringrun_service.proofs.Blanks.{word_at_once}
 use Rattle.ringrun_service.proofs.script.starts_word.Goals as goal
 
