@@ -64,7 +64,7 @@ pub trait RingBufferExt<T: Drop>: RingBuffer<T> {
     /// Returns whether the items equal those of a slice, place by place. `==` compares a ring with one of its type alone.
     ///
     /// ```rust
-    /// assert!(ring.eq_slice(&[1, 2]));
+    /// ring.eq_slice(&[1, 2])
     /// ```
     fn eq_slice(&self, items: &[T]) -> bool
     where

@@ -28,4 +28,5 @@ pub mod selection;
 pub mod sliding_window;
 pub mod tail;
 pub mod undo;
+pub mod walks;
 pub mod window_laws;

@@ -1,7 +1,8 @@
 //! Callers that read, search and write the items of a ring by calls that take a closure, or by an index below the length.
 //! None has a proof of its own.
 
-ghost use Rattle.std.specs.Prelude.{◌≡◌, ◌<◌, ◌-◌, ◌/◌, Some, drop, find, length, map, nat_lt, position, slice_get, slice_set};
+ghost use Rattle.std.specs.Prelude.{◌≡◌, ◌<◌, ◌-◌, ◌/◌, ◌∷◌, [], Some, drop, find, length, map, nat_eq, nat_lt, position, slice_get, slice_set};
+ghost use Rattle.std.specs.Cmp.Lexicographic.{pointwise};
 ghost use Rattle.std.specs.List.{list_all, list_any, prefix_len};
 ghost use Rattle.std.specs.Option.{option_copied};
 
@@ -40,6 +41,13 @@ pub fn correct(readings: &mut AllocRingBuffer<u32>, index: usize, reading: u32)
     ensures { readings.new.items ≡ slice_set readings.old.items index reading }
 {
     readings[index] = reading;
+}
+
+/// Returns whether the readings are 1 and then 2.
+pub fn is_one_two<R: RingBuffer<u32>>(ring: &R) -> bool
+    ensures { result ≡ pointwise nat_eq (R.contents ring.now) (1 ∷ 2 ∷ []) }
+{
+    ring.eq_slice(&[1, 2])
 }
 
 /// Returns whether a reading is above a limit.

@@ -55,15 +55,11 @@ pub fn drop_above_in_array(readings: &mut ConstGenericRingBuffer<u32, 4>, limit:
     drop_above(readings, limit).unwrap();
 }
 
-/// Drops the readings above a limit from a growable ring, which by its contract may be refused.
-pub fn drop_above_in_growable(
-    readings: &mut GrowableAllocRingBuffer<u32>,
-    limit: u32,
-) -> Result<(), u32>
-    ensures { OnOk result
-        (readings.new ≡ filter (λ reading. nat_le reading limit) readings.old) }
+/// Drops the readings above a limit from a growable ring, whose own `retain` is never refused.
+pub fn drop_above_in_growable(readings: &mut GrowableAllocRingBuffer<u32>, limit: u32)
+    ensures { readings.new ≡ filter (λ reading. nat_le reading limit) readings.old }
 {
-    readings.retain(|reading| *reading <= limit)
+    readings.retain(|reading| *reading <= limit).unwrap();
 }
 
 /// Finds a time in a heap ring of times that rise.

@@ -2,6 +2,7 @@
 use Rattle.ringbuffer.proofs.Words.{◌≡◌, ℕ, ◌+◌, ◌<◌, ◌≤◌, ◌-◌, ◌%◌, ◌⊎◌, inl, inr, zero, dec_lt, min, List, [], ◌∷◌, Bool, length, length-drop, length-take-le, take, drop, drop-drop, get_or, nat_eq, Option, None, Some, IsSome, refl, sym, subst, ap, ◌∙◌, add-one, suc, arith, drop-cons, drop-length, slice_get, pointwise, HoldsStretch, IsFullStretch, IsLaidOut, Slots, items_from}
 use Prim.Native.Nat.compare
 use Rattle.std.specs.Prelude.{max}
+use Rattle.std.proofs.Math.Bool.{cond}
 use Rattle.std.proofs.lemmas.Bool.{cases_Bool, cases_lt}
 use Rattle.std.proofs.lemmas.List.Sums.{common_prefix_len-le}
 use Rattle.std.proofs.lemmas.Option.{get_or_from_slice_get}
@@ -25,6 +26,13 @@ module _ {X : Type 0} (cs : List (Option X)) (from n : ℕ) where
     -- none is left behind all
     pub none_left : drop n xs ≡ []
     none_left = rw (sym (stretch_long cs from n xs holds full.0)) (drop-length xs)
+
+-- the pair at a place of two stretches
+pub next_pair : {X : Type 0} (eq : X → X → Bool) (cs ds : List (Option X)) (from other n : ℕ) → IsFullStretch cs from n → IsFullStretch ds other n
+    → (xs ys : List X) → HoldsStretch cs from n xs → HoldsStretch ds other n ys → (k : ℕ) → k < n → (x y : X) → get_or cs (from + k) None ≡ Some x → get_or ds (other + k) None ≡ Some y
+    → (same : Bool) → same ≡ eq x y → common_prefix_len eq (drop k xs) (drop k ys) ≡ cond same (1 + common_prefix_len eq (drop (k + 1) xs) (drop (k + 1) ys)) 0
+next_pair eq cs ds from other n full others_full xs ys held others_held k low x y is other_is same answered =
+    rw (ahead cs from n full xs held k x low is, ahead ds other n others_full ys others_held k y low other_is, answered) refl
 
 module _ {X : Type 0} (eq : X → X → Bool) where
   prefix_nil : (xs : List X) → common_prefix_len eq xs [] ≡ 0

@@ -1,6 +1,6 @@
 //! Walks over the items of rings of a fixed capacity by stretches of slots that lie side by side: up to the last slot,
 //! and on from the first. No place is counted round in a loop here.
-ghost use Rattle.std.specs.Prelude.{◌≡◌, ◌≤◌, List, fold, length};
+ghost use Rattle.std.specs.Prelude.{◌≡◌, ◌≤◌, List, fold};
 ghost use Rattle.std.specs.Cmp.Lexicographic.{slice_partial_cmp};
 ghost use Rattle.std.specs.Hash as fed;
 ghost use Rattle.std.specs.List.{common_prefix_len, flat_map, list_any};
@@ -75,10 +75,24 @@ impl<T: Drop, S: RingSlots<T>> FixedRing<T, S> {
     {
         // For the proof: the numbers of slots fit a word.
         let _ = (slots.size(), others.size());
-        for k in 0..len {
+        // Two pairs a turn, since the count of them costs a step a turn.
+        for turn in 0..len / 2 {
+            let k = 2 * turn;
             let same = *slots.get(from + k) == *others.get(other_from + k);
             if !same {
                 return k;
+            }
+            let next = k + 1;
+            let next_same = *slots.get(from + next) == *others.get(other_from + next);
+            if !next_same {
+                return next;
+            }
+        }
+        if len % 2 == 1 {
+            let last = len - 1;
+            let last_same = *slots.get(from + last) == *others.get(other_from + last);
+            if !last_same {
+                return last;
             }
         }
         len

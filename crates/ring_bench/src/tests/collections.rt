@@ -46,7 +46,11 @@ fn assert_equals_slices<R: RingBuffer<i64> + Drop>(rt: &impl Abort, mut ring: R)
             assert_equal(rt, ring.eq_slice(&items[..k]), false);
             assert_equal(rt, ring.eq_slice(&items[k + 1..]), false);
         }
-        assert_equal(rt, ring.eq_slice(&[first, first + 1, first + 2, first + 3]), false);
+        assert_equal(
+            rt,
+            ring.eq_slice(&[first, first + 1, first + 2, first + 3]),
+            false,
+        );
         let _ = ring.dequeue();
         assert_equal(rt, ring.eq_slice(&items[1..]), true);
     }

@@ -2,6 +2,7 @@
 
 use super::assert_equal;
 use ring_uses::loops::{Event, forget_before, halve, has_above, third_newest};
+use ring_uses::walks::{greatest_mark, silence};
 use ringbuffer::{
     AllocRingBuffer, ConstGenericRingBuffer, CopyRingBuffer, GrowableAllocRingBuffer, RingBuffer,
 };
@@ -60,5 +61,20 @@ fn old_events_are_forgotten(rt: HostRuntime) -> Result<(), AllocError> {
     assert_events(&rt, ConstGenericRingBuffer::<Event, 4>::new());
     assert_events(&rt, AllocRingBuffer::new(rt.alloc(), 4)?);
     assert_events(&rt, GrowableAllocRingBuffer::new(rt.alloc()));
+    Ok(())
+}
+
+#[test]
+fn marks_are_compared_and_cleared(rt: HostRuntime) -> Result<(), AllocError> {
+    let mut marks = AllocRingBuffer::new(rt.alloc(), 3)?;
+    assert_equal(&rt, greatest_mark(&marks), None);
+    for (mark, greatest) in [(4, 4), (9, 9), (2, 9), (5, 9), (5, 5)] {
+        marks.push(mark);
+        assert_equal(&rt, greatest_mark(&marks), Some(greatest));
+    }
+    silence(&mut marks);
+    for mark in [Some(0), Some(0), Some(0), None] {
+        assert_equal(&rt, marks.dequeue(), mark);
+    }
     Ok(())
 }

@@ -34,7 +34,7 @@ fn readings_above_a_limit_are_dropped(rt: HostRuntime) -> Result<(), AllocError>
 
     let mut growable = GrowableAllocRingBuffer::new(rt.alloc());
     push_readings(&rt, &mut growable);
-    assert_equal(&rt, drop_above_in_growable(&mut growable, 4), Ok(()));
+    drop_above_in_growable(&mut growable, 4);
     assert_low(&rt, growable);
     Ok(())
 }
