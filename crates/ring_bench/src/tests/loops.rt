@@ -69,7 +69,7 @@ fn marks_are_compared_and_cleared(rt: HostRuntime) -> Result<(), AllocError> {
     let mut marks = AllocRingBuffer::new(rt.alloc(), 3)?;
     assert_equal(&rt, greatest_mark(&marks), None);
     for (mark, greatest) in [(4, 4), (9, 9), (2, 9), (5, 9), (5, 5)] {
-        marks.push(mark);
+        let _ = marks.push(mark);
         assert_equal(&rt, greatest_mark(&marks), Some(greatest));
     }
     silence(&mut marks);
