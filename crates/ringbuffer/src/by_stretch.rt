@@ -11,7 +11,7 @@ use ring_slots::RingSlots;
 use std::cmp::Ordering;
 use std::hash::{Hash, Hasher};
 
-// As many items, and fewer, are read index by index where slots show no row: their stretches cost more to find.
+// As many items, and fewer, are read index by index: their stretches cost more to find.
 pub(crate) const FEW: usize = 12;
 
 impl<T: Drop, S: RingSlots<T>> FixedRing<T, S> {
