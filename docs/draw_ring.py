@@ -13,7 +13,7 @@ NAMES = {
     "crates/ring_slots/src/place.rt": ["masked", "mask"],
     "crates/ringbuffer/src/steps.rt": ["put_over", "start", "len"],
     "crates/ringbuffer/src/slices.rt": ["as_slices"],
-    "crates/ringbuffer/src/fixed.rt": ["capacity", "get_signed"],
+    "crates/ringbuffer/src/ring.rt": ["capacity", "get_signed"],
 }
 
 SIZE, CAPACITY, PUSHES = 8, 5, 10

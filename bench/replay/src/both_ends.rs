@@ -7,7 +7,7 @@ use std::collections::VecDeque;
 
 /// Makes a call.
 pub fn play<'a, T: Item<'a>, R: Played<'a, T>>(ring: &mut R, player: &mut Player<'a>) {
-    match player.up_to(9) {
+    match player.up_to(10) {
         0 => {
             let (is_full, item) = (R::IS_FIXED && ring.is_full(), player.item());
             player.note_taken(ring.as_deque(|items| {
@@ -28,6 +28,7 @@ pub fn play<'a, T: Item<'a>, R: Played<'a, T>>(ring: &mut R, player: &mut Player
         4 => ring.extend(player.items()),
         5 => ring.as_deque(|items| take(items, player)),
         6 => take(&mut ring.clone().into_iter().collect(), player),
+        7 => take_out(ring, player),
         _ => play_middle(ring, player),
     }
 }
@@ -61,6 +62,21 @@ fn play_middle<'a, T: Item<'a>, R: Played<'a, T>>(ring: &mut R, player: &mut Pla
             ring.as_deque(|items| drop(items.drain(index..end)));
         }
     }
+}
+
+// Takes out all items, those from an index on, or those of a range.
+fn take_out<'a, T: Item<'a>, R: Played<'a, T>>(ring: &mut R, player: &mut Player<'a>) {
+    let len = ring.len();
+    let index = player.up_to(len);
+    let taken = match player.up_to(2) {
+        0 => ring.as_deque(std::mem::take),
+        1 => ring.as_deque(|items| items.split_off(index)),
+        _ => {
+            let end = player.up_to(len + 2).min(len).max(index);
+            ring.as_deque(|items| items.drain(index..end).collect())
+        }
+    };
+    player.note_each(&taken);
 }
 
 // Takes items from both ends, as a walk hands them out.

@@ -1,7 +1,8 @@
 //! Tests of the calls of rings, of runs and of moves, by public calls.
 //!
-//! A test is a list of calls with their answers, rows of items, a call and what that leaves, or a function that is generic
-//! over the ring. A macro of `ring_test_support` calls such a function on a new ring of each type.
+//! A test is a list of calls with their answers, rows of items, a call and what that leaves, each done on new rings of some
+//! types, or a method of a trait that the ring types implement, which a macro of `ring_test_support` calls on a new ring of
+//! each type.
 
 mod blocks;
 mod both_ends;
@@ -23,7 +24,8 @@ mod taking;
 mod uses;
 mod windows;
 
-use ring_test_support::steps::{Row, Step, first_fault, first_fault_of_rows};
+use ring_test_support::kinds::{Calls, Kind, first_fault_on};
+use ring_test_support::steps::{Row, Step, first_fault};
 use ringbuffer::{DoubleEndedRing, RingBuffer};
 use std::fmt::Debug;
 use std::process::Abort;
@@ -39,29 +41,22 @@ fn assert_steps<R: DoubleEndedRing<i64>>(rt: &impl Abort, ring: &mut R, steps: &
     assert_equal(rt, first_fault(ring, steps), None);
 }
 
-/// Does the calls of a list, each of which answers what its step says.
-fn answers<R: DoubleEndedRing<i64> + Drop>(
-    rt: &impl Abort,
-    mut ring: R,
+/// Does the calls of a list on a new ring of each of these types, with this capacity. Each answers what its step says.
+fn answers(
+    rt: &(impl Abort + AllocGlobal),
+    kinds: &[Kind],
+    capacity: usize,
     name: &str,
     steps: &[Step],
 ) {
-    assert_equal(rt, (name, first_fault(&mut ring, steps)), (name, None));
+    let fault = first_fault_on(rt.alloc(), kinds, capacity, Calls::Steps(steps));
+    assert_equal(rt, (name, fault), (name, None));
 }
 
-/// Does the calls of a list on a ring that has `slots` slots before and after.
-fn answers_in_slots<R: DoubleEndedRing<i64> + Drop>(
-    rt: &impl Abort,
-    mut ring: R,
-    slots: usize,
-    steps: &[Step],
-) {
-    let (before, fault) = (ring.buffer_size(), first_fault(&mut ring, steps));
-    assert_equal(
-        rt,
-        (before, fault, ring.buffer_size()),
-        (slots, None, slots),
-    );
+/// Asserts what the call of each row answers and leaves, on items that begin at each place.
+fn assert_rows(rt: &(impl Abort + AllocGlobal), kinds: &[Kind], capacity: usize, rows: &[Row]) {
+    let fault = first_fault_on(rt.alloc(), kinds, capacity, Calls::Rows(rows));
+    assert_equal(rt, fault, None);
 }
 
 /// Pushes the items in order. None is refused.
@@ -69,11 +64,6 @@ fn push_all<R: RingBuffer<i64>>(rt: &impl Abort, ring: &mut R, items: &[i64]) {
     for item in items {
         assert!(rt; ring.push(*item).is_ok());
     }
-}
-
-/// Asserts what the call of each row answers and leaves, on items that begin at each place.
-fn assert_rows<R: DoubleEndedRing<i64> + Drop>(rt: &impl Abort, mut ring: R, rows: &[Row]) {
-    assert_equal(rt, first_fault_of_rows(&mut ring, rows), None);
 }
 
 /// Asserts that the ring holds these items and no other, in order.

@@ -1,21 +1,21 @@
 pub mod Answered
+pub mod BinarySearch
 pub mod BothMeanings
 pub mod Callers
 pub mod Cloned
 pub mod CommandLoop
 pub mod ComparedWalks
-pub mod Drained
 pub mod Filling
-pub mod Halving
 pub mod HeldRange
 pub mod Items
 pub mod Lending
 pub mod Limits
 pub mod Mapped
 pub mod MovedItems
-pub mod Picking
 pub mod Reading
+pub mod RetainedItems
 pub mod RunParts
+pub mod SourceEnds
 pub mod Turned
 pub mod Walks
 mod Words

@@ -1,6 +1,8 @@
 -- What stands while a closure is called on each item in turn: for a map what it returned, for a test that the items passed.
 use Rattle.ring_core.proofs.Words.{◌≡◌, ℕ, zero, suc, ◌+◌, ◌<◌, ◌≤◌, Bool, true, false, List, [], ◌∷◌, ◌++◌, length, take, drop, map, set, slice_get, Option, Some, refl, sym, ap, subst, ◌∙◌, arith, add-one, Bor, FoldsTo, append-nil, append_assoc, drop-cons, drop_all, get_or_from_slice_get, length-append, length-drop, length-map, map-append, option_copied, option_to_list, set_at, take_all}
+use mathlib.Core.Bool.{cond}
 use Rattle.std.specs.List.{prefix_len}
+use Rattle.std.specs.Prelude.{IfSome}
 use Rattle.std.proofs.lemmas.Fn.{FoldsTo-push}
 use Rattle.ring_core.specs.Filtering.{PassesFirst}
 use Rattle.ring_core.specs.Mapping.{ByMap, MapsEach}
@@ -87,6 +89,19 @@ module _ {A P : Type 0} (R : P → A → A → P → Type 0) where
         left = ap (λ l. set l turns y) (at.left ∙ ap (λ l. done ++ l) next) ∙ set_at done x others y turns long
             ∙ rw (map-append (λ c. c.1) at.calls ((x, y) ∷ []), append_assoc) (rw add-one refl);
       }
+
+module _ {A : Type 0} (test : A → Bool) where
+  abbrev FirstFails : List A → Type 0
+  FirstFails xs = IfSome (slice_get xs 0) (λ x. test x ≡ false)
+
+  behind_one : (x : A) (xs : List A) (b : Bool) → test x ≡ b → FirstFails (drop (prefix_len test xs) xs) → FirstFails (drop (cond b (1 + prefix_len test xs) 0) (x ∷ xs))
+  behind_one x xs true is rest = let n = prefix_len test xs in subst (λ k. FirstFails (drop k (x ∷ xs))) {x = suc n} {y = 1 + n} (omega arith) rest
+  behind_one x xs false is rest = is
+
+  -- the first item behind those that pass a test fails it
+  pub first_fails : (xs : List A) → FirstFails (drop (prefix_len test xs) xs)
+  first_fails [] = tt
+  first_fails (x ∷ xs) = behind_one x xs (test x) refl (first_fails xs)
 
 module _ {A P : Type 0} (R : P → A → Bool → P → Type 0) where
   -- By induction: a test that calls leave as it was passes so many items as come before the first that fails it.

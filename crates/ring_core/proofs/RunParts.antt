@@ -1,6 +1,6 @@
 -- Runs of commands in parts, and the places of their replies.
 use Rattle.ring_core.proofs.Words.{◌≡◌, ℕ, ◌-◌, ◌<◌, ◌≤◌, List, [], ◌∷◌, ◌++◌, length, map, set, replicate, Option, Some, None, refl, ap, arith, append-nil, append_assoc, suc, length-append, length-map, length-replicate, length_push, map-append, set_at, Command, Reply, Refused, after_one, after_all, reply_to, replies_to, places, IsRefused, LeavesPart}
-use Rattle.ring_core.specs.declared.runs.Refused.TheVariants as refused
+use Rattle.ring_core.specs.declared.command.Refused.TheVariants as refused
 
 module _ {T : Type 0} (limit : Option ℕ) where
   -- By induction on the first list.

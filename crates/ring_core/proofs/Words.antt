@@ -5,10 +5,10 @@ pub use Rattle.ring_core.specs.Cursor.{stepped}
 pub use Rattle.ring_core.specs.History.{ChangesFewSlots, IsLeft, IsPush, KeepsToNumbers, Step, all_items, clears, contents_after, head, held, held_next, held_numbers, least, number, oldest, overwrites, overwritten_after, pushed, pushes, removed, removes, replies_of, reply_after, some_below, steps, steps_of, takes}
 pub use Rattle.ring_core.specs.Meaning.{IsRefused, LeavesPart, StopsAt, after_all, after_one, places, puts, replies_to, reply_to}
 pub use Rattle.ring_core.specs.Walk.{DrainsFirst, UnpacksFirst, drain_to_come, into_iter_to_come, iterator_to_come, to_come}
-pub use Rattle.ring_core.specs.declared.runs.Command.{Command}
-pub use Rattle.ring_core.specs.declared.runs.Command.TheVariants.{Clear, Dequeue, Extend, Push, Skip}
-pub use Rattle.ring_core.specs.declared.runs.Refused.{Refused}
-pub use Rattle.ring_core.specs.declared.runs.Reply.{Reply}
+pub use Rattle.ring_core.specs.declared.command.Command.{Command}
+pub use Rattle.ring_core.specs.declared.command.Command.TheVariants.{Clear, Dequeue, Extend, Push, Skip}
+pub use Rattle.ring_core.specs.declared.command.Refused.{Refused}
+pub use Rattle.ring_core.specs.declared.command.Reply.{Reply}
 pub use Rattle.std.proofs.Common.{All, Bool, Bor, Global, IfSome, IsNone, IsSome, IsTrue, List, MatchOption, MutBor, None, Option, Some, [], add-one, add-zero, ap, append-nil, append_assoc, arith, drop, false, filter, get_or, if◌then◌else◌, inl, inr, length, length-append, length-drop, map, map-id, max, min, nat_le, nat_lt, refl, replicate, rules, set, slice_get, slice_set, subst, suc, sym, take, true, vec_capacity, zero, zero-add, ℕ, ◌&&◌, ◌*◌, ◌++◌, ◌+◌, ◌-◌, ◌<◌, ◌==◌, ◌↔◌, ◌∙◌, ◌∷◌, ◌≡◌, ◌≤◌}
 pub use Rattle.std.proofs.Math.Nat.{mod-eq_of_lt, zero-mod}
 pub use Rattle.std.proofs.Math.Seq.{drop-append_seam, drop-cons, set-append_seam, take-length, take-nil, take-suc-set}

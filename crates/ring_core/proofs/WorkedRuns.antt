@@ -1,6 +1,6 @@
 -- Two runs worked out by item numbers: the numbers held after each step, what is left, and what is answered.
 use Rattle.ring_core.proofs.Words.{◌≡◌, ℕ, List, [], ◌∷◌, map, None, Some, refl, range_with_len, Command, Push, Dequeue, Clear, contents_after, held_numbers, replies_of, steps}
-use Rattle.ring_core.specs.declared.runs.Reply.TheVariants.{Pushed, Dequeued, Cleared}
+use Rattle.ring_core.specs.declared.command.Reply.TheVariants.{Pushed, Dequeued, Cleared}
 
 -- with capacity 3 item 0 is taken before the push of number 3, which overwrites nothing; that of number 4 overwrites item 1
 abbrev pub with_dequeue : List (Command ℕ)

@@ -2,8 +2,8 @@
 use Rattle.std.specs.Prelude.{ℕ, ◌+◌, ◌-◌, List, [], Option, length, min}
 use Rattle.std.specs.Borrow.{Fml, LendsIf, MutBor, RattleType}
 use mir.Syntax.{named}
-use Rattle.ring_core.specs.declared.iter.RingBufferMutIterator.{RingBufferMutIterator}
-use Rattle.ring_core.specs.contracts.iter.RingBufferMutIterator.{the_row}
+use Rattle.ring_core.specs.declared.iter_mut.RingBufferMutIterator.{RingBufferMutIterator}
+use Rattle.ring_core.specs.contracts.iter_mut.RingBufferMutIterator.{the_row}
 
 -- the cursor between other ends, with the item at an index of its ring replaced
 abbrev pub stepped : {T RB : Type 0} → (RB → ℕ → T → RB) → RingBufferMutIterator T RB → ℕ → ℕ → ℕ → T → RingBufferMutIterator T RB

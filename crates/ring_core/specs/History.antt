@@ -2,9 +2,9 @@
 -- numbers are held after each step. It rests on the items at the start, the limit and the commands alone.
 use Rattle.std.specs.Prelude.{◌≡◌, ℕ, zero, suc, ◌+◌, ◌-◌, ◌*◌, ◌<◌, ◌≤◌, Bool, false, not, ◌&&◌, ◌||◌, ◌==◌, ◌↔◌, nat_lt, if◌then◌else◌, List, [], ◌∷◌, ◌++◌, length, take, map, filter, slice_get, Option, Some, None, IfSome, IsSome, IsTrue}
 use Rattle.std.specs.List.{enumerate_from, filter_map, flat_map, range_with_len}
-use Rattle.ring_core.specs.declared.runs.Command.{Command}
-use Rattle.ring_core.specs.declared.runs.Command.TheVariants.{Push, Extend, Dequeue, Skip, Clear}
-use Rattle.ring_core.specs.declared.runs.Reply.{Reply}
+use Rattle.ring_core.specs.declared.command.Command.{Command}
+use Rattle.ring_core.specs.declared.command.Command.TheVariants.{Push, Extend, Dequeue, Skip, Clear}
+use Rattle.ring_core.specs.declared.command.Reply.{Reply}
 use Rattle.ring_core.specs.Contents.{IsWithin}
 use Rattle.ring_core.specs.Meaning.{after_all, replies_to, reply_with}
 

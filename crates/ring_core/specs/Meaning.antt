@@ -1,14 +1,14 @@
 -- What commands do to the contents of a ring, as a list, and what they answer.
 use Rattle.std.specs.Prelude.{◌≡◌, ℕ, ◌-◌, List, [], ◌∷◌, ◌++◌, length, take, drop, map, replicate, slice_get, Option, Some, None, Vec}
 use Rattle.std.specs.Global.{Global}
-use Rattle.ring_core.specs.declared.runs.Command.{Command}
-use Rattle.ring_core.specs.declared.runs.Command.TheVariants.{Push, Extend, Dequeue, Skip, Clear}
-use Rattle.ring_core.specs.declared.runs.Reply.{Reply}
-use Rattle.ring_core.specs.declared.runs.Reply.TheVariants.{Pushed, Extended, Dequeued, Skipped, Cleared}
-use Rattle.ring_core.specs.declared.runs.Refused.{Refused}
-use Rattle.ring_core.specs.declared.runs.Refused.TheVariants as refused
-use Rattle.ring_core.specs.declared.runs.RunFault.{RunFault}
-use Rattle.ring_core.specs.declared.runs.RunFault.TheVariants as fault
+use Rattle.ring_core.specs.declared.command.Command.{Command}
+use Rattle.ring_core.specs.declared.command.Command.TheVariants.{Push, Extend, Dequeue, Skip, Clear}
+use Rattle.ring_core.specs.declared.command.Reply.{Reply}
+use Rattle.ring_core.specs.declared.command.Reply.TheVariants.{Pushed, Extended, Dequeued, Skipped, Cleared}
+use Rattle.ring_core.specs.declared.command.Refused.{Refused}
+use Rattle.ring_core.specs.declared.command.Refused.TheVariants as refused
+use Rattle.ring_core.specs.declared.command.RunFault.{RunFault}
+use Rattle.ring_core.specs.declared.command.RunFault.TheVariants as fault
 use Rattle.ring_core.specs.Contents.{keep_last, overwritten, AppendsCut}
 
 -- the items that a command pushes

@@ -1,6 +1,6 @@
 -- What a run does to the place where it stores its replies.
 use Rattle.std.specs.Prelude.{◌≡◌, ℕ, suc, List, [], ◌∷◌, ◌++◌, length}
-use Rattle.ring_core.specs.declared.runs.Reply.{Reply}
+use Rattle.ring_core.specs.declared.command.Reply.{Reply}
 
 -- `HasTaken first now replies room`: since it was `first`, the store took in these replies, and it has room for `room` more
 module _ {S T : Type 0} (HasTaken : S → S → List (Reply T) → ℕ → Type 0) where

@@ -8,10 +8,10 @@ use Rattle.std.specs.Iterator.Runs.{YieldsInOrder, YieldsInReverse, YieldsRefsIn
 use Rattle.std.specs.Range.Bound.{end_index, start_index}
 use Rattle.std.specs.declared.ops.Bound.{Bound}
 use Rattle.ring_core.specs.Contents.{ChangesSlots}
-use Rattle.ring_core.specs.declared.iter.RingBufferDrainingIterator.{RingBufferDrainingIterator}
-use Rattle.ring_core.specs.declared.iter.RingBufferIntoIterator.{RingBufferIntoIterator}
+use Rattle.ring_core.specs.declared.drain.RingBufferDrainingIterator.{RingBufferDrainingIterator}
+use Rattle.ring_core.specs.declared.into_iter.RingBufferIntoIterator.{RingBufferIntoIterator}
 use Rattle.ring_core.specs.declared.iter.RingBufferIterator.{RingBufferIterator}
-use Rattle.ring_core.specs.declared.iter.RingBufferMutIterator.{RingBufferMutIterator}
+use Rattle.ring_core.specs.declared.iter_mut.RingBufferMutIterator.{RingBufferMutIterator}
 
 -- the part of a list from one number up to the other, or up to the list's end
 abbrev pub to_come : {A : Type 0} → List A → ℕ → ℕ → List A

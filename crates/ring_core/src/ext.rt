@@ -1,6 +1,6 @@
 //! Calls by a dot on any ring.
 
-ghost use Rattle.std.specs.Prelude.{◌≡◌, ◌+◌, ◌-◌, ◌*◌, ◌≤◌, [], IfErr, IfOk, IsOk, IsSome, OnErr, OnOk, drop, filter, length, map, min, take};
+ghost use Rattle.std.specs.Prelude.{◌≡◌, ◌+◌, ◌-◌, ◌*◌, ◌≤◌, [], IfErr, IfOk, IfSome, IsOk, IsSome, OnErr, OnOk, drop, false, filter, length, map, min, slice_get, take};
 ghost use Rattle.std.specs.Cmp.Lexicographic.{pointwise};
 ghost use Rattle.std.specs.Fn.{CalledAt};
 ghost use Rattle.std.specs.List.{prefix_len};
@@ -12,10 +12,11 @@ ghost use Rattle.ring_core.specs.Mapping.{ByMap, MapsEach};
 ghost use Rattle.ring_core.specs.Walk.{DrainsInOrder, DrainsInReverse, ReadsInOrder, ReadsInReverse, StartsOver, items_between, items_outside, iterator_to_come};
 
 use crate::double_ended::DoubleEndedRing;
-use crate::iter::{
-    RingBufferDrainingIterator, RingBufferIterator, RingBufferMutIterator, range_within,
-};
+use crate::drain::RingBufferDrainingIterator;
+use crate::iter::RingBufferIterator;
+use crate::iter_mut::RingBufferMutIterator;
 use crate::mapping::map_each;
+use crate::range::range_within;
 use crate::retaining::{dequeue_while, retain};
 use crate::ring::RingBuffer;
 use crate::taking::{split_off, take_all, take_between};
@@ -123,6 +124,8 @@ pub trait RingBufferExt<T: Drop>: RingBuffer<T> {
         ensures called { PassesFirst (CalledAt F.FnMut) test result (Self.contents self.old) }
         ensures value { ByMap (CalledAt F.FnMut) test
             (λ passes. result ≡ prefix_len passes (Self.contents self.old)) }
+        ensures first { ByMap (CalledAt F.FnMut) test
+            (λ passes. IfSome (slice_get (Self.contents self.new) 0) (λ x. passes x ≡ false)) }
         ensures limit { Self.limit self.new ≡ Self.limit self.old }
         ensures changes { Counts Self.limit Self.contents Self.slot_changes self.old self.new 0 };
 

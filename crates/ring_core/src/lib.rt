@@ -2,12 +2,17 @@
 //! of commands, moving one ring into another, filters and searches.
 #![tactic(auto)]
 
+mod command;
 mod double_ended;
+mod drain;
 mod ext;
+mod into_iter;
 mod iter;
+mod iter_mut;
 mod last_bytes;
 mod mapping;
 mod moving;
+mod range;
 mod retaining;
 mod ring;
 mod runs;
@@ -15,16 +20,18 @@ mod searching;
 mod taking;
 mod written;
 
+pub use command::{Command, Refused, Reply, RunFault, Stopped};
 pub use double_ended::DoubleEndedRing;
+pub use drain::RingBufferDrainingIterator;
 pub use ext::{DoubleEndedRingExt, RingBufferExt};
-pub use iter::{
-    RingBufferDrainingIterator, RingBufferIntoIterator, RingBufferIterator, RingBufferMutIterator,
-    range_within,
-};
+pub use into_iter::RingBufferIntoIterator;
+pub use iter::RingBufferIterator;
+pub use iter_mut::RingBufferMutIterator;
 pub use last_bytes::LastBytes;
 pub use mapping::map_each;
 pub use moving::move_all;
+pub use range::range_within;
 pub use retaining::{dequeue_while, retain};
 pub use ring::RingBuffer;
-pub use runs::{Command, Refused, Reply, RunFault, Stopped, apply, run, run_into, runs_join};
+pub use runs::{apply, run, run_into, runs_join};
 pub use searching::{binary_search, partition_point};

@@ -1,6 +1,6 @@
 //! Dropping the items of a ring that a test picks.
 
-ghost use Rattle.std.specs.Prelude.{◌≡◌, ◌≤◌, IfErr, IsOk, IsSome, OnOk, drop, filter, length};
+ghost use Rattle.std.specs.Prelude.{◌≡◌, ◌≤◌, IfErr, IfSome, IsOk, IsSome, OnOk, drop, false, filter, length, slice_get};
 ghost use Rattle.std.specs.List.{prefix_len};
 ghost use Rattle.std.specs.Fn.{CalledAt};
 ghost use Rattle.std.specs.List.Retain.{IsFiltered};
@@ -62,6 +62,8 @@ pub fn dequeue_while<T: Drop, R: RingBuffer<T>, F: FnMut(&T) -> bool>(
     ensures called { PassesFirst (CalledAt F.FnMut) test result (R.contents ring.old) }
     ensures value { ByMap (CalledAt F.FnMut) test
         (λ passes. result ≡ prefix_len passes (R.contents ring.old)) }
+    ensures first { ByMap (CalledAt F.FnMut) test
+        (λ passes. IfSome (slice_get (R.contents ring.new) 0) (λ x. passes x ≡ false)) }
     ensures limit { R.limit ring.new ≡ R.limit ring.old }
     ensures changes { Counts R.limit R.contents R.slot_changes ring.old ring.new 0 }
 {

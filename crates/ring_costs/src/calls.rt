@@ -1,9 +1,13 @@
 //! The calls of every ring, each in a loop of its own.
 
+use crate::blocks::{
+    bring, bring_contiguous, clear_extend, copy, drain_extend, extend, extend_more, fill,
+    keep_newest_in, remove_range_extend, take_in, truncate_in,
+};
 use crate::case::Case;
 use crate::item::Item;
 use crate::ring::Measured;
-use ringbuffer::{RingBufferExt, RingBufferIterator};
+use ringbuffer::RingBufferIterator;
 use std::alloc::{AllocError, Global};
 
 /// Makes the call of a case, and returns what it found, as a number.
@@ -39,6 +43,7 @@ pub fn repeat<T: Item, R: Measured<T> + Drop>(
         "extend_more" => extend_more(ring, items, times),
         "drain_extend" => drain_extend(ring, items, times),
         "in" => bring(ring, items, times),
+        "in_contiguous" => bring_contiguous(ring, items, times),
         "copy" => copy(ring, output, times),
         "take_in" => take_in(ring, items, output, times),
         "remove_insert" => remove_insert(ring, case.count, times),
@@ -230,88 +235,6 @@ fn eq<T: Item, R: Measured<T> + Drop>(ring: &R, times: u32) -> u64 {
 }
 
 #[inline(never)]
-fn fill<T: Item, R: Measured<T>>(ring: &mut R, times: u32) -> u64 {
-    for number in 0..times {
-        let _ = ring.fill(T::numbered(u64::from(number)));
-    }
-    0
-}
-
-#[inline(never)]
-fn clear_extend<T: Item, R: Measured<T>>(ring: &mut R, items: &[T], times: u32) -> u64 {
-    for _ in 0..times {
-        ring.clear();
-        ring.bring(items);
-    }
-    0
-}
-
-#[inline(never)]
-fn extend<T: Item, R: Measured<T>>(ring: &mut R, items: &[T], times: u32) -> u64 {
-    let mut output = items.len();
-    for _ in 0..times {
-        let _ = ring.extend(items.iter().copied());
-        output = output.min(ring.len());
-    }
-    output as u64
-}
-
-// A source that promises a half, and gives all.
-#[inline(never)]
-fn extend_more<T: Item, R: Measured<T>>(ring: &mut R, items: &[T], times: u32) -> u64 {
-    let (first, second) = items.split_at(items.len() / 2);
-    for _ in 0..times {
-        let some = second.iter().copied().filter(|item| item.number() != 255);
-        let _ = ring.extend(first.iter().copied().chain(some));
-    }
-    ring.len() as u64
-}
-
-#[inline(never)]
-fn drain_extend<T: Item, R: Measured<T>>(ring: &mut R, items: &[T], times: u32) -> u64 {
-    let mut sum = 0u64;
-    for _ in 0..times {
-        for item in ring.drain() {
-            sum ^= item.number();
-        }
-        ring.bring(items);
-    }
-    sum
-}
-
-#[inline(never)]
-fn bring<T: Item, R: Measured<T>>(ring: &mut R, items: &[T], times: u32) -> u64 {
-    for _ in 0..times {
-        ring.bring(items);
-    }
-    ring.len() as u64
-}
-
-#[inline(never)]
-fn copy<T: Item, R: Measured<T>>(ring: &R, output: &mut [T], times: u32) -> u64 {
-    let mut sum = 0u64;
-    for _ in 0..times {
-        sum = sum.wrapping_add(ring.copy(output) as u64);
-    }
-    sum
-}
-
-#[inline(never)]
-fn take_in<T: Item, R: Measured<T>>(
-    ring: &mut R,
-    items: &[T],
-    output: &mut [T],
-    times: u32,
-) -> u64 {
-    let mut sum = 0u64;
-    for _ in 0..times {
-        sum = sum.wrapping_add(ring.take(output) as u64);
-        ring.bring(items);
-    }
-    sum
-}
-
-#[inline(never)]
 fn remove_insert<T: Item, R: Measured<T>>(ring: &mut R, index: usize, times: u32) -> u64 {
     let mut sum = 0u64;
     for number in 0..times {
@@ -321,15 +244,6 @@ fn remove_insert<T: Item, R: Measured<T>>(ring: &mut R, index: usize, times: u32
         }
     }
     sum
-}
-
-#[inline(never)]
-fn remove_range_extend<T: Item, R: Measured<T>>(ring: &mut R, items: &[T], times: u32) -> u64 {
-    for _ in 0..times {
-        ring.remove_range(1..=items.len());
-        ring.bring(items);
-    }
-    ring.len() as u64
 }
 
 #[inline(never)]
@@ -348,29 +262,6 @@ fn rotate_left<T: Item, R: Measured<T>>(ring: &mut R, count: usize, times: u32) 
         if count <= ring.len() {
             ring.rotate_left(count);
         }
-    }
-    ring.len() as u64
-}
-
-#[inline(never)]
-fn truncate_in<T: Item, R: Measured<T>>(ring: &mut R, items: &[T], held: usize, times: u32) -> u64 {
-    for _ in 0..times {
-        ring.truncate(held.saturating_sub(items.len()));
-        ring.bring(items);
-    }
-    ring.len() as u64
-}
-
-#[inline(never)]
-fn keep_newest_in<T: Item, R: Measured<T>>(
-    ring: &mut R,
-    items: &[T],
-    held: usize,
-    times: u32,
-) -> u64 {
-    for _ in 0..times {
-        ring.keep_newest(held.saturating_sub(items.len()));
-        ring.bring(items);
     }
     ring.len() as u64
 }

@@ -4,6 +4,7 @@
 //! takes blocks. A call that takes out is followed by one that puts in, so that the length is the same each time.
 #![tactic(auto)]
 
+mod blocks;
 mod bytes;
 mod calls;
 mod case;

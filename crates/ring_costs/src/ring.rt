@@ -16,6 +16,9 @@ pub trait Measured<T: Item>: DoubleEndedRing<T> + Clone + PartialEq {
 
     /// Takes out the oldest items into a slice, and returns how many.
     fn take(&mut self, output: &mut [T]) -> usize;
+
+    /// Makes the items one slice, where the ring can lend one, and returns the number of its last item.
+    fn contiguous(&mut self) -> u64;
 }
 
 impl<T: Item, const CAP: usize> Measured<T> for ConstGenericRingBuffer<T, CAP> {
@@ -32,6 +35,11 @@ impl<T: Item, const CAP: usize> Measured<T> for ConstGenericRingBuffer<T, CAP> {
     #[inline]
     fn take(&mut self, output: &mut [T]) -> usize {
         self.dequeue_into(output)
+    }
+
+    #[inline]
+    fn contiguous(&mut self) -> u64 {
+        0
     }
 }
 
@@ -50,6 +58,13 @@ impl<T: Item, const CAP: usize> Measured<T> for CopyRingBuffer<T, CAP> {
     fn take(&mut self, output: &mut [T]) -> usize {
         self.dequeue_into(output)
     }
+
+    #[inline]
+    fn contiguous(&mut self) -> u64 {
+        self.make_contiguous()
+            .last()
+            .map_or(0, |item| item.number())
+    }
 }
 
 impl<T: Item> Measured<T> for AllocRingBuffer<T> {
@@ -67,6 +82,13 @@ impl<T: Item> Measured<T> for AllocRingBuffer<T> {
     fn take(&mut self, output: &mut [T]) -> usize {
         self.dequeue_into(output)
     }
+
+    #[inline]
+    fn contiguous(&mut self) -> u64 {
+        self.make_contiguous()
+            .last()
+            .map_or(0, |item| item.number())
+    }
 }
 
 impl<T: Item> Measured<T> for GrowableAllocRingBuffer<T> {
@@ -83,5 +105,12 @@ impl<T: Item> Measured<T> for GrowableAllocRingBuffer<T> {
     #[inline]
     fn take(&mut self, output: &mut [T]) -> usize {
         self.dequeue_into(output)
+    }
+
+    #[inline]
+    fn contiguous(&mut self) -> u64 {
+        self.make_contiguous()
+            .last()
+            .map_or(0, |item| item.number())
     }
 }

@@ -4,8 +4,9 @@ use crate::case::Case;
 use ringbuffer::RingBuffer;
 use std::alloc::{AllocError, Global};
 use window::{
-    AllocWindowFold, AllocWindowMin, AllocWindowSum, Candidate, ConstGenericWindowMin,
-    ConstGenericWindowSum, Gcd, Kept, Order, WindowFold, WindowLeast, WindowSum,
+    AllocWindowFloatSum, AllocWindowFold, AllocWindowMin, AllocWindowSum, Candidate,
+    ConstGenericWindowFloatSum, ConstGenericWindowMin, ConstGenericWindowSum, Gcd, Kept, Order,
+    Summand, WindowFloatSum, WindowFold, WindowLeast, WindowSum,
 };
 
 /// Slides the window that a case names over a random walk, and returns what it found, as a number.
@@ -14,6 +15,14 @@ pub fn slide(alloc: Global, kind: &str, case: Case<'_>) -> Result<u64, AllocErro
     Ok(match (kind, case.call) {
         ("heap", "sum") => sum(&mut AllocWindowSum::on_heap(alloc, capacity)?, case.times),
         ("array", "sum") => sum(&mut ConstGenericWindowSum::<1000>::in_array(), case.times),
+        ("heap", "float_sum") => float_sum(
+            &mut AllocWindowFloatSum::on_heap(alloc, capacity)?,
+            case.times,
+        ),
+        ("array", "float_sum") => float_sum(
+            &mut ConstGenericWindowFloatSum::<1000>::in_array(),
+            case.times,
+        ),
         ("heap", "least") => least(
             &mut AllocWindowMin::<i64>::on_heap(alloc, capacity)?,
             case.times,
@@ -46,6 +55,18 @@ fn sum<R: RingBuffer<i64>>(window: &mut WindowSum<R>, times: u32) -> u64 {
         number = next(number);
         let _ = window.push((number >> 40) as i64);
         found ^= window.len() as u64;
+    }
+    found
+}
+
+#[inline(never)]
+fn float_sum<R: RingBuffer<Summand>>(window: &mut WindowFloatSum<R>, times: u32) -> u64 {
+    let mut sample = 0.5;
+    let mut found = 0u64;
+    for _ in 0..times {
+        sample = 1.0 - 0.75 * sample;
+        let _ = window.push(sample);
+        found ^= u64::from(window.sum() < 0.0);
     }
     found
 }

@@ -1,6 +1,7 @@
 //! Tests of memory, of drops and of refusals by public calls.
 //!
-//! A test is a function that is generic over the ring. A macro of `ring_test_support` calls it on a new ring of each type.
+//! A test is a method of a trait that the ring types implement, or a function that is generic over the ring. A macro of
+//! `ring_test_support` calls it on a new ring of each type.
 
 mod both_ends;
 mod dropping;

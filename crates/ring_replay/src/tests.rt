@@ -94,18 +94,18 @@ fn assert_agrees<T: Clone + Drop, M: Maker<T>, R: Played<T>>(
 }
 
 /// Plays a run of a ring whose items can't be copied.
-fn replay<T: Clone + Drop, M: Maker<T> + Drop, R: Played<T>>(
+fn replay_counted<T: Clone + Drop, M: Maker<T> + Drop, R: Played<T>>(
     rt: &(impl Abort + AllocGlobal),
     maker: M,
-    mut ring: R,
+    ring: &mut R,
     run: Run,
 ) {
-    let mut player = begin(&mut ring, run, maker, rt.alloc());
+    let mut player = begin(ring, run, maker, rt.alloc());
     for block in 0..BLOCKS {
         for _ in 0..64 {
-            calls::play(&mut ring, &mut player).expect(rt, "memory");
+            calls::play(ring, &mut player).expect(rt, "memory");
         }
-        assert_agrees(rt, &ring, &mut player, run, block);
+        assert_agrees(rt, ring, &mut player, run, block);
     }
 }
 
@@ -113,21 +113,21 @@ fn replay<T: Clone + Drop, M: Maker<T> + Drop, R: Played<T>>(
 fn replay_bytes<R: PlayedBytes>(
     rt: &(impl Abort + AllocGlobal),
     maker: Values,
-    mut ring: R,
+    ring: &mut R,
     run: Run,
 ) {
-    let mut player = begin::<u8, Values, R>(&mut ring, run, maker, rt.alloc());
+    let mut player = begin::<u8, Values, R>(ring, run, maker, rt.alloc());
     for block in 0..BLOCKS {
         for call in 1..65u8 {
             if call % 4 != 0 {
-                calls::play(&mut ring, &mut player).expect(rt, "memory");
+                calls::play(ring, &mut player).expect(rt, "memory");
             } else if player.flip() {
                 ring.play_copies(&mut player).expect(rt, "memory");
             } else {
                 ring.play_bytes(&mut player).expect(rt, "memory");
             }
         }
-        assert_agrees::<u8, Values, R>(rt, &ring, &mut player, run, block);
+        assert_agrees::<u8, Values, R>(rt, ring, &mut player, run, block);
     }
 }
 
@@ -135,19 +135,79 @@ fn replay_bytes<R: PlayedBytes>(
 fn replay_copies<T: Plain, M: Maker<T> + Drop, R: PlayedCopies<T>>(
     rt: &(impl Abort + AllocGlobal),
     maker: M,
-    mut ring: R,
+    ring: &mut R,
     run: Run,
 ) {
-    let mut player = begin(&mut ring, run, maker, rt.alloc());
+    let mut player = begin(ring, run, maker, rt.alloc());
     for block in 0..BLOCKS {
         for call in 1..65u8 {
             if call % 4 == 0 {
                 ring.play_copies(&mut player).expect(rt, "memory");
             } else {
-                calls::play(&mut ring, &mut player).expect(rt, "memory");
+                calls::play(ring, &mut player).expect(rt, "memory");
             }
         }
-        assert_agrees(rt, &ring, &mut player, run, block);
+        assert_agrees(rt, ring, &mut player, run, block);
+    }
+}
+
+/// A ring that plays a run by a method, since a generic function would be proved anew for each capacity of an array.
+trait Replayed<M> {
+    fn replay(&mut self, rt: &(impl Abort + AllocGlobal), maker: M, run: Run);
+}
+
+/// Has the rings of a kind of items play their runs by a generic function.
+macro_rules! replayed_by {
+    ($replay:ident, $type:ty) => {
+        impl<const CAP: usize> Replayed<Values> for ConstGenericRingBuffer<$type, CAP> {
+            fn replay(&mut self, rt: &(impl Abort + AllocGlobal), maker: Values, run: Run) {
+                $replay(rt, maker, self, run);
+            }
+        }
+
+        impl<const CAP: usize> Replayed<Values> for CopyRingBuffer<$type, CAP> {
+            fn replay(&mut self, rt: &(impl Abort + AllocGlobal), maker: Values, run: Run) {
+                $replay(rt, maker, self, run);
+            }
+        }
+
+        impl Replayed<Values> for AllocRingBuffer<$type> {
+            fn replay(&mut self, rt: &(impl Abort + AllocGlobal), maker: Values, run: Run) {
+                $replay(rt, maker, self, run);
+            }
+        }
+
+        impl Replayed<Values> for GrowableAllocRingBuffer<$type> {
+            fn replay(&mut self, rt: &(impl Abort + AllocGlobal), maker: Values, run: Run) {
+                $replay(rt, maker, self, run);
+            }
+        }
+    };
+}
+
+replayed_by!(replay_copies, u64);
+
+replayed_by!(replay_copies, ());
+
+replayed_by!(replay_copies, Wide);
+
+replayed_by!(replay_bytes, u8);
+
+impl<'a, const CAP: usize> Replayed<&'a Tally> for ConstGenericRingBuffer<Counted<'a>, CAP> {
+    fn replay(&mut self, rt: &(impl Abort + AllocGlobal), maker: &'a Tally, run: Run) {
+        replay_counted(rt, maker, self, run);
+    }
+}
+
+impl<'a> Replayed<&'a Tally> for AllocRingBuffer<Counted<'a>> {
+    fn replay(&mut self, rt: &(impl Abort + AllocGlobal), maker: &'a Tally, run: Run) {
+        replay_counted(rt, maker, self, run);
+    }
+}
+
+impl<'a> Replayed<&'a Tally> for GrowableAllocRingBuffer<Counted<'a>> {
+    fn replay(&mut self, rt: &(impl Abort + AllocGlobal), maker: &'a Tally, run: Run) {
+        replay_counted(rt, maker, self, run);
     }
 }
 
@@ -159,89 +219,89 @@ const CAPACITIES: &[usize] = &[
 
 /// Plays runs on array rings of these capacities.
 macro_rules! on_arrays {
-    ($rt:expr, $run:ident, $replay:ident, $type:ty, $maker:expr, $($capacity:literal)*) => {$(
+    ($rt:expr, $run:ident, $type:ty, $maker:expr, $($capacity:literal)*) => {$(
         $run = $run.next("ConstGenericRingBuffer", $capacity);
-        $replay($rt, $maker, ConstGenericRingBuffer::<$type, $capacity>::new(), $run);
+        ConstGenericRingBuffer::<$type, $capacity>::new().replay($rt, $maker, $run);
     )*};
 }
 
 /// Plays the runs of array rings once more, on rings of plain items of the same capacities.
 macro_rules! replay_plain {
-    ($rt:expr, $items:literal, $first:literal, $replay:ident, $type:ty) => {
+    ($rt:expr, $items:literal, $first:literal, $type:ty) => {
         let mut run = Run::before($first, $items);
-        on_plain!($rt, run, $replay, $type, 1 2 3 4 5 7 8 16 31 64 100 300);
+        on_plain!($rt, run, $type, 1 2 3 4 5 7 8 16 31 64 100 300);
     };
 }
 
 /// Plays runs on rings of plain items of these capacities.
 macro_rules! on_plain {
-    ($rt:expr, $run:ident, $replay:ident, $type:ty, $($capacity:literal)*) => {$(
+    ($rt:expr, $run:ident, $type:ty, $($capacity:literal)*) => {$(
         $run = $run.next("CopyRingBuffer", $capacity);
-        $replay($rt, Values, CopyRingBuffer::<$type, $capacity>::default(), $run);
+        CopyRingBuffer::<$type, $capacity>::default().replay($rt, Values, $run);
     )*};
 }
 
 /// Plays the runs of a kind of items.
 macro_rules! replay_all {
-    ($rt:expr, $items:literal, $first:literal, $replay:ident, $type:ty, $maker:expr) => {
+    ($rt:expr, $items:literal, $first:literal, $type:ty, $maker:expr) => {
         let mut run = Run::before($first, $items);
-        on_arrays!($rt, run, $replay, $type, $maker, 1 2 3 4 5 7 8 16 31 64 100 300);
+        on_arrays!($rt, run, $type, $maker, 1 2 3 4 5 7 8 16 31 64 100 300);
         for capacity in CAPACITIES {
             assert!($rt; 0 < *capacity);
             run = run.next("AllocRingBuffer", *capacity);
             let ring = AllocRingBuffer::<$type>::new($rt.alloc(), *capacity);
-            $replay($rt, $maker, ring.expect($rt, "memory"), run);
+            ring.expect($rt, "memory").replay($rt, $maker, run);
         }
         for capacity in CAPACITIES {
             run = run.next("GrowableAllocRingBuffer", *capacity);
             let ring = GrowableAllocRingBuffer::<$type>::with_capacity($rt.alloc(), *capacity);
-            $replay($rt, $maker, ring.expect($rt, "memory"), run);
+            ring.expect($rt, "memory").replay($rt, $maker, run);
         }
     };
 }
 
 #[test]
 fn rings_of_numbers(rt: HostRuntime) {
-    replay_all!(&rt, "u64", 0, replay_copies, u64, Values);
+    replay_all!(&rt, "u64", 0, u64, Values);
 }
 
 #[test]
 fn rings_of_nothings(rt: HostRuntime) {
-    replay_all!(&rt, "()", 80, replay_copies, (), Values);
+    replay_all!(&rt, "()", 80, (), Values);
 }
 
 #[test]
 fn rings_of_wide_items(rt: HostRuntime) {
-    replay_all!(&rt, "320 bytes", 160, replay_copies, Wide, Values);
+    replay_all!(&rt, "320 bytes", 160, Wide, Values);
 }
 
 #[test]
 fn rings_of_counted_items(rt: HostRuntime) {
     let tally = Tally::new();
-    replay_all!(&rt, "counted", 240, replay, Counted<'_>, &tally);
+    replay_all!(&rt, "counted", 240, Counted<'_>, &tally);
 }
 
 #[test]
 fn rings_of_bytes(rt: HostRuntime) {
-    replay_all!(&rt, "u8", 320, replay_bytes, u8, Values);
+    replay_all!(&rt, "u8", 320, u8, Values);
 }
 
 #[test]
 fn plain_rings_of_numbers(rt: HostRuntime) {
-    replay_plain!(&rt, "u64", 0, replay_copies, u64);
+    replay_plain!(&rt, "u64", 0, u64);
 }
 
 #[test]
 fn plain_rings_of_nothings(rt: HostRuntime) {
-    replay_plain!(&rt, "()", 80, replay_copies, ());
+    replay_plain!(&rt, "()", 80, ());
 }
 
 #[test]
 fn plain_rings_of_wide_items(rt: HostRuntime) {
-    replay_plain!(&rt, "320 bytes", 160, replay_copies, Wide);
+    replay_plain!(&rt, "320 bytes", 160, Wide);
 }
 
 #[test]
 fn plain_rings_of_bytes(rt: HostRuntime) {
-    replay_plain!(&rt, "u8", 320, replay_bytes, u8);
+    replay_plain!(&rt, "u8", 320, u8);
 }

@@ -11,7 +11,7 @@ use Rattle.std.specs.contracts.impls.GlobalAllocator.TheImpl.{ghosts}
 use Rattle.std.specs.contracts.impls.GlobalAllocator.allocate as asking
 use Rattle.std.specs.contracts.impls.GlobalAllocator.deallocate as giving
 use Rattle.std.proofs.alloc.Global.TheLaws as heap_laws
-use Rattle.ring_slots.proofs.Parts.{handle_made}
+use Rattle.ring_slots.proofs.OwnerParts.{handle_made}
 
 -- the handle as what the library's steps are stated for. They read its row and what frees a block alone
 abbrev pub Handle : Al

@@ -1,12 +1,14 @@
 mod BlockCalls
-mod Crossing
-mod Parts
+mod CellsInMemory
+mod CoreRows
 pub mod Filled
-pub mod Lowered
+pub mod MovedDown
 pub mod OneSlot
-mod Rows
+mod OwnerParts
+pub mod Passed
+mod SendSync
 mod SharedSlots
 mod Shown
+mod ShownMoved
 mod SlotsInMemory
 mod Words
-pub mod Passed

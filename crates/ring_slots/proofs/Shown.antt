@@ -1,5 +1,5 @@
 -- What slots of plain items show, once cells are written or marks change.
-use Rattle.ring_slots.proofs.Words.{◌≡◌, refl, sym, ap, ◌∙◌, Bool, true, false, List, [], ◌∷◌, ◌++◌, ℕ, zero, suc, ◌+◌, ◌<◌, ◌≤◌, arith, length, get_or, length-append, length-drop, length-replicate, length-take, replicate, set, take, cut, map, None, Some, IsSome, HoldsStretch, IsFullStretch}
+use Rattle.ring_slots.proofs.Words.{drop-drop, take-append-drop, ◌≡◌, refl, sym, ap, ◌∙◌, Bool, true, false, List, [], ◌∷◌, ◌++◌, ℕ, zero, suc, ◌+◌, ◌<◌, ◌≤◌, arith, length, get_or, length-append, length-drop, length-replicate, length-take, replicate, set, take, cut, map, None, Some, IsSome, HoldsStretch, IsFullStretch}
 use Rattle.std.proofs.lemmas.Option.{slice_get-get_or}
 use Rattle.std.specs.Prelude.{if◌then◌else◌, slice_get}
 use Rattle.ring_slots.specs.Slots.{Passes, filled}
@@ -71,13 +71,13 @@ module _ {X : Type 0} where
   shown-cut (suc n) (f ∷ fs) [] = sym (shown-nil (cut n fs))
   shown-cut (suc n) (f ∷ fs) (x ∷ xs) = shown-cut n fs xs
 
-  shown-front : (n : ℕ) (fs : List Bool) (xs : List X) → take n (shown fs xs) ≡ shown (take n fs) (take n xs)
+  pub shown-front : (n : ℕ) (fs : List Bool) (xs : List X) → take n (shown fs xs) ≡ shown (take n fs) (take n xs)
   shown-front zero fs xs = refl
   shown-front (suc n) [] xs = refl
   shown-front (suc n) (f ∷ fs) [] = refl
   shown-front (suc n) (f ∷ fs) (x ∷ xs) = ap (λ l. (if f then Some x else None) ∷ l) (shown-front n fs xs)
 
-  shown-append : (es fs : List Bool) (xs ys : List X) → length es ≡ length xs → shown (es ++ fs) (xs ++ ys) ≡ shown es xs ++ shown fs ys
+  pub shown-append : (es fs : List Bool) (xs ys : List X) → length es ≡ length xs → shown (es ++ fs) (xs ++ ys) ≡ shown es xs ++ shown fs ys
   shown-append [] fs [] ys same = refl
   shown-append [] fs (x ∷ xs) ys same = absurd (omega arith)
   shown-append (e ∷ es) fs [] ys same = absurd (omega arith)
@@ -101,6 +101,22 @@ module _ {X : Type 0} where
   all-shown (true ∷ fs) (x ∷ xs) (y ∷ ys) same is =
       let rest = all-shown fs xs ys (omega arith) (ap (cut 1) is) in let first : Some x ≡ Some y = cc in cc
   all-shown (false ∷ fs) (x ∷ xs) (y ∷ ys) same is = let first : None ≡ Some y = cc in cc
+
+  -- and so are their marks set to full
+  all-marked : (fs : List Bool) (xs ys : List X) → length fs ≡ length xs → shown fs xs ≡ map Some ys → fs ≡ replicate (length xs) true
+  all-marked [] [] ys same is = refl
+  all-marked [] (x ∷ xs) ys same is = absurd (omega arith)
+  all-marked (f ∷ fs) [] ys same is = absurd (omega arith)
+  all-marked (f ∷ fs) (x ∷ xs) [] same is = cc
+  all-marked (true ∷ fs) (x ∷ xs) (y ∷ ys) same is = ap (λ l. true ∷ l) (all-marked fs xs ys (omega arith) (ap (cut 1) is))
+  all-marked (false ∷ fs) (x ∷ xs) (y ∷ ys) same is = let first : None ≡ Some y = cc in cc
+
+  pub stretch-marked : (fs : List Bool) (xs : List X) (from len : ℕ) → length fs ≡ length xs → IsFullStretch (shown fs xs) from len → take len (cut from fs) ≡ replicate len true
+  stretch-marked fs xs from len same full =
+      let parts : take len (cut from (shown fs xs)) ≡ shown (take len (cut from fs)) (take len (cut from xs)) = rw (shown-cut from fs xs) (shown-front len (cut from fs) (cut from xs)) in
+      let long : length (take len (cut from fs)) ≡ length (take len (cut from xs)) = omega (arith, length-take len (cut from fs), length-take len (cut from xs), length-drop from fs, length-drop from xs) in
+      let count : length (take len (cut from xs)) ≡ len = omega (arith, full.0, length-shown fs xs same, length-take len (cut from xs), length-drop from xs) in
+      all-marked (take len (cut from fs)) (take len (cut from xs)) full.1.0 long (sym parts ∙ full.1.1) ∙ ap (λ k. replicate k true) count
 
   -- a full stretch shows its cells
   pub stretch-shown : (fs : List Bool) (xs : List X) (from len : ℕ) → length fs ≡ length xs → IsFullStretch (shown fs xs) from len → HoldsStretch (shown fs xs) from len (take len (cut from xs))
@@ -128,7 +144,7 @@ module _ {X : Type 0} where
       (take len (cut from xs), ys, stretch-shown fs xs from len same full, order, rw (marked, written, count, sym long) (λ i. record { slots = shown-filled fs xs from ys same i; changes = changes + length ys; capacity = cap }))
 
   -- as many items are passed on as stood in a full stretch
-  cells-long : (fs : List Bool) (xs : List X) (from len : ℕ) → length fs ≡ length xs → IsFullStretch (shown fs xs) from len → length (take len (cut from xs)) ≡ len
+  pub cells-long : (fs : List Bool) (xs : List X) (from len : ℕ) → length fs ≡ length xs → IsFullStretch (shown fs xs) from len → length (take len (cut from xs)) ≡ len
   cells-long fs xs from len same full = stretch_long (shown fs xs) from len (take len (cut from xs)) full.0 (stretch-shown fs xs from len same full)
 
   pub up-long : (fs : List Bool) (xs ys : List X) (from len : ℕ) (item over : X) → length fs ≡ length xs → IsFullStretch (shown fs xs) from len → item ∷ take len (cut from xs) ≡ ys ++ over ∷ [] → length ys ≡ len
@@ -141,6 +157,10 @@ module _ {X : Type 0} where
 pub all_marked : (n : ℕ) → replicate n true ++ cut n (replicate n false) ≡ replicate n true
 all_marked zero = refl
 all_marked (suc n) = ap (λ l. true ∷ l) (all_marked n)
+
+-- a list is what comes before a stretch of it, the stretch, and what comes behind
+pub in_three : {A : Type 0} (xs : List A) (from n : ℕ) → xs ≡ take from xs ++ (take n (cut from xs) ++ cut (from + n) xs)
+in_three xs from n = sym (take-append-drop from xs) ∙ ap (λ l. take from xs ++ l) (sym (take-append-drop n (cut from xs)) ∙ rw (drop-drop n from xs) refl)
 
 -- elements written over a stretch of others leave as many
 pub length-over : {A : Type 0} (xs ys : List A) (from n : ℕ) → length ys ≡ n → from + n ≤ length xs → length (take from xs ++ (ys ++ cut (from + n) xs)) ≡ length xs

@@ -2,4 +2,3 @@ pub mod Slots
 pub mod array
 pub mod block
 pub mod copies
-pub mod heap

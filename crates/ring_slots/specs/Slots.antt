@@ -57,6 +57,10 @@ module _ {X : Type 0} where
   abbrev pub with_items : Slots X → ℕ → List X → Slots X
   with_items s place xs = record s { slots = filled s.slots place xs; changes = s.changes + length xs }
 
+  -- the slots once these items are written into the `len` of them from a place on, with this count of changes
+  abbrev pub with_refilled : Slots X → ℕ → ℕ → ℕ → List X → Slots X
+  with_refilled s from len changes xs = record s { slots = refilled s.slots from len xs; changes = changes }
+
   -- the `len` slots from a place on, all of them full, hold other items now, each by one change: `passed` says which, given those that they held
   abbrev pub Passes : Slots X → Slots X → ℕ → ℕ → (List X → List X → Type 0) → Type 0
   Passes old new from len passed = (had has : List X) × HoldsStretch old.slots from len had × passed had has × (new ≡ with_items old from has)

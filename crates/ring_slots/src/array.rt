@@ -17,7 +17,7 @@ pub(crate) struct Cells<X, const N: usize> {
 }
 
 impl<X, const N: usize> Cells<X, N> {
-    ghost use Rattle.ring_slots.specs.array.Lends.{lends_cell};
+    ghost use Rattle.ring_slots.specs.array.Lends.{lends_cell, lends_cells};
 
     #[inline]
     pub(crate) fn at(&self, place: usize) -> &X
@@ -34,6 +34,16 @@ impl<X, const N: usize> Cells<X, N> {
         ensures value { result.now ≡ slice_index_or self.old.xs place result.now }
     {
         &mut self.xs[place]
+    }
+
+    // Lends `len` elements from a place on, for writing.
+    #[inline]
+    pub(crate) fn slice_mut(&mut self, from: usize, len: usize) -> &mut [X]
+        requires { from + len ≤ N }
+        ensures* writes_back { sem 𝓛 (lends_cells X.row N.row self.entry from len result) }
+        ensures value { result.now ≡ take len (drop from self.old.xs) }
+    {
+        &mut self.xs[from..from + len]
     }
 
     // Puts an element before `len` of them from a place on, each of which moves one up, and returns the one that was last.
@@ -101,6 +111,21 @@ impl<X: Copy, const N: usize> Cells<X, N> {
     {
         let xs = &mut self.xs[..];
         xs[from..from + items.len()].copy_from_slice(items);
+    }
+
+    // Copies `count` elements from a place on to those from the place `to` on, which may be some of them.
+    pub(crate) fn copy_within(&mut self, from: usize, to: usize, count: usize)
+        requires from { from + count ≤ N }
+        requires to { to + count ≤ N }
+        ensures { self.new.xs ≡ take to self.old.xs
+            ++ (take count (drop from self.old.xs) ++ drop (to + count) self.old.xs) }
+    {
+        // Elements that stay take no step: a full ring has no gap to close.
+        if from == to {
+            return;
+        }
+        let xs = &mut self.xs[..];
+        xs.copy_within(from..from + count, to);
     }
 }
 

@@ -4,7 +4,7 @@ ghost use Rattle.std.specs.Borrow.{ftrue};
 
 use std::marker::{Model, Send, Sync};
 
-/// A count of slot changes, or the count that `HeapSlots::slice_mut` is to set. It takes no bytes.
+/// A count of slot changes, or the count that `LendsRows::slice_mut` is to set. It takes no bytes.
 #[derive(Drop)]
 pub struct ChangeCount {
     pub ghost count: { ℕ },

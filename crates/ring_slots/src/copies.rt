@@ -1,9 +1,10 @@
 //! Slots of plain items, which lie in the value itself with no mark beside an item.
 ghost use Rattle.std.specs.Prelude.{◌≡◌, ◌<◌, length, map, replicate, None, Some, refl};
-ghost use Rattle.ring_slots.specs.Slots.{HoldsStretch, IsEmptyStretch, IsFullStretch, changed, with_items};
+ghost use Rattle.ring_slots.specs.Slots.{HoldsStretch, IsEmptyStretch, IsFullStretch, changed, with_items, with_refilled};
 
 use crate::array::Cells;
 use crate::change_count::ChangeCount;
+use crate::lends_rows::LendsRows;
 use crate::marks::Marks;
 use crate::place::{wrapped, wrapped_after, wrapped_next};
 use crate::slots::RingSlots;
@@ -15,7 +16,7 @@ use std::marker::Model;
 /// full is a ghost: the conditions of the calls say it, no code asks, and an item has no mark beside it.
 ///
 /// A contract sees what each slot holds, and how many changes the slots have had. That count takes no bytes, begins at
-/// 0, and rises by the calls of `RingSlots` and by `put_copies` alone.
+/// 0, and rises by the calls of `RingSlots` and `LendsRows` and by `put_copies` alone.
 #[derive(Drop)]
 pub struct CopySlots<T, const CAP: usize> {
     cells: Cells<T, CAP>,
@@ -53,7 +54,7 @@ impl<T: Copy, const CAP: usize> CopySlots<T, CAP> {
     {
         CopySlots {
             cells: Cells { xs: items },
-            marks: Marks::none(CAP).filled(0, CAP),
+            marks: Marks::none(CAP).marked(0, CAP, true),
             changes: ChangeCount::new().after(CAP),
         }
     }
@@ -64,7 +65,7 @@ impl<T: Copy, const CAP: usize> CopySlots<T, CAP> {
     {
         CopySlots {
             cells: self.cells.copied(),
-            marks: self.marks.filled(0, 0),
+            marks: self.marks.marked(0, 0, true),
             changes: self.changes.after(0),
         }
     }
@@ -86,8 +87,42 @@ impl<T: Copy, const CAP: usize> CopySlots<T, CAP> {
         ensures { self.new ≡ with_items self.old from items.now }
     {
         self.changes = self.changes.after(items.len());
-        self.marks = self.marks.filled(from, items.len());
+        self.marks = self.marks.marked(from, items.len(), true);
         self.cells.put_slice(from, items);
+    }
+}
+
+impl<T: Copy, const CAP: usize> LendsRows<T> for CopySlots<T, CAP> {
+    ghost with_row = { with_refilled };
+
+    ghost sees_row = { λ _ _ _ _ _. refl };
+
+    #[inline]
+    fn changes(&self) -> ChangeCount {
+        self.changes.after(0)
+    }
+
+    #[inline]
+    fn slice_mut(&mut self, from: usize, len: usize, changes: ChangeCount) -> &mut [T] {
+        self.changes = changes;
+        self.cells.slice_mut(from, len)
+    }
+
+    fn move_down(&mut self, from: usize, to: usize) {
+        let count = self.size() - from;
+        self.changes = self.changes.after(count).after(count);
+        self.marks = self.marks.marked(from, count, false);
+        self.marks = self.marks.marked(to, count, true);
+        self.cells.copy_within(from, to, count);
+    }
+
+    fn bring_first(&mut self, from: usize, len: usize) {
+        let last = self.size() - from;
+        self.changes = self.changes.after(last + len).after(last + len);
+        self.marks = self.marks.marked(from, last, false);
+        self.marks = self.marks.marked(0, last + len, true);
+        self.cells.copy_within(0, last, len);
+        self.cells.copy_within(from, 0, last);
     }
 }
 
@@ -175,14 +210,14 @@ impl<T: Copy, const CAP: usize> RingSlots<T> for CopySlots<T, CAP> {
     #[inline]
     fn pass_up(&mut self, from: usize, len: usize, item: T) -> T {
         self.changes = self.changes.after(len);
-        self.marks = self.marks.filled(from, len);
+        self.marks = self.marks.marked(from, len, true);
         self.cells.pass_up(from, len, item)
     }
 
     #[inline]
     fn pass_down(&mut self, from: usize, len: usize, item: T) -> T {
         self.changes = self.changes.after(len);
-        self.marks = self.marks.filled(from, len);
+        self.marks = self.marks.marked(from, len, true);
         self.cells.pass_down(from, len, item)
     }
 

@@ -1,20 +1,18 @@
 //! Slots on the heap.
-ghost use Rattle.std.specs.Prelude.{◌≡◌, ◌+◌, ◌-◌, ◌^◌, ◌↔◌, ◌<◌, ◌≤◌, min, length, replicate, None, Some, refl, IfOk, IsErr, IsTrue};
-ghost use Rattle.std.specs.Borrow.{sem};
+ghost use Rattle.std.specs.Prelude.{◌≡◌, ◌+◌, ◌-◌, ◌^◌, ◌<◌, length, replicate, None, Some, refl, IfOk, IsErr};
 ghost use Rattle.std.specs.Int.{IsNextPowerOfTwo};
-ghost use Rattle.std.specs.Mem.{type_size};
-ghost use Rattle.std.specs.Vec.Ownership.{FitsInBlock};
 ghost use Rattle.ring_slots.specs.block.Block.{IsNewBlock};
-ghost use Rattle.ring_slots.specs.Slots.{HoldsStretch, IsEmptyStretch, IsFullStretch, changed, with_brought_first, with_items, with_lowered};
+ghost use Rattle.ring_slots.specs.Slots.{HoldsStretch, IsEmptyStretch, IsFullStretch, changed, with_items, with_refilled};
 
 use crate::block::{Deed, Owner};
+use crate::bytes::{item_size, may_hold};
 use crate::change_count::ChangeCount;
+use crate::lends_rows::LendsRows;
 use crate::passing::{pass_down, pass_up};
 use crate::place::masked;
 use crate::slots::RingSlots;
 use std::alloc::{AllocError, Global};
 use std::marker::{Model, Send, Sync};
-use std::mem::size_of;
 
 const GREATEST_POWER_OF_TWO: usize = 1 << (usize::BITS - 1);
 
@@ -26,8 +24,7 @@ const GREATEST_POWER_OF_TWO: usize = 1 << (usize::BITS - 1);
 /// They aren't dropped: slots end by `free`, which asks that all of them are empty, and in no other way.
 ///
 /// A contract sees what each slot holds, and how many changes the slots have had. That count takes no bytes, begins at
-/// 0, and rises by the calls of `RingSlots` and by `slice_mut`, `put_copies`, `move_down` and `bring_first`
-/// alone; `count_anew` begins it again.
+/// 0, and rises by the calls of `RingSlots` and `LendsRows` and by `put_copies` alone; `count_anew` begins it again.
 pub struct HeapSlots<T> {
     ptr: *mut T,
     // The number of slots less one, which is the mask of their places.
@@ -60,8 +57,6 @@ unsafe impl<T: Send> Send for HeapSlots<T> {}
 unsafe impl<T: Sync> Sync for HeapSlots<T> {}
 
 impl<T> HeapSlots<T> {
-    ghost use Rattle.ring_slots.specs.heap.Lends.{lends_stretch};
-
     /// Makes empty slots, as many as the least power of two that is at least the capacity. An error says that the memory
     /// for them was refused.
     pub fn new(alloc: Global, capacity: usize) -> Result<HeapSlots<T>, AllocError>
@@ -95,20 +90,6 @@ impl<T> HeapSlots<T> {
         self.owner.slice(self.ptr, from, len)
     }
 
-    /// Lends the items of `len` full slots that lie side by side from the place `from` on, for writing. Sets the count
-    /// of changes to `changes`, which must be at least `len` more than it was.
-    #[inline]
-    pub fn slice_mut(&mut self, from: usize, len: usize, changes: ChangeCount) -> &mut [T]
-        requires full { IsFullStretch self.old.slots from len }
-        requires counted { self.old.changes + len ≤ changes.count }
-        ensures* writes_back { sem 𝓛 (lends_stretch T.row self.entry from len changes.count result) }
-        ensures value { HoldsStretch self.old.slots from len result.now }
-    {
-        self.changes = changes;
-        let ptr = self.ptr;
-        self.owner.slice_mut(ptr, from, len)
-    }
-
     /// Puts copies of some items into empty slots that lie side by side from the place `from` on, each by one change.
     /// Takes O(n) in these.
     #[inline]
@@ -126,39 +107,6 @@ impl<T> HeapSlots<T> {
         self.owner.copy_in(self.ptr, size, from, items);
     }
 
-    /// Moves the items of all slots from the place `from` on down to those from the place `to` on, each by two changes.
-    /// The slots between these places must be empty. Takes O(n) in the items.
-    #[inline]
-    pub fn move_down(&mut self, from: usize, to: usize)
-        requires some { from < length self.old.slots }
-        requires order { to ≤ from }
-        requires full { IsFullStretch self.old.slots from (length self.old.slots - from) }
-        requires empty { IsEmptyStretch self.old.slots to (from - to) }
-        ensures { self.new ≡ with_lowered self.old from to }
-    {
-        let size = HeapSlots::size(self);
-        self.changes = self.changes.after(size - from).after(size - from);
-        self.owner.move_down(self.ptr, size, from, to);
-    }
-
-    /// Moves the items of all slots from the place `from` on to the first slots, and those of the first `len` slots up
-    /// behind them, each by two changes. The slots between must be empty, and at least as many as the items that go
-    /// first. Takes O(n) in the items.
-    #[inline]
-    pub fn bring_first(&mut self, from: usize, len: usize)
-        requires some { from < length self.old.slots }
-        requires room { length self.old.slots - from + len ≤ from }
-        requires last { IsFullStretch self.old.slots from (length self.old.slots - from) }
-        requires first { IsFullStretch self.old.slots 0 len }
-        requires empty { IsEmptyStretch self.old.slots len (from - len) }
-        ensures { self.new ≡ with_brought_first self.old from len }
-    {
-        let size = HeapSlots::size(self);
-        let count = size - from + len;
-        self.changes = self.changes.after(count).after(count);
-        self.owner.bring_first(self.ptr, size, from, len);
-    }
-
     /// Counts the changes of the slots from 0 again.
     pub fn count_anew(&mut self)
         ensures { self.new ≡ record self.old { changes = 0 } }
@@ -166,15 +114,6 @@ impl<T> HeapSlots<T> {
         self.changes = ChangeCount::new();
     }
 
-    /// Returns the count of changes of the slots.
-    pub fn changes(&self) -> ChangeCount
-        ensures { result.count ≡ self.now.changes }
-    {
-        self.changes.after(0)
-    }
-}
-
-impl<T> HeapSlots<T> {
     // Returns the number of slots.
     #[inline]
     fn size(&self) -> usize
@@ -204,20 +143,36 @@ fn empty_block<T>(alloc: Global, size: usize) -> Result<(*mut T, Owner<T>, Deed<
     Owner::allocate(alloc, size)
 }
 
-/// Returns the size of an item in bytes, or the greatest word where it is larger.
-pub fn item_size<T>() -> usize
-    ensures { result ≡ min (type_size T.row) (2 ^ 64 - 1) }
-{
-    size_of::<T>()
-}
+impl<T> LendsRows<T> for HeapSlots<T> {
+    ghost with_row = { with_refilled };
 
-// Returns whether a block for `size` items can be asked for.
-fn may_hold<T>(size: usize) -> bool
-    ensures { IsTrue result ↔ FitsInBlock T.row size }
-{
-    match size.checked_mul(item_size::<T>()) {
-        Some(bytes) => size <= isize::MAX as usize && bytes <= isize::MAX as usize,
-        None => false,
+    ghost sees_row = { λ _ _ _ _ _. refl };
+
+    #[inline]
+    fn changes(&self) -> ChangeCount {
+        self.changes.after(0)
+    }
+
+    #[inline]
+    fn slice_mut(&mut self, from: usize, len: usize, changes: ChangeCount) -> &mut [T] {
+        self.changes = changes;
+        let ptr = self.ptr;
+        self.owner.slice_mut(ptr, from, len)
+    }
+
+    #[inline]
+    fn move_down(&mut self, from: usize, to: usize) {
+        let size = HeapSlots::size(self);
+        self.changes = self.changes.after(size - from).after(size - from);
+        self.owner.move_down(self.ptr, size, from, to);
+    }
+
+    #[inline]
+    fn bring_first(&mut self, from: usize, len: usize) {
+        let size = HeapSlots::size(self);
+        let count = size - from + len;
+        self.changes = self.changes.after(count).after(count);
+        self.owner.bring_first(self.ptr, size, from, len);
     }
 }
 

@@ -3,17 +3,21 @@
 
 mod array;
 mod block;
+mod bytes;
 mod change_count;
 mod copies;
 mod full;
 mod heap;
+mod lends_rows;
 mod marks;
 mod passing;
 mod place;
 mod slots;
 
 pub use array::ArraySlots;
+pub use bytes::item_size;
 pub use change_count::ChangeCount;
 pub use copies::CopySlots;
-pub use heap::{HeapSlots, item_size};
+pub use heap::HeapSlots;
+pub use lends_rows::LendsRows;
 pub use slots::RingSlots;

@@ -1,5 +1,5 @@
 //! Marks of full slots that only clauses read.
-ghost use Rattle.std.specs.Prelude.{◌≡◌, ◌+◌, ◌++◌, Bool, List, drop, false, replicate, slice_set, take, true};
+ghost use Rattle.std.specs.Prelude.{◌≡◌, ◌+◌, ◌++◌, Bool, List, drop, false, replicate, slice_set, take};
 ghost use Rattle.std.specs.Borrow.{ftrue};
 
 use std::marker::{Model, Send, Sync};
@@ -34,11 +34,11 @@ impl Marks {
         Marks {}
     }
 
-    /// Returns the marks once `len` slots from the place `from` on are full.
+    /// Returns the marks once `len` slots from the place `from` on are full, or empty.
     #[inline]
-    pub(crate) fn filled(&self, from: usize, len: usize) -> Marks
+    pub(crate) fn marked(&self, from: usize, len: usize, full: bool) -> Marks
         ensures { result.full ≡ take from self.now.full
-            ++ (replicate len true ++ drop (from + len) self.now.full) }
+            ++ (replicate len full ++ drop (from + len) self.now.full) }
     {
         Marks {}
     }

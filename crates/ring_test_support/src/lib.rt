@@ -1,8 +1,10 @@
 //! What the tests of several crates share. No library stands on it.
 #![tactic(auto)]
 
+mod calls;
 pub mod commands;
 pub mod counted;
 pub mod drought;
+pub mod kinds;
 pub mod rings;
 pub mod steps;

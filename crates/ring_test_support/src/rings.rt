@@ -1,71 +1,104 @@
-//! A test on a ring of each type: a generic function, and one call of a macro.
+//! A test on a ring of each type, by one call of a macro.
+//!
+//! A test of plain items is a method that has its body in a trait, which the ring types implement: a call of it is proved
+//! in half a second, and one of a function that is generic over the ring in three to ten. Such functions test rings of
+//! items that live for a time, since a trait with a lifetime may give no bodies.
 
-/// Calls a generic function on a new array ring of this capacity: with the runtime, the ring and these arguments.
+/// Makes a ring for a macro of this module.
+#[macro_export]
+macro_rules! new_ring {
+    (array, $rt:expr, $capacity:literal) => {
+        ringbuffer::ConstGenericRingBuffer::<_, $capacity>::new()
+    };
+    (heap, $rt:expr, $capacity:literal) => {
+        ringbuffer::AllocRingBuffer::new($rt.alloc(), $capacity).expect($rt, "memory")
+    };
+    (growable, $rt:expr, $room:literal) => {
+        ringbuffer::GrowableAllocRingBuffer::with_capacity($rt.alloc(), $room).expect($rt, "memory")
+    };
+}
+
+/// Calls a method on a new array ring of this capacity: with the runtime and these arguments.
 #[macro_export]
 macro_rules! on_array {
     ($rt:expr, $capacity:literal, $test:ident $(, $argument:expr)*) => {
-        $test($rt, ringbuffer::ConstGenericRingBuffer::<_, $capacity>::new() $(, $argument)*);
+        $crate::new_ring!(array, $rt, $capacity).$test($rt $(, $argument)*);
     };
 }
 
-/// Calls a generic function on a new heap ring of this capacity.
+/// Calls a method on a new heap ring of this capacity.
 #[macro_export]
 macro_rules! on_heap {
     ($rt:expr, $capacity:literal, $test:ident $(, $argument:expr)*) => {
-        let made = ringbuffer::AllocRingBuffer::new($rt.alloc(), $capacity);
-        $test($rt, made.expect($rt, "memory") $(, $argument)*);
+        $crate::new_ring!(heap, $rt, $capacity).$test($rt $(, $argument)*);
     };
 }
 
-/// Calls a generic function on a new growable ring with this room.
+/// Calls a method on a new growable ring with this room.
 #[macro_export]
 macro_rules! on_growable {
     ($rt:expr, $room:literal, $test:ident $(, $argument:expr)*) => {
-        let made = ringbuffer::GrowableAllocRingBuffer::with_capacity($rt.alloc(), $room);
-        $test($rt, made.expect($rt, "memory") $(, $argument)*);
+        $crate::new_ring!(growable, $rt, $room).$test($rt $(, $argument)*);
     };
 }
 
-/// Calls a generic function on a new ring of plain items of this capacity.
+/// Calls a method on a new ring of plain items of this capacity.
 #[macro_export]
 macro_rules! on_copies {
     ($rt:expr, $capacity:literal, $test:ident $(, $argument:expr)*) => {
-        $test($rt, ringbuffer::CopyRingBuffer::<_, $capacity>::default() $(, $argument)*);
+        ringbuffer::CopyRingBuffer::<_, $capacity>::default().$test($rt $(, $argument)*);
     };
 }
 
-/// Calls a generic function on a new ring of each type that has a limit and takes any items.
+/// Calls a method on a new ring of each type that has a limit.
 #[macro_export]
-macro_rules! on_fixed_of_any {
+macro_rules! on_fixed {
     ($rt:expr, $capacity:literal, $test:ident $(, $argument:expr)*) => {
         $crate::on_array!($rt, $capacity, $test $(, $argument)*);
         $crate::on_heap!($rt, $capacity, $test $(, $argument)*);
+        $crate::on_copies!($rt, $capacity, $test $(, $argument)*);
     };
 }
 
-/// Calls a generic function on a new ring of each type that takes any items.
+/// Calls a method on a new ring of each type.
 #[macro_export]
-macro_rules! on_each_of_any {
+macro_rules! on_each {
     ($rt:expr, $capacity:literal, $test:ident $(, $argument:expr)*) => {
-        $crate::on_fixed_of_any!($rt, $capacity, $test $(, $argument)*);
+        $crate::on_fixed!($rt, $capacity, $test $(, $argument)*);
         $crate::on_growable!($rt, $capacity, $test $(, $argument)*);
     };
 }
 
-/// Calls a generic function on a new ring of each type that has a limit. The items are plain, and have a default.
+/// Calls a function on a new heap ring of any items: with the runtime, the ring and these arguments.
 #[macro_export]
-macro_rules! on_fixed {
+macro_rules! on_heap_of_any {
     ($rt:expr, $capacity:literal, $test:ident $(, $argument:expr)*) => {
-        $crate::on_fixed_of_any!($rt, $capacity, $test $(, $argument)*);
-        $crate::on_copies!($rt, $capacity, $test $(, $argument)*);
+        $test($rt, $crate::new_ring!(heap, $rt, $capacity) $(, $argument)*);
     };
 }
 
-/// Calls a generic function on a new ring of each type. The items are plain, and have a default.
+/// Calls a function on a new growable ring of any items.
 #[macro_export]
-macro_rules! on_each {
+macro_rules! on_growable_of_any {
+    ($rt:expr, $room:literal, $test:ident $(, $argument:expr)*) => {
+        $test($rt, $crate::new_ring!(growable, $rt, $room) $(, $argument)*);
+    };
+}
+
+/// Calls a function on a new ring of each type that has a limit and takes any items.
+#[macro_export]
+macro_rules! on_fixed_of_any {
     ($rt:expr, $capacity:literal, $test:ident $(, $argument:expr)*) => {
-        $crate::on_each_of_any!($rt, $capacity, $test $(, $argument)*);
-        $crate::on_copies!($rt, $capacity, $test $(, $argument)*);
+        $test($rt, $crate::new_ring!(array, $rt, $capacity) $(, $argument)*);
+        $crate::on_heap_of_any!($rt, $capacity, $test $(, $argument)*);
+    };
+}
+
+/// Calls a function on a new ring of each type that takes any items.
+#[macro_export]
+macro_rules! on_each_of_any {
+    ($rt:expr, $capacity:literal, $test:ident $(, $argument:expr)*) => {
+        $crate::on_fixed_of_any!($rt, $capacity, $test $(, $argument)*);
+        $crate::on_growable_of_any!($rt, $capacity, $test $(, $argument)*);
     };
 }

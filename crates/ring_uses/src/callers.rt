@@ -1,7 +1,6 @@
 //! Generic code over `RingBuffer<T>`, proved from the trait's contract alone.
 
-ghost use Rattle.std.specs.Prelude.{◌≡◌, ◌+◌, ◌%◌, ◌<◌, ◌≤◌, ◌^◌, [], ◌∷◌, ◌++◌, All, IfErr, IfOk, IfSome, IsNone, IsOk, IsSome, List, OnOk, Some, drop, length, map, reverse, slice_get, slice_set, sum};
-ghost use Rattle.std.specs.List.{Any};
+ghost use Rattle.std.specs.Prelude.{◌≡◌, ◌+◌, ◌%◌, ◌<◌, ◌^◌, [], ◌∷◌, ◌++◌, IfErr, IfOk, IfSome, IsOk, IsSome, List, OnOk, Some, drop, length, map, reverse, slice_get, slice_set, sum};
 ghost use Rattle.ringbuffer.specs.Contents.{ChangesSlots, keep_last};
 ghost use Rattle.ringbuffer.specs.Extension.{MovesPart};
 
@@ -108,87 +107,6 @@ pub fn increment_each<R: RingBuffer<u32>>(ring: &mut R)
     }
 }
 
-/// Returns the least item and the greatest, or `None` if the ring is empty: two walks with a branch between them.
-pub fn range<R: RingBuffer<u32>>(ring: &R) -> Option<(u32, u32)>
-    ensures none { IsNone result → R.contents ring.now ≡ [] }
-    ensures least { IfSome result (λ r. Any (λ x. x ≡ r.0) (R.contents ring.now)) }
-    ensures greatest { IfSome result (λ r. Any (λ x. x ≡ r.1) (R.contents ring.now)) }
-    ensures between { IfSome result (λ r. All (λ x. (r.0 ≤ x) × (x ≤ r.1)) (R.contents ring.now)) }
-{
-    let least = RingBufferIterator::new(ring).copied().min()?;
-    let greatest = RingBufferIterator::new(ring).copied().max()?;
-    Some((least, greatest))
-}
-
-/// Returns the least and the greatest item of an array ring that is lent for writing.
-pub fn range_in_array(ring: &mut ConstGenericRingBuffer<u32, 4>) -> Option<(u32, u32)>
-    ensures ring { ring.new ≡ ring.old }
-    ensures between { IfSome result (λ r. All (λ x. (r.0 ≤ x) × (x ≤ r.1)) ring.old.items) }
-{
-    let least = ring.iter().copied().min()?;
-    let greatest = ring.iter().copied().max()?;
-    Some((least, greatest))
-}
-
-/// Returns the least and the greatest item of a heap ring that is lent for writing.
-pub fn range_on_heap(ring: &mut AllocRingBuffer<u32>) -> Option<(u32, u32)>
-    ensures ring { ring.new ≡ ring.old }
-    ensures between { IfSome result (λ r. All (λ x. (r.0 ≤ x) × (x ≤ r.1)) ring.old.items) }
-{
-    let least = ring.iter().copied().min()?;
-    let greatest = ring.iter().copied().max()?;
-    Some((least, greatest))
-}
-
-/// Returns the least and the greatest item of a growable ring that is lent for writing.
-pub fn range_in_growable(ring: &mut GrowableAllocRingBuffer<u32>) -> Option<(u32, u32)>
-    ensures ring { ring.new ≡ ring.old }
-    ensures between { IfSome result (λ r. All (λ x. (r.0 ≤ x) × (x ≤ r.1)) ring.old) }
-{
-    let least = ring.iter().copied().min()?;
-    let greatest = ring.iter().copied().max()?;
-    Some((least, greatest))
-}
-
-/// Returns the least and the greatest of the last two of three numbers, by a local array ring.
-pub fn range_in_local_array(x: u32, y: u32, z: u32) -> Option<(u32, u32)>
-    ensures { IsSome result }
-{
-    let mut ring = ConstGenericRingBuffer::<u32, 2>::new();
-    let _ = ring.push(x);
-    let _ = ring.push(y);
-    let _ = ring.push(z);
-    let least = ring.iter().copied().min()?;
-    let greatest = ring.iter().copied().max()?;
-    Some((least, greatest))
-}
-
-/// Returns the lesser and the greater of two numbers, by a local heap ring.
-pub fn range_in_local_heap(alloc: Global, x: u32, y: u32) -> Result<Option<(u32, u32)>, AllocError>
-    ensures { IfOk result (λ range. IsSome range) }
-{
-    let mut ring = AllocRingBuffer::new(alloc, 2)?;
-    let _ = ring.push(x);
-    let _ = ring.push(y);
-    let Some(least) = ring.iter().copied().min() else {
-        return Ok(None);
-    };
-    let Some(greatest) = ring.iter().copied().max() else {
-        return Ok(None);
-    };
-    Ok(Some((least, greatest)))
-}
-
-/// Returns the lesser and the greater of two numbers, by a local growable ring, or `None` if it was refused memory.
-pub fn range_in_local_growable(alloc: Global, x: u32, y: u32) -> Option<(u32, u32)> {
-    let mut ring = GrowableAllocRingBuffer::new(alloc);
-    ring.push(x).ok()?;
-    ring.push(y).ok()?;
-    let least = ring.iter().copied().min()?;
-    let greatest = ring.iter().copied().max()?;
-    Some((least, greatest))
-}
-
 /// Replaces the oldest item, twice, and takes out the two oldest: four walks, with a branch after each.
 pub fn replace_and_take_two<R: RingBuffer<u32>>(ring: &mut R, x: u32, y: u32) -> Option<(u32, u32)>
     ensures contents { R.contents ring.new ≡ drop 2 (R.contents ring.old) }
@@ -291,44 +209,4 @@ pub fn extend_by_drain<T: Drop, A: RingBuffer<T>, B: RingBuffer<T>>(
     ensures succeeds { IsSome (A.limit to.old) → IsOk result }
 {
     to.extend(RingBufferDrainingIterator::new(from))
-}
-
-/// Copies the bytes of a heap ring, a slice at a time.
-pub fn bytes_on_heap(alloc: Global, ring: &AllocRingBuffer<u8>) -> Result<Vec<u8>, AllocError>
-    ensures { IfOk result (λ bytes. bytes.items ≡ ring.now.items) }
-{
-    let (first, second) = ring.as_slices();
-    let mut bytes = Vec::with_capacity(alloc, ring.len())?;
-    bytes.extend_from_slice(first)?;
-    bytes.extend_from_slice(second)?;
-    Ok(bytes)
-}
-
-/// Copies the bytes of a growable ring, a slice at a time.
-pub fn bytes_in_growable(
-    alloc: Global,
-    ring: &GrowableAllocRingBuffer<u8>,
-) -> Result<Vec<u8>, AllocError>
-    ensures { IfOk result (λ bytes. bytes.items ≡ ring.now) }
-{
-    let (first, second) = ring.as_slices();
-    let mut bytes = Vec::with_capacity(alloc, ring.len())?;
-    bytes.extend_from_slice(first)?;
-    bytes.extend_from_slice(second)?;
-    Ok(bytes)
-}
-
-/// Turns the items of a growable ring round.
-pub fn turn_round(ring: &mut GrowableAllocRingBuffer<u32>)
-    ensures { ring.new ≡ reverse ring.old }
-{
-    ring.make_contiguous().reverse();
-}
-
-/// Turns the items of a heap ring round.
-pub fn turn_round_on_heap(ring: &mut AllocRingBuffer<u32>)
-    ensures items { ring.new.items ≡ reverse ring.old.items }
-    ensures capacity { ring.new.capacity ≡ ring.old.capacity }
-{
-    ring.make_contiguous().reverse();
 }

@@ -1,11 +1,11 @@
 //! Callers that keep some items of a ring, or look for one among items that rise.
 
-ghost use Rattle.std.specs.Prelude.{◌≡◌, ℕ, ◌<◌, ◌≤◌, IfErr, IfOk, IfSome, IsOk, IsSome, OnOk, filter, length, nat_le, slice_index};
+ghost use Rattle.std.specs.Prelude.{◌≡◌, ℕ, ◌<◌, ◌≤◌, IfErr, IfOk, IfSome, IsOk, IsSome, OnOk, false, filter, length, nat_le, nat_lt, slice_get, slice_index};
 ghost use Rattle.std.specs.List.Sorted.{IsNonDecreasing};
 
 use ringbuffer::{
     AllocRingBuffer, ConstGenericRingBuffer, GrowableAllocRingBuffer, RingBuffer, RingBufferExt,
-    binary_search, partition_point, retain,
+    binary_search, dequeue_while, partition_point, retain,
 };
 
 /// Drops the readings above a limit.
@@ -16,6 +16,13 @@ pub fn drop_above<R: RingBuffer<u32>>(readings: &mut R, limit: u32) -> Result<()
     ensures limit { R.limit readings.new ≡ R.limit readings.old }
 {
     retain(readings, |reading| *reading <= limit)
+}
+
+/// Drops the oldest times up to the first that isn't before a time, which is then the oldest.
+pub fn drop_before<R: RingBuffer<u64>>(times: &mut R, time: u64)
+    ensures { IfSome (slice_get (R.contents times.new) 0) (λ first. nat_lt first time ≡ false) }
+{
+    dequeue_while(times, |t| *t < time);
 }
 
 /// Finds a time among times that rise, or the index at which it would have to be inserted.

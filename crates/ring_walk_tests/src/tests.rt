@@ -1,11 +1,13 @@
 //! Tests of walks, lists and comparison by public calls.
 //!
-//! A test is a function that is generic over the ring. A macro of `ring_test_support` calls it on a new ring of each type.
+//! A test is a list of calls with their answers, or a method of a trait that the ring types implement, which a macro of
+//! `ring_test_support` calls on a new ring of each type.
 
 mod comparison;
 mod ranges;
 mod walks;
 
+use ring_test_support::kinds::{Calls, EACH, first_fault_on};
 use ring_test_support::steps::{Step, first_fault};
 use ringbuffer::{DoubleEndedRing, RingBuffer};
 use std::fmt::Debug;
@@ -22,9 +24,10 @@ fn assert_steps<R: DoubleEndedRing<i64>>(rt: &impl Abort, ring: &mut R, steps: &
     assert_equal(rt, first_fault(ring, steps), None);
 }
 
-/// Asserts that each of the calls of a list answers what its step says.
-fn answers<R: DoubleEndedRing<i64> + Drop>(rt: &impl Abort, mut ring: R, steps: &[Step]) {
-    assert_steps(rt, &mut ring, steps);
+/// Does the calls of a list on a new ring of each type, with this capacity. Each answers what its step says.
+fn answers(rt: &(impl Abort + AllocGlobal), capacity: usize, steps: &[Step]) {
+    let fault = first_fault_on(rt.alloc(), EACH, capacity, Calls::Steps(steps));
+    assert_equal(rt, fault, None);
 }
 
 /// Pushes the items in order. None is refused.

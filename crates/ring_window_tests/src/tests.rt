@@ -1,6 +1,7 @@
 //! Windows over each type of ring.
 
 mod counted;
+mod floats;
 mod refused;
 mod timed;
 

@@ -1,6 +1,6 @@
 -- What the proofs are written in: the words and lemmas of lists, options and numbers that several of them use, and the
 -- rings' own.
-pub use Rattle.ring_core.proofs.Drained.{YieldsList-unpacked, shown_drained}
+pub use Rattle.ring_core.proofs.SourceEnds.{YieldsList-unpacked, shown_drained}
 pub use Rattle.ring_core.proofs.Items.{AllZip-join, drop-append, slice_get-drop, slice_get-take, take-suc_get}
 pub use Rattle.ring_core.proofs.Limits.{keep_last-keep_last}
 pub use Rattle.ring_core.specs.Contents.{index_at, keep_last, signed_index_at}

@@ -1,23 +1,22 @@
-//! The items of a ring on the heap as slices.
+//! The items of a ring moved side by side, and lent as one slice.
 ghost use Rattle.std.specs.Prelude.{◌≡◌, ◌+◌, ◌*◌, ◌<◌, ◌≤◌, length};
 ghost use Rattle.std.specs.Borrow.{Array, Lends, sem};
 
 use crate::fixed::{FixedRing, Span};
-use ring_slots::{HeapSlots, RingSlots};
+use ring_slots::LendsRows;
 
-impl<T: Drop> FixedRing<T, HeapSlots<T>> {
+impl<T: Drop, S: LendsRows<T>> FixedRing<T, S> {
     ghost use Rattle.ringbuffer.specs.Layout.{IsLaidOut, view_from};
     ghost use Rattle.ringbuffer.specs.contiguous.Straight.{beside, straight_start};
     ghost use Rattle.ringbuffer.specs.View.{after_rewrite, turned};
     ghost use Rattle.ringbuffer.specs.contracts.fixed.FixedRing.{the_row};
-    ghost use Rattle.ring_slots.specs.contracts.heap.HeapSlots.{the_row as heap_row};
 
-    /// Lends the items in one slice, oldest first, for writing. Where some go on at the beginning of the block, they
-    /// are moved first, without memory, in O(n). This counts as four changes an item, moved or not.
+    /// Lends the items in one slice, oldest first, for writing. Where some go on at the first slot, they are moved first,
+    /// without memory, in O(n). This counts as four changes an item, moved or not.
     pub fn make_contiguous(&mut self) -> &mut [T]
         ensures* writes_back { sem 𝓛
-            (Lends (the_row T.row (heap_row T.row) ⟦<HeapSlots<T> as RingSlots<T>>⟧) (Array T.row 0)
-            self.entry result (after_rewrite self.old)) }
+            (Lends (the_row T.row S.row S.RingSlots) (Array T.row 0) self.entry result
+            (after_rewrite self.old)) }
         ensures value { result.now ≡ self.old.items }
     {
         let span = self.span;
@@ -35,14 +34,14 @@ impl<T: Drop> FixedRing<T, HeapSlots<T>> {
 
     // Moves the items side by side, where they go on at the first slot. Returns their next start. Where the free slots are
     // at least as many as the items in the last slots, each item moves once.
-    fn straighten(slots: &mut HeapSlots<T>, span: Span) -> usize
-        requires laid_out { IsLaidOut slots.old span.start }
-        requires len { span.len ≡ length (view_from slots.old span.start).items }
-        ensures start { result ≡ straight_start (length slots.old.slots) span.start span.len }
-        ensures straight { slots.new.slots
-            ≡ beside (length slots.old.slots) result (view_from slots.old span.start).items }
-        ensures counted { slots.new.changes ≤ slots.old.changes + 3 * span.len }
-        ensures capacity { slots.new.capacity ≡ slots.old.capacity }
+    fn straighten(slots: &mut S, span: Span) -> usize
+        requires laid_out { IsLaidOut (S.seen slots.old) span.start }
+        requires len { span.len ≡ length (view_from (S.seen slots.old) span.start).items }
+        ensures start { result ≡ straight_start (length (S.seen slots.old).slots) span.start span.len }
+        ensures straight { (S.seen slots.new).slots
+            ≡ beside (length (S.seen slots.old).slots) result (view_from (S.seen slots.old) span.start).items }
+        ensures counted { (S.seen slots.new).changes ≤ (S.seen slots.old).changes + 3 * span.len }
+        ensures capacity { (S.seen slots.new).capacity ≡ (S.seen slots.old).capacity }
     {
         let first = slots.size() - span.start;
         if first < span.len && span.len <= span.start {
@@ -59,15 +58,15 @@ impl<T: Drop> FixedRing<T, HeapSlots<T>> {
 
     // Moves the items from the front that lie in the last slots down behind the last item, so that all lie side by side.
     // Returns how many it moved, and the next start.
-    fn gather(slots: &mut HeapSlots<T>, span: Span) -> (usize, usize)
-        requires laid_out { IsLaidOut slots.old span.start }
-        requires len { span.len ≡ length (view_from slots.old span.start).items }
-        ensures start { result.1 ≡ straight_start (length slots.old.slots) span.start span.len }
+    fn gather(slots: &mut S, span: Span) -> (usize, usize)
+        requires laid_out { IsLaidOut (S.seen slots.old) span.start }
+        requires len { span.len ≡ length (view_from (S.seen slots.old) span.start).items }
+        ensures start { result.1 ≡ straight_start (length (S.seen slots.old).slots) span.start span.len }
         ensures moved { result.0 ≤ span.len }
-        ensures straight { slots.new.slots ≡ beside (length slots.old.slots) result.1
-            (turned result.0 (view_from slots.old span.start).items) }
-        ensures counted { slots.new.changes ≡ slots.old.changes + 2 * result.0 }
-        ensures capacity { slots.new.capacity ≡ slots.old.capacity }
+        ensures straight { (S.seen slots.new).slots ≡ beside (length (S.seen slots.old).slots) result.1
+            (turned result.0 (view_from (S.seen slots.old) span.start).items) }
+        ensures counted { (S.seen slots.new).changes ≡ (S.seen slots.old).changes + 2 * result.0 }
+        ensures capacity { (S.seen slots.new).capacity ≡ (S.seen slots.old).capacity }
     {
         let first = slots.size() - span.start;
         if span.len <= first {

@@ -1,16 +1,11 @@
 //! The ring of a fixed capacity: items that lie in slots, counted round from a start.
-ghost use Rattle.std.specs.Prelude.{◌≡◌, ◌<◌, ◌≤◌, ◌↔◌, ◌++◌, IfOk, IfSome, IsOk, [], length, None, Some, refl, replicate, slice_get};
+ghost use Rattle.std.specs.Prelude.{◌≡◌, ◌<◌, ◌↔◌, ◌++◌, IfOk, IfSome, [], length, None, Some, replicate, slice_get};
 ghost use Rattle.std.specs.Borrow.{Lends, sem};
 ghost use Rattle.std.specs.List.{AllZip, list_any};
-ghost use Rattle.ring_core.specs.Contents.{overwritten, IsWithin, Pushes, index_at};
-ghost use Rattle.ring_core.proofs.Limits.{counts_one};
-ghost use Rattle.ringbuffer.specs.View.{View, after_push, after_write};
+ghost use Rattle.ring_core.specs.Contents.{index_at};
+ghost use Rattle.ringbuffer.specs.View.{View, after_write};
 ghost use Rattle.ringbuffer.specs.Layout.{IsSound, view_from};
 
-use crate::by_stretch::FEW;
-use crate::position::{index_at, signed_index_at};
-use crate::two_slices::{clone_slices, clone_slices_into};
-use core::mem::replace_with;
 use ring_core::RingBuffer;
 use ring_slots::RingSlots;
 use std::alloc::{AllocError, Global};
@@ -110,7 +105,7 @@ impl<T: Drop, S: RingSlots<T>> FixedRing<T, S> {
     }
 
     // Returns whether an item equals `x`, read one by one.
-    fn holds(&self, x: &T) -> bool
+    pub(crate) fn holds(&self, x: &T) -> bool
     where
         T: PartialEq,
         ensures { result ≡ list_any (λ y. T.eq y x.now) self.now.items }
@@ -125,7 +120,7 @@ impl<T: Drop, S: RingSlots<T>> FixedRing<T, S> {
     }
 
     // Returns clones of the items, read one by one.
-    fn clone_items(&self, alloc: Global) -> Result<Vec<T>, AllocError>
+    pub(crate) fn clone_items(&self, alloc: Global) -> Result<Vec<T>, AllocError>
     where
         T: Clone,
         ensures { IfOk result (λ clones. AllZip T.is_clone self.now.items clones.items) }
@@ -157,189 +152,6 @@ impl<T: Drop, S: RingSlots<T>> FixedRing<T, S> {
     {
         let place = self.slots.place(self.span.start, index);
         self.slots.get_mut(place)
-    }
-}
-
-impl<T: Drop, S: RingSlots<T>> RingBuffer<T> for FixedRing<T, S> {
-    ghost contents = { λ r. r.items };
-
-    ghost limit = { λ r. Some (S.limit r.capacity) };
-
-    ghost with_item = { after_write };
-
-    ghost slot_changes = { λ r. r.changes };
-
-    ghost sets_item = { λ _ _ _. refl };
-
-    ghost keeps_limit = { λ _ _ _. refl };
-
-    ghost counts_write = { λ s _ _ _. counts_one s.changes };
-
-    #[inline]
-    fn len(&self) -> usize {
-        self.span.len
-    }
-
-    #[inline]
-    fn capacity(&self) -> usize {
-        self.slots.limit()
-    }
-
-    #[inline]
-    fn buffer_size(&self) -> usize
-        ensures size { S.is_size self.now.capacity result }
-        ensures room { S.limit self.now.capacity ≤ result }
-        ensures holds { length self.now.items ≤ result }
-    {
-        self.slots.size()
-    }
-
-    #[inline]
-    fn push(&mut self, item: T) -> Result<Option<T>, T>
-        ensures pushed { Pushes (λ (r : View _). Some (S.limit r.capacity)) (λ r. r.items) (λ r. r.changes) self.old self.new item result }
-        ensures overwrites { IfOk result
-            (λ old. old ≡ overwritten (Some (S.limit self.old.capacity)) self.old.items) }
-        ensures pushes { self.new ≡ after_push (S.limit self.old.capacity) self.old item }
-        ensures within { IsWithin self.old.items (Some (S.limit self.old.capacity)) }
-        ensures ok { IsOk result }
-
-        // The count that the trait shows is the count of the slots themselves.
-        ensures counts { ⟦<FixedRing<T, S> as RingBuffer<T>>⟧.slot_changes self.new
-            ≡ self.new.changes }
-    {
-        let capacity = self.slots.limit();
-        let before = self.span;
-        let (after, old) = Self::push_from(&mut self.slots, before, item, capacity);
-        self.span.start = after.start;
-        // A full ring keeps its length, and has one store less to make.
-        if after.len != before.len {
-            self.span.len = after.len;
-        } else if S::goes_by_value() {
-            keep_in_register(before.len, self.span.len);
-        }
-        Ok(old)
-    }
-
-    fn extend<I: IntoIterator<Item = T>>(&mut self, items: I) -> Result<(), AllocError>
-    where
-        I::IntoIter: Drop,
-    {
-        if S::goes_by_value() {
-            replace_with(self, items, Self::extend_by_stretch);
-        } else if S::goes_by_stretch() {
-            self.extend_in_place(items);
-        } else {
-            self.extend_one_by_one(items);
-        }
-        Ok(())
-    }
-
-    fn extend_from_slice(&mut self, items: &[T]) -> Result<(), AllocError>
-    where
-        T: Clone,
-    {
-        if S::goes_by_value() {
-            replace_with(self, items, Self::extend_by_clones_owned)
-        } else {
-            self.extend_by_clones(items)
-        }
-    }
-
-    #[inline]
-    fn dequeue(&mut self) -> Option<T> {
-        self.take_first()
-    }
-
-    fn clear(&mut self) {
-        Self::empty_slots(&mut self.slots, self.span);
-        self.span = Span { start: 0, len: 0 };
-    }
-
-    fn fill_with<F: FnMut() -> T + Drop>(&mut self, make: F) -> Result<(), AllocError> {
-        if S::goes_by_value() {
-            replace_with(self, make, Self::fill_by_calls_owned);
-        } else {
-            self.fill_by_calls(make);
-        }
-        Ok(())
-    }
-
-    fn fill(&mut self, value: T) -> Result<(), AllocError>
-    where
-        T: Clone,
-    {
-        if S::goes_by_value() {
-            replace_with(self, value, Self::fill_by_clones_owned)
-        } else {
-            self.fill_by_clones(value)
-        }
-    }
-
-    fn to_vec(&self, alloc: Global) -> Result<Vec<T>, AllocError>
-    where
-        T: Clone,
-    {
-        match self.rows() {
-            Some(rows) => clone_slices(rows, alloc),
-            None => self.clone_items(alloc),
-        }
-    }
-
-    fn copy_to_slice(&self, output: &mut [T]) -> Result<usize, AllocError>
-    where
-        T: Clone,
-    {
-        match self.rows() {
-            Some(rows) => clone_slices_into(rows, output),
-            None => self.clone_each_into(output),
-        }
-    }
-
-    fn contains(&self, x: &T) -> bool
-    where
-        T: PartialEq,
-    {
-        match self.rows() {
-            Some((first, second)) => first.contains(x) || second.contains(x),
-            None if self.span.len > FEW => self.holds_by_stretch(x),
-            None => self.holds(x),
-        }
-    }
-
-    #[inline]
-    fn get(&self, index: usize) -> Option<&T> {
-        let index = index_at(index, self.len())?;
-        Some(self.at(index))
-    }
-
-    #[inline]
-    fn get_signed(&self, index: isize) -> Option<&T> {
-        let index = signed_index_at(index, self.len())?;
-        Some(self.at(index))
-    }
-
-    #[inline]
-    fn get_mut(&mut self, index: usize) -> Option<&mut T> {
-        let index = index_at(index, self.len())?;
-        Some(self.at_mut(index))
-    }
-
-    #[inline]
-    fn get_mut_signed(&mut self, index: isize) -> Option<&mut T> {
-        let index = signed_index_at(index, self.len())?;
-        Some(self.at_mut(index))
-    }
-}
-
-// Compares a number with the one in memory, which is the same, so the branch is never taken. It is there for the
-// compiler, which can't tell an item's slot from the ring's own fields: a number that is compared again stays in a
-// register in a loop of pushes.
-#[inline]
-fn keep_in_register(number: usize, stored: usize)
-    requires { stored ≡ number }
-{
-    if stored != number {
-        None.unwrap()
     }
 }
 

@@ -2,7 +2,6 @@
 //! `RingBuffer` and `DoubleEndedRing`.
 #![tactic(auto)]
 
-mod any_ring;
 mod array;
 mod by_stretch;
 mod bytes;
@@ -12,19 +11,24 @@ mod compare;
 mod contiguous;
 mod ends;
 mod extend;
+mod extend_copies;
 mod fill;
 mod fixed;
 mod grow;
 mod heap;
 mod index;
+mod iter;
 mod plain;
 mod position;
+mod pushes;
+mod ring;
+mod rotate;
 mod slices;
 mod steps;
 mod two_slices;
-mod walks;
 
 pub use array::ConstGenericRingBuffer;
+pub use extend_copies::TakesCopies;
 pub use fixed::FixedRing;
 pub use grow::GrowableAllocRingBuffer;
 pub use heap::AllocRingBuffer;
@@ -35,4 +39,5 @@ pub use ring_core::{
     RingBufferMutIterator, RunFault, Stopped, apply, binary_search, dequeue_while, map_each,
     move_all, partition_point, retain, run, run_into, runs_join,
 };
-pub use slices::{ShowsRows, TakesCopies};
+pub use ring_slots::LendsRows;
+pub use slices::ShowsRows;

@@ -1,11 +1,8 @@
 -- What the laws give of `combined`, and how a window's folds change.
-use Rattle.std.proofs.Common.{◌≡◌, ℕ, zero, suc, ◌+◌, ◌-◌, List, [], ◌∷◌, ◌++◌, length, take, drop, All, Option, None, Some, option_to_list, refl, ap, sym, ◌∙◌, arith, length-append, slice_get, slice_set}
-use Rattle.std.proofs.lemmas.List.{length-map, map-append, take-append-drop, take-append-le, drop-append-le, drop-map}
+use Rattle.std.proofs.Common.{◌≡◌, ℕ, suc, ◌+◌, List, [], ◌∷◌, ◌++◌, take, drop, All, Option, None, Some, option_to_list, ap, sym, ◌∙◌, arith, length-append}
+use Rattle.std.proofs.lemmas.List.{map-append, take-append-drop, take-append-le, drop-append-le, drop-map}
 use Rattle.std.proofs.lemmas.List.Elements.{All-cons, All-drop, All-head, All-nil, All-push, All-tail, All-take}
 use Rattle.std.specs.List.{take-map}
-use Rattle.std.specs.Option.{option_map}
-use Rattle.ringbuffer.specs.Contents.{keep_last, overwritten}
-use Rattle.ringbuffer.proofs.Limits.{map-keep_last}
 use Rattle.window.specs.Laws.{MonoidLaws, combined}
 use Rattle.window.specs.Folds.{HoldsFolds, Removes, items, item_of}
 use Rattle.window.specs.declared.fold_window.Kept.{Kept}
@@ -70,29 +67,3 @@ module _ {M : Type 0} {valid : M → Type 0} {neutral : M} {op : M → M → M} 
       → HoldsFolds valid neutral op (option_to_list old ++ ks) n older newer → Removes old n older m older' → HoldsFolds valid neutral op ks m older' newer
   left_by None ks is goes = rw (goes.0, goes.1) is
   left_by (Some k) ks is goes = rw goes.1 (one_fewer is goes.0)
-
--- By induction: what is written beside an item changes no item.
-pub items-set : {M : Type 0} (ks : List (Kept M)) (i : ℕ) (k : Kept M) (v : M) → slice_get ks i ≡ Some k → items (slice_set ks i (record k { after = v })) ≡ items ks
-items-set [] i k v at = refl
-items-set (j ∷ ks) zero k v at = let same : j ≡ k = let is : Some j ≡ Some k = at in cc in rw same refl
-items-set (j ∷ ks) (suc i) k v at = ap (λ xs. j.item ∷ xs) (items-set ks i k v at)
-
--- By induction: from that item on.
-pub drop_written : {M : Type 0} (ks : List (Kept M)) (i : ℕ) (k : Kept M) (v : M) → slice_get ks i ≡ Some k → drop i (slice_set ks i (record k { after = v })) ≡ record k { after = v } ∷ drop (suc i) ks
-drop_written [] i k v at = absurd (let none : None ≡ Some k = at in cc)
-drop_written (j ∷ ks) zero k v at = refl
-drop_written (j ∷ ks) (suc i) k v at = drop_written ks i k v at
-
--- What a limit leaves holds the items that it leaves.
-pub items-keep_last : {M : Type 0} (limit : Option ℕ) (ks : List (Kept M)) (k : Kept M) → items (keep_last limit (ks ++ k ∷ [])) ≡ keep_last limit (items ks ++ k.item ∷ [])
-items-keep_last None ks k = map-append item_of ks (k ∷ [])
-items-keep_last (Some n) ks k = map-keep_last item_of n (ks ++ k ∷ []) ∙ ap (keep_last (Some n)) (map-append item_of ks (k ∷ []))
-
--- What a push overwrites holds the item that it overwrites.
-pub items-overwritten : {M : Type 0} (limit : Option ℕ) (ks : List (Kept M)) → option_map item_of (overwritten limit ks) ≡ overwritten limit (items ks)
-items-overwritten None ks = refl
-items-overwritten (Some n) ks = rw length-map (first (length ks + 1 - n) ks) where
-  first : {M : Type 0} (m : ℕ) (ks : List (Kept M)) → option_map item_of (slice_get (take m ks) 0) ≡ slice_get (take m (items ks)) 0
-  first zero ks = refl
-  first (suc m) [] = refl
-  first (suc m) (k ∷ ks) = refl

@@ -1,4 +1,6 @@
 pub mod Combined
+pub mod FloatSums
+pub mod Mapped
 pub mod MonotonicQueues
 pub mod Orders
 pub mod Pushed

@@ -1,5 +1,5 @@
 -- How a queue changes as an item leaves and one comes.
-use Rattle.std.proofs.Common.{◌≡◌, ◌≢◌, ◌⊎◌, ℕ, zero, suc, ◌+◌, ◌-◌, ◌<◌, ◌≤◌, List, [], ◌∷◌, ◌++◌, length, take, drop, All, Option, None, Some, inl, inr, refl, ap, sym, ◌∙◌, add-one, arith, length-append, length-drop, slice_get, slice_set}
+use Rattle.std.proofs.Common.{◌≡◌, ◌≢◌, ◌⊎◌, ℕ, zero, suc, ◌+◌, ◌-◌, ◌<◌, ◌≤◌, List, [], ◌∷◌, ◌++◌, length, take, drop, All, None, Some, inl, inr, refl, ap, sym, ◌∙◌, add-one, arith, length-append, length-drop, slice_get, slice_set}
 use Rattle.std.proofs.lemmas.List.{drop-set-lt, set_comm, length-map, length-set, map-append, drop-append-le, drop-set-add, drop_all, set-append_left, take-append-le, take_all}
 use Rattle.std.proofs.lemmas.List.Elements.{All-cons, All-head, All-nil, All-push, All-tail, All-weaker}
 use Rattle.std.proofs.lemmas.Option.{slice_get_within, slice_get-map}
@@ -7,12 +7,11 @@ use Rattle.std.proofs.Math.Seq.{set-append_seam}
 use Rattle.std.specs.Option.{option_map}
 use Rattle.std.specs.Cmp.{IsTotalOrder}
 use Rattle.std.specs.declared.cmp.Ordering.{Ordering}
-use Rattle.ringbuffer.specs.Contents.{keep_last, overwritten}
-use Rattle.ringbuffer.proofs.Limits.{map-keep_last}
 use Rattle.ringbuffer.proofs.Items.{slice_get-append_left, slice_get-at, slice_get-drop}
 use Rattle.window.specs.MonotonicQueue.{IsPopped, HoldsMonotonicQueue, IsMonotonicQueue, IsRanked, LeadsTo, Reaches, Stops, item_on, items_on, next}
 use Rattle.window.specs.Least.{AtMost, IsBelow, IsFirstLeast, IsLeastFrom}
-use Rattle.window.specs.declared.least_window.Candidate.{Candidate}
+use Rattle.window.specs.declared.monotonic_queue.Candidate.{Candidate}
+use Rattle.window.proofs.Mapped.{drop_written, map-set}
 use Rattle.window.proofs.Pushed.{newest_read}
 use Rattle.window.proofs.Orders.{AtMost-below, AtMost-same, AtMost-trans, IsBelow-trans}
 
@@ -21,12 +20,6 @@ pub All-at : {T : Type 0} (P : T → Type 0) (rs : List (Candidate T)) (i : ℕ)
 All-at P [] i r at all = absurd (let none : None ≡ Some r = at in cc)
 All-at P (q ∷ rs) zero r at all = let same : q ≡ r = let is : Some q ≡ Some r = at in cc in rw same at (All-head P q.item (items_on rs) all)
 All-at P (q ∷ rs) (suc i) r at all = All-at P rs i r at (All-tail P q.item (items_on rs) all)
-
--- By induction: a candidate with the same item changes no item.
-pub items_on-set : {T : Type 0} (rs : List (Candidate T)) (i : ℕ) (r new : Candidate T) → slice_get rs i ≡ Some r → new.item ≡ r.item → items_on (slice_set rs i new) ≡ items_on rs
-items_on-set [] i r new at same = refl
-items_on-set (q ∷ rs) zero r new at same = let is : q ≡ r = let both : Some q ≡ Some r = at in cc in rw (is, same) refl
-items_on-set (q ∷ rs) (suc i) r new at same = ap (λ xs. q.item ∷ xs) (items_on-set rs i r new at same)
 
 -- A written place is read, if it is one.
 pub set_read : {A : Type 0} (xs : List A) (i : ℕ) (x y : A) → slice_get xs i ≡ Some x → slice_get (slice_set xs i y) i ≡ Some y
@@ -42,30 +35,11 @@ set_other (z ∷ xs) zero (suc j) y other = refl
 set_other (z ∷ xs) (suc i) zero y other = refl
 set_other (z ∷ xs) (suc i) (suc j) y other = set_other xs i j y (omega arith)
 
--- From a written place on, the list is what was written and the rest.
-pub drop_from_set : {A : Type 0} (xs : List A) (i : ℕ) (x y : A) → slice_get xs i ≡ Some x → drop i (slice_set xs i y) ≡ y ∷ drop (suc i) xs
-drop_from_set [] i x y at = absurd (let none : None ≡ Some x = at in cc)
-drop_from_set (z ∷ xs) zero x y at = refl
-drop_from_set (z ∷ xs) (suc i) x y at = drop_from_set xs i x y at
-
 -- From a place on, the list is what stands there and the rest.
 pub drop_from : {A : Type 0} (xs : List A) (i : ℕ) (x : A) → slice_get xs i ≡ Some x → drop i xs ≡ x ∷ drop (suc i) xs
 drop_from [] i x at = absurd (let none : None ≡ Some x = at in cc)
 drop_from (z ∷ xs) zero x at = let same : z ≡ x = let both : Some z ≡ Some x = at in cc in rw same refl
 drop_from (z ∷ xs) (suc i) x at = drop_from xs i x at
-
--- What a push hands back and leaves, without what is kept beside the items.
-pub items_on-keep_last : {T : Type 0} (limit : Option ℕ) (rs : List (Candidate T)) (r : Candidate T) → items_on (keep_last limit (rs ++ r ∷ [])) ≡ keep_last limit (items_on rs ++ r.item ∷ [])
-items_on-keep_last None rs r = map-append item_on rs (r ∷ [])
-items_on-keep_last (Some n) rs r = map-keep_last item_on n (rs ++ r ∷ []) ∙ ap (keep_last (Some n)) (map-append item_on rs (r ∷ []))
-
-pub items_on-overwritten : {T : Type 0} (limit : Option ℕ) (rs : List (Candidate T)) → option_map item_on (overwritten limit rs) ≡ overwritten limit (items_on rs)
-items_on-overwritten None rs = refl
-items_on-overwritten (Some n) rs = rw length-map (first (length rs + 1 - n) rs) where
-  first : {T : Type 0} (m : ℕ) (rs : List (Candidate T)) → option_map item_on (slice_get (take m rs) 0) ≡ slice_get (take m (items_on rs)) 0
-  first zero rs = refl
-  first (suc m) [] = refl
-  first (suc m) (r ∷ rs) = refl
 
 -- A written item that is what stood there changes nothing.
 pub set_same : {A : Type 0} (xs : List A) (i : ℕ) (x : A) → slice_get xs i ≡ Some x → slice_set xs i x ≡ xs
@@ -197,7 +171,7 @@ module _ {T : Type 0} {cmp : T → T → Ordering} (o : IsTotalOrder cmp) where
             let set_long : length (slice_set rs d r') ≡ length rs = length-set rs d r' in
             let past : drop (suc d) (slice_set rs d r' ++ n ∷ []) ≡ drop (suc d) rs ++ n ∷ [] =
             drop-append-le (suc d) (slice_set rs d r') (n ∷ []) (omega (arith, within, set_long)) ∙ ap (λ ys. ys ++ n ∷ []) (drop-set-lt (suc d) rs d r' (omega arith)) in
-            let all : items_on (slice_set rs d r' ++ n ∷ []) ≡ items_on rs ++ n.item ∷ [] = map-append item_on (slice_set rs d r') (n ∷ []) ∙ ap (λ ys. ys ++ n.item ∷ []) (items_on-set rs d r r' at refl) in (
+            let all : items_on (slice_set rs d r' ++ n ∷ []) ≡ items_on rs ++ n.item ∷ [] = map-append item_on (slice_set rs d r') (n ∷ []) ∙ ap (λ ys. ys ++ n.item ∷ []) (map-set item_on rs d r r' at refl) in (
               r',
               slice_get-append_left d (slice_set rs d r') (n ∷ []) (omega (arith, within, set_long)) ∙ set_read rs d r r' at,
               behind,
@@ -224,7 +198,7 @@ module _ {T : Type 0} {cmp : T → T → Ordering} (o : IsTotalOrder cmp) where
             let set_long : length (slice_set rs i r') ≡ length rs = length-set rs i r' in
             let past : drop (suc e) (slice_set rs i r' ++ n ∷ []) ≡ slice_set (drop (suc e) rs) ih.p r' ++ n ∷ [] =
             drop-append-le (suc e) (slice_set rs i r') (n ∷ []) (omega (arith, within, set_long)) ∙ ap (λ ys. ys ++ n ∷ []) (drop-set-add (suc e) rs ih.p r') in
-            let all : items_on (slice_set rs i r' ++ n ∷ []) ≡ items_on rs ++ n.item ∷ [] = map-append item_on (slice_set rs i r') (n ∷ []) ∙ ap (λ ys. ys ++ n.item ∷ []) (items_on-set rs i ih.last r' there refl) in
+            let all : items_on (slice_set rs i r' ++ n ∷ []) ≡ items_on rs ++ n.item ∷ [] = map-append item_on (slice_set rs i r') (n ∷ []) ∙ ap (λ ys. ys ++ n.item ∷ []) (map-set item_on rs i ih.last r' there refl) in
             let over_r : AtMost cmp r.item n.item = AtMost-trans o r.item ih.last.item n.item (All-at (AtMost cmp r.item) rs i ih.last there least.at_most) (rw is over) in (
               r,
               slice_get-append_left e (slice_set rs i r') (n ∷ []) (omega (arith, within, set_long)) ∙ set_other rs i e r' (omega arith) ∙ at,
@@ -465,7 +439,7 @@ module _ {T : Type 0} {cmp : T → T → Ordering} (o : IsTotalOrder cmp) where
             first_is = so.first_is all_popped ∙ ap next is ∙ next-append pre d so.k;
             counted = omega (arith, so.counted, ap length is, length-append pre (d ∷ []), length-append pre (d ∷ so.k ∷ []));
           },
-          rw (written, at_p, both) (map-append item_on (slice_set so.rs it.p l) (q ∷ []) ∙ ap (λ xs. xs ++ so.r.item ∷ []) (items_on-set so.rs it.p it.last l it.at refl) ∙ sym (ap items_on so.all_is ∙ map-append item_on so.rs (so.r ∷ []))),
+          rw (written, at_p, both) (map-append item_on (slice_set so.rs it.p l) (q ∷ []) ∙ ap (λ xs. xs ++ so.r.item ∷ []) (map-set item_on so.rs it.p it.last l it.at refl) ∙ sym (ap items_on so.all_is ∙ map-append item_on so.rs (so.r ∷ []))),
         )
 
   -- Where all items are passed, no candidate is left.
@@ -494,7 +468,7 @@ module _ {T : Type 0} {cmp : T → T → Ordering} (o : IsTotalOrder cmp) where
   ranked_first all at first compared compared' most most' q here is over few more =
       let q' : Candidate T = record q { behind = 1; ahead = first } in
       let ys : List (Candidate T) = drop (at + 1) all in
-      let from : drop at (slice_set all at q') ≡ q' ∷ ys = drop_from_set all at q q' here ∙ ap (λ n. q' ∷ drop n all) (sym (add-one at)) in
+      let from : drop at (slice_set all at q') ≡ q' ∷ ys = drop_written all at q q' here ∙ ap (λ n. q' ∷ drop n all) (sym (add-one at)) in
       rw from record {
         places = 0 ∷ is.places;
         is_queue = (q', refl, refl, is.first_is, record { below = All-nil (IsBelow cmp q.item); at_most = All-cons (AtMost cmp q.item) q.item (items_on ys) (AtMost-same o q.item) (above is.places is.is_queue is.first_is) }, is.is_queue);
@@ -527,7 +501,7 @@ module _ {T : Type 0} {cmp : T → T → Ordering} (o : IsTotalOrder cmp) where
         let from : drop at (slice_set all (at + first) r') ≡ q ∷ slice_set ys d r' =
         ap (λ n. drop at (slice_set all n r')) place ∙ drop-set-add at all (suc d) r' ∙ ap (λ zs. slice_set zs (suc d) r') (drop_from all at q here ∙ ap (λ n. q ∷ drop n all) (sym (add-one at))) in
         let at_y : slice_get ys d ≡ Some y = at_d ∙ ap Some (sym same) in
-        let items : items_on (slice_set ys d r') ≡ items_on ys = items_on-set ys d y r' at_y refl in
+        let items : items_on (slice_set ys d r') ≡ items_on ys = map-set item_on ys d y r' at_y refl in
         rw from record {
           places = suc d ∷ ds;
           is_queue = (

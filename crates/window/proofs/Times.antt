@@ -1,20 +1,11 @@
 -- What a push leaves where items that are too old give way.
-use Rattle.std.proofs.Common.{◌≡◌, ℕ, zero, suc, ◌+◌, ◌-◌, ◌<◌, ◌≤◌, Bool, true, false, List, [], ◌∷◌, ◌++◌, length, take, drop, slice_get, Option, None, Some, IfSome, refl, ap, sym, ◌∙◌, arith, nat_lt, length-append, length-drop, cond}
+use Rattle.std.proofs.Common.{◌≡◌, ℕ, zero, suc, ◌+◌, ◌-◌, ◌<◌, ◌≤◌, Bool, true, false, List, [], ◌∷◌, ◌++◌, length, take, drop, slice_get, Option, None, Some, IfSome, refl, ap, sym, ◌∙◌, arith, nat_lt, length-append, length-drop}
 use Rattle.std.specs.List.{prefix_len}
 use Rattle.ringbuffer.specs.Contents.{IsWithin, keep_last, overwritten}
 use Rattle.ringbuffer.proofs.Limits.{keep_last_within}
+use Rattle.window.specs.TimeLaws.{without_older-old, without_older-stays}
 use Rattle.window.specs.Times.{without_older}
 use Rattle.window.specs.declared.time_window.Stamped.{Stamped}
-
--- the first item leaves if it is too old,
-without_older-old : {T : Type 0} (time : ℕ) (x : Stamped T) (xs : List (Stamped T)) → nat_lt x.stamp time ≡ true → without_older time (x ∷ xs) ≡ without_older time xs
-without_older-old time x xs old =
-    let one : 1 + prefix_len (λ y. nat_lt y.stamp time) xs ≡ suc (prefix_len (λ y. nat_lt y.stamp time) xs) = omega arith in
-    ap (λ b. drop (cond b (1 + prefix_len (λ y. nat_lt y.stamp time) xs) 0) (x ∷ xs)) old ∙ ap (λ n. drop n (x ∷ xs)) one
-
--- and else none does.
-without_older-stays : {T : Type 0} (time : ℕ) (x : Stamped T) (xs : List (Stamped T)) → nat_lt x.stamp time ≡ false → without_older time (x ∷ xs) ≡ x ∷ xs
-without_older-stays time x xs stays = ap (λ b. drop (cond b (1 + prefix_len (λ y. nat_lt y.stamp time) xs) 0) (x ∷ xs)) stays
 
 -- By induction on the items: one behind them that isn't too old stays.
 without_older_push : {T : Type 0} (time : ℕ) (xs : List (Stamped T)) (x : Stamped T) → nat_lt x.stamp time ≡ false → without_older time (xs ++ x ∷ []) ≡ without_older time xs ++ x ∷ []

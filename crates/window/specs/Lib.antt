@@ -1,4 +1,6 @@
 pub mod Extremes
+pub mod FloatSumLaws
+pub mod FloatSums
 pub mod Folds
 pub mod Gcd
 pub mod GcdLaws
@@ -14,6 +16,8 @@ pub mod MatrixLaws
 pub mod Moments
 pub mod MonotonicQueue
 pub mod SumLaws
+pub mod Summands
 pub mod Sums
+pub mod TimeLaws
 pub mod Times
 pub mod Views

@@ -2,7 +2,7 @@
 use Rattle.std.specs.Prelude.{◌≡◌, ◌⊎◌, ℕ, suc, ◌+◌, ◌≤◌, List, [], ◌∷◌, ◌++◌, Option, Some, All, drop, length, map, option_to_list, slice_get}
 use Rattle.std.specs.declared.cmp.Ordering.{Ordering}
 use Rattle.window.specs.Least.{AtMost, IsBelow, IsLeastFrom}
-use Rattle.window.specs.declared.least_window.Candidate.{Candidate}
+use Rattle.window.specs.declared.monotonic_queue.Candidate.{Candidate}
 
 abbrev pub item_on : {T : Type 0} → Candidate T → T
 item_on r = r.item

@@ -1,7 +1,9 @@
-//! Calls that are counted: nothing else in the crate adds an item to a tally, removes one, combines two values while a window
-//! changes, or compares two items.
+//! Calls that are counted: nothing else in the crate adds an item to a tally, removes one, combines two values or adds two
+//! floating-point numbers while a window changes, or compares two items.
 
 ghost use Rattle.std.specs.Prelude.{◌≡◌, ◌+◌, ◌<◌, ◌^◌, [], ◌∷◌, ◌++◌, List, length, option_to_list};
+ghost use Rattle.std.specs.Float.{binary64};
+ghost use Rattle.std.specs.Float.Ieee.{add};
 ghost use Rattle.std.specs.Ordering.{is_gt};
 
 use crate::ghost_count::GhostCount;
@@ -112,6 +114,16 @@ pub(crate) fn combined<M: Monoid>(calls: &mut GhostCount, earlier: &M, later: &M
 {
     calls.add_one();
     earlier.combine(later)
+}
+
+/// Returns `earlier` + `later`, and counts the addition.
+#[inline]
+pub(crate) fn added(calls: &mut GhostCount, earlier: f64, later: f64) -> f64
+    ensures value { result ≡ add binary64 earlier later }
+    ensures calls { calls.new ≡ calls.old + 1 }
+{
+    calls.add_one();
+    earlier + later
 }
 
 /// Returns whether `x` is above `y`, and counts the comparison.

@@ -4,6 +4,7 @@
 mod count_if;
 mod counted;
 mod extremes;
+mod float_sum;
 mod fold_window;
 mod fraction;
 mod gcd;
@@ -13,7 +14,9 @@ mod makers;
 mod matrix;
 mod moments;
 mod monoid;
+mod monotonic_queue;
 mod order;
+mod over_rings;
 mod polynomial_hash;
 mod sum;
 mod summed;
@@ -23,21 +26,25 @@ mod time_window;
 
 pub use count_if::{CountIf, Predicate};
 pub use extremes::{BoundingBox, Corners, Greatest, Least};
+pub use float_sum::{Summand, WindowFloatSum};
 pub use fold_window::{Kept, WindowFold};
 pub use fraction::Fraction;
 pub use gcd::Gcd;
-pub use least_window::{Candidate, WindowLeast, WindowMax, WindowMin};
-pub use makers::{
-    AllocWindowFold, AllocWindowMax, AllocWindowMin, AllocWindowMoments, AllocWindowSum,
-    AllocWindowTime, ConstGenericWindowFold, ConstGenericWindowMax, ConstGenericWindowMin,
-    ConstGenericWindowMoments, ConstGenericWindowSum, ConstGenericWindowTime, CopyWindowMoments,
-    CopyWindowSum, GrowableAllocWindowFold, GrowableAllocWindowMax, GrowableAllocWindowMin,
-    GrowableAllocWindowMoments, GrowableAllocWindowSum, GrowableAllocWindowTime,
-};
+pub use least_window::{WindowLeast, WindowMax, WindowMin};
 pub use matrix::Matrix;
 pub use moments::{Moments, WindowMoments};
 pub use monoid::Monoid;
+pub use monotonic_queue::Candidate;
 pub use order::{Ascending, Descending, Order};
+pub use over_rings::{
+    AllocWindowFloatSum, AllocWindowFold, AllocWindowMax, AllocWindowMin, AllocWindowMoments,
+    AllocWindowSum, AllocWindowTime, ConstGenericWindowFloatSum, ConstGenericWindowFold,
+    ConstGenericWindowMax, ConstGenericWindowMin, ConstGenericWindowMoments, ConstGenericWindowSum,
+    ConstGenericWindowTime, CopyWindowFloatSum, CopyWindowMoments, CopyWindowSum,
+    GrowableAllocWindowFloatSum, GrowableAllocWindowFold, GrowableAllocWindowMax,
+    GrowableAllocWindowMin, GrowableAllocWindowMoments, GrowableAllocWindowSum,
+    GrowableAllocWindowTime,
+};
 pub use polynomial_hash::PolynomialHash;
 pub use sum::{Sum, WindowSum};
 pub use summed::Summed;

@@ -1,13 +1,13 @@
-//! Windows over each type of ring, made without a word of what a window keeps beside its items.
+//! Makers of windows over each type of ring, which don't name what a window keeps beside its items.
 
 ghost use Rattle.std.specs.Prelude.{◌≡◌, ◌+◌, ◌<◌, ◌^◌, [], None, Some, IfOk, IsErr};
 
+use crate::float_sum::{Summand, WindowFloatSum};
 use crate::fold_window::{Kept, WindowFold};
-use crate::least_window::{Candidate, WindowLeast, WindowMax, WindowMin};
-use crate::moments::WindowMoments;
+use crate::least_window::WindowLeast;
 use crate::monoid::Monoid;
+use crate::monotonic_queue::Candidate;
 use crate::order::Order;
-use crate::sum::WindowSum;
 use crate::tally::Tally;
 use crate::tally_window::WindowTally;
 use crate::time_window::{Stamped, WindowTime};
@@ -15,80 +15,6 @@ use ringbuffer::{
     AllocRingBuffer, ConstGenericRingBuffer, CopyRingBuffer, GrowableAllocRingBuffer,
 };
 use std::alloc::{AllocError, Global};
-
-/// A `WindowFold` over a heap ring.
-pub type AllocWindowFold<M> = WindowFold<M, AllocRingBuffer<Kept<M>>>;
-
-/// A `WindowFold` over an array ring.
-pub type ConstGenericWindowFold<M, const CAP: usize> = WindowFold<
-    M,
-    ConstGenericRingBuffer<Kept<M>, CAP>,
->;
-
-/// A `WindowFold` over a growable ring.
-pub type GrowableAllocWindowFold<M> = WindowFold<M, GrowableAllocRingBuffer<Kept<M>>>;
-
-/// A `WindowMin` over a heap ring.
-pub type AllocWindowMin<T> = WindowMin<T, AllocRingBuffer<Candidate<T>>>;
-
-/// A `WindowMin` over an array ring.
-pub type ConstGenericWindowMin<T, const CAP: usize> = WindowMin<
-    T,
-    ConstGenericRingBuffer<Candidate<T>, CAP>,
->;
-
-/// A `WindowMin` over a growable ring.
-pub type GrowableAllocWindowMin<T> = WindowMin<T, GrowableAllocRingBuffer<Candidate<T>>>;
-
-/// A `WindowMax` over a heap ring.
-pub type AllocWindowMax<T> = WindowMax<T, AllocRingBuffer<Candidate<T>>>;
-
-/// A `WindowMax` over an array ring.
-pub type ConstGenericWindowMax<T, const CAP: usize> = WindowMax<
-    T,
-    ConstGenericRingBuffer<Candidate<T>, CAP>,
->;
-
-/// A `WindowMax` over a growable ring.
-pub type GrowableAllocWindowMax<T> = WindowMax<T, GrowableAllocRingBuffer<Candidate<T>>>;
-
-/// A `WindowSum` over a heap ring.
-pub type AllocWindowSum = WindowSum<AllocRingBuffer<i64>>;
-
-/// A `WindowSum` over an array ring.
-pub type ConstGenericWindowSum<const CAP: usize> = WindowSum<ConstGenericRingBuffer<i64, CAP>>;
-
-/// A `WindowSum` over a ring of plain items.
-pub type CopyWindowSum<const CAP: usize> = WindowSum<CopyRingBuffer<i64, CAP>>;
-
-/// A `WindowSum` over a growable ring.
-pub type GrowableAllocWindowSum = WindowSum<GrowableAllocRingBuffer<i64>>;
-
-/// A `WindowMoments` over a heap ring.
-pub type AllocWindowMoments = WindowMoments<AllocRingBuffer<i32>>;
-
-/// A `WindowMoments` over an array ring.
-pub type ConstGenericWindowMoments<const CAP: usize> = WindowMoments<
-    ConstGenericRingBuffer<i32, CAP>,
->;
-
-/// A `WindowMoments` over a ring of plain items.
-pub type CopyWindowMoments<const CAP: usize> = WindowMoments<CopyRingBuffer<i32, CAP>>;
-
-/// A `WindowMoments` over a growable ring.
-pub type GrowableAllocWindowMoments = WindowMoments<GrowableAllocRingBuffer<i32>>;
-
-/// A `WindowTime` over a heap ring.
-pub type AllocWindowTime<T> = WindowTime<T, AllocRingBuffer<Stamped<T>>>;
-
-/// A `WindowTime` over an array ring.
-pub type ConstGenericWindowTime<T, const CAP: usize> = WindowTime<
-    T,
-    ConstGenericRingBuffer<Stamped<T>, CAP>,
->;
-
-/// A `WindowTime` over a growable ring.
-pub type GrowableAllocWindowTime<T> = WindowTime<T, GrowableAllocRingBuffer<Stamped<T>>>;
 
 impl<M: Monoid> WindowFold<M, AllocRingBuffer<Kept<M>>> {
     /// Returns an empty window over a heap ring of this capacity.
@@ -234,6 +160,59 @@ impl<T: Copy, S: Tally<T>> WindowTally<T, S, GrowableAllocRingBuffer<T>> {
         ensures removed { result.removed ≡ 0 }
     {
         WindowTally::new(GrowableAllocRingBuffer::new(alloc))
+    }
+}
+
+impl WindowFloatSum<AllocRingBuffer<Summand>> {
+    /// Returns an empty window over a heap ring of this capacity.
+    ///
+    /// # Errors
+    ///
+    /// As `AllocRingBuffer::new`.
+    pub fn on_heap(alloc: Global, capacity: usize) -> Result<Self, AllocError>
+        requires { 0 < capacity }
+        ensures contents { IfOk result (λ w. w.contents ≡ []) }
+        ensures limit { IfOk result (λ w. w.limit ≡ Some capacity) }
+        ensures calls { IfOk result (λ w. w.calls + w.unfolded ≡ 0) }
+        ensures too_large { 2 ^ 63 < capacity → IsErr result }
+    {
+        let ring = AllocRingBuffer::new(alloc, capacity)?;
+        Ok(WindowFloatSum::new(ring))
+    }
+}
+
+impl<const CAP: usize> WindowFloatSum<ConstGenericRingBuffer<Summand, CAP>> {
+    /// Returns an empty window over an array ring of this capacity.
+    pub fn in_array() -> Self
+        requires { 0 < CAP }
+        ensures contents { result.contents ≡ [] }
+        ensures limit { result.limit ≡ Some CAP }
+        ensures calls { result.calls + result.unfolded ≡ 0 }
+    {
+        WindowFloatSum::new(ConstGenericRingBuffer::new())
+    }
+}
+
+impl<const CAP: usize> WindowFloatSum<CopyRingBuffer<Summand, CAP>> {
+    /// Returns an empty window over a ring of plain items of this capacity.
+    pub fn in_plain_array() -> Self
+        requires { 0 < CAP }
+        ensures contents { result.contents ≡ [] }
+        ensures limit { result.limit ≡ Some CAP }
+        ensures calls { result.calls + result.unfolded ≡ 0 }
+    {
+        WindowFloatSum::new(CopyRingBuffer::new(Summand::new(0.0)))
+    }
+}
+
+impl WindowFloatSum<GrowableAllocRingBuffer<Summand>> {
+    /// Returns an empty window over a growable ring.
+    pub fn growable(alloc: Global) -> Self
+        ensures contents { result.contents ≡ [] }
+        ensures limit { result.limit ≡ None }
+        ensures calls { result.calls + result.unfolded ≡ 0 }
+    {
+        WindowFloatSum::new(GrowableAllocRingBuffer::new(alloc))
     }
 }
 

@@ -1,14 +1,16 @@
 //! Callers of `DoubleEndedRing`.
 
 use super::assert_equal;
-use ring_test_support::{on_each, on_fixed, on_growable};
+use ring_slots::RingSlots;
+use ring_test_support::on_each;
 use ring_uses::both_ends::{
     count_to_drain, drain_ends, drain_newest_first, forget_all_but, forget_all_but_in_growable,
     newest_of, put_before_all, put_before_all_in_array, put_before_all_in_growable,
     take_newest_first, undo, undo_many, undo_many_in_array, undo_on_heap,
 };
 use ringbuffer::{
-    AllocRingBuffer, ConstGenericRingBuffer, DoubleEndedRing, GrowableAllocRingBuffer, RingBuffer,
+    AllocRingBuffer, ConstGenericRingBuffer, DoubleEndedRing, FixedRing, GrowableAllocRingBuffer,
+    RingBuffer,
 };
 use std::alloc::AllocError;
 use std::process::Abort;
@@ -23,21 +25,6 @@ fn push_numbers<R: RingBuffer<u32>>(rt: &impl Abort, ring: &mut R, numbers: &[u3
 /// Asserts that both lists have the same numbers.
 fn assert_numbers(rt: &impl Abort, found: Vec<u32>, wanted: &[u32]) {
     assert_equal(rt, found.as_slice(), wanted);
-}
-
-/// Asserts what the callers that know the trait alone do on a ring of four.
-fn assert_history<R: DoubleEndedRing<u32> + Drop>(rt: &(impl Abort + AllocGlobal), mut ring: R) {
-    push_numbers(rt, &mut ring, &[1, 2, 3, 4]);
-    assert_equal(rt, undo(&mut ring), Some(4));
-    undo_many(&mut ring, 1);
-    assert_equal(rt, ring.back().copied(), Some(2));
-    push_numbers(rt, &mut ring, &[5, 6]);
-    forget_all_but(&mut ring, 3);
-    assert_equal(rt, ring.len(), 3);
-    assert_equal(rt, drain_ends(&mut ring), (Some(2), Some(6)));
-    push_numbers(rt, &mut ring, &[7]);
-    let taken = take_newest_first(rt.alloc(), ring).expect(rt, "memory");
-    assert_numbers(rt, taken, &[7, 5]);
 }
 
 #[test]
@@ -66,3 +53,25 @@ fn histories_and_queues_in_a_users_lines(rt: HostRuntime) -> Result<(), AllocErr
     assert_equal(&rt, growable.front().copied(), Some(1));
     Ok(())
 }
+
+/// A ring that is a history.
+trait History: DoubleEndedRing<u32> + Drop {
+    /// Asserts what the callers that know the trait alone do on a ring of four.
+    fn assert_history(mut self, rt: &(impl Abort + AllocGlobal)) {
+        push_numbers(rt, &mut self, &[1, 2, 3, 4]);
+        assert_equal(rt, undo(&mut self), Some(4));
+        undo_many(&mut self, 1);
+        assert_equal(rt, self.back().copied(), Some(2));
+        push_numbers(rt, &mut self, &[5, 6]);
+        forget_all_but(&mut self, 3);
+        assert_equal(rt, self.len(), 3);
+        assert_equal(rt, drain_ends(&mut self), (Some(2), Some(6)));
+        push_numbers(rt, &mut self, &[7]);
+        let taken = take_newest_first(rt.alloc(), self).expect(rt, "memory");
+        assert_numbers(rt, taken, &[7, 5]);
+    }
+}
+
+impl<S: RingSlots<u32>> History for FixedRing<u32, S> {}
+
+impl History for GrowableAllocRingBuffer<u32> {}

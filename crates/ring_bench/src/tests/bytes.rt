@@ -4,7 +4,7 @@ ghost use Rattle.std.specs.Prelude.{IsSome};
 
 use super::assert_equal;
 use ring_test_support::{on_each, on_fixed};
-use ringbuffer::{GrowableAllocRingBuffer, LastBytes, RingBuffer};
+use ringbuffer::{FixedRing, GrowableAllocRingBuffer, LastBytes, RingBuffer, TakesCopies};
 use std::io::{self, BufRead, Read, Write};
 use std::process::Abort;
 
@@ -24,60 +24,14 @@ fn assert_reads<R: Read>(rt: &impl Abort, ring: &mut R, room: usize, bytes: &[u8
     }
 }
 
-/// Fills a ring of five bytes in pieces, of which the last finds no room.
-fn assert_fills<R: Read + Write + RingBuffer<u8> + Drop>(rt: &impl Abort, mut ring: R) {
-    for _ in 0..8 {
-        assert_writes(rt, &mut ring, b"abc", 3);
-        assert_writes(rt, &mut ring, b"defg", 2);
-        assert_writes(rt, &mut ring, b"x", 0);
-        assert_reads(rt, &mut ring, 2, b"ab");
-        assert_writes(rt, &mut ring, b"fgh", 2);
-        assert_reads(rt, &mut ring, 0, b"");
-        assert_reads(rt, &mut ring, 8, b"cdefg");
-        assert_reads(rt, &mut ring, 8, b"");
-        assert_writes(rt, &mut ring, b"", 0);
-        assert_writes(rt, &mut ring, b"-", 1);
-        assert_reads(rt, &mut ring, 1, b"-");
-    }
-}
-
 #[test]
 fn a_full_ring_takes_no_byte(rt: HostRuntime) {
     on_fixed!(&rt, 5, assert_fills);
 }
 
-/// Sends lines through a ring, one at a time, and finds the bytes that are lent first.
-fn assert_lines<R: BufRead + Write + RingBuffer<u8> + Drop>(rt: &impl Abort, mut ring: R) {
-    for round in 0..9u8 {
-        assert_equal(rt, writeln!(ring, "line {round}").is_ok(), true);
-        assert_equal(
-            rt,
-            ring.fill_buf().expect(rt, "read").first().copied(),
-            Some(b'l'),
-        );
-        ring.consume(5);
-        assert_reads(rt, &mut ring, 8, &[b'0' + round, b'\n']);
-        ring.consume(1);
-        assert_equal(rt, ring.fill_buf().expect(rt, "read").len(), 0);
-    }
-}
-
 #[test]
 fn lines_go_through_each_ring(rt: HostRuntime) {
     on_each!(&rt, 8, assert_lines);
-}
-
-/// Copies what a growable ring holds into a ring of eight bytes, which is too small for all of it.
-fn assert_copies<R: Read + Write + RingBuffer<u8> + Drop>(
-    rt: &impl Abort,
-    mut ring: R,
-    mut from: GrowableAllocRingBuffer<u8>,
-) {
-    assert_equal(rt, from.write_all(b"hello").is_ok(), true);
-    assert_equal(rt, io::copy(&mut from, &mut ring).expect(rt, "copy"), 5);
-    assert_equal(rt, from.write_all(b", ring").is_ok(), true);
-    assert_equal(rt, io::copy(&mut from, &mut ring).is_err(), true);
-    assert_reads(rt, &mut ring, 8, b"hello, r");
 }
 
 #[test]
@@ -99,30 +53,79 @@ fn assert_keeps<R: RingBuffer<u8>>(rt: &impl Abort, log: &LastBytes<R>, bytes: &
     }
 }
 
-/// Writes to a log of five bytes in pieces, of which one is longer than the log.
-fn assert_keeps_the_last<R: RingBuffer<u8> + Drop>(rt: &impl Abort, mut ring: R)
-    requires { IsSome (R.limit ring) }
-{
-    let _ = ring.push(b'-');
-    let mut log = LastBytes::new(ring);
-    assert_keeps(rt, &log, b"-");
-    assert_writes(rt, &mut log, b"abc", 3);
-    assert_keeps(rt, &log, b"-abc");
-    assert_writes(rt, &mut log, b"", 0);
-    assert_writes(rt, &mut log, b"de", 2);
-    assert_keeps(rt, &log, b"abcde");
-    assert_writes(rt, &mut log, b"fghijklm", 8);
-    assert_keeps(rt, &log, b"ijklm");
-    for number in 0..4u8 {
-        assert_equal(rt, write!(log, "<{number}>").is_ok(), true);
-    }
-    assert_equal(rt, log.flush().is_ok(), true);
-    assert_keeps(rt, &log, b"2><3>");
-    let mut kept = log.into_ring();
-    assert_equal(rt, kept.dequeue(), Some(b'2'));
-}
-
 #[test]
 fn the_last_bytes_are_kept(rt: HostRuntime) {
     on_fixed!(&rt, 5, assert_keeps_the_last);
 }
+
+/// A ring of bytes that is written to and read from.
+trait OfBytes: BufRead + Read + Write + RingBuffer<u8> + Drop {
+    /// Fills a ring of five bytes in pieces, of which the last finds no room.
+    fn assert_fills(mut self, rt: &impl Abort) {
+        for _ in 0..8 {
+            assert_writes(rt, &mut self, b"abc", 3);
+            assert_writes(rt, &mut self, b"defg", 2);
+            assert_writes(rt, &mut self, b"x", 0);
+            assert_reads(rt, &mut self, 2, b"ab");
+            assert_writes(rt, &mut self, b"fgh", 2);
+            assert_reads(rt, &mut self, 0, b"");
+            assert_reads(rt, &mut self, 8, b"cdefg");
+            assert_reads(rt, &mut self, 8, b"");
+            assert_writes(rt, &mut self, b"", 0);
+            assert_writes(rt, &mut self, b"-", 1);
+            assert_reads(rt, &mut self, 1, b"-");
+        }
+    }
+
+    /// Sends lines through a ring, one at a time, and finds the bytes that are lent first.
+    fn assert_lines(mut self, rt: &impl Abort) {
+        for round in 0..9u8 {
+            assert_equal(rt, writeln!(self, "line {round}").is_ok(), true);
+            assert_equal(
+                rt,
+                self.fill_buf().expect(rt, "read").first().copied(),
+                Some(b'l'),
+            );
+            self.consume(5);
+            assert_reads(rt, &mut self, 8, &[b'0' + round, b'\n']);
+            self.consume(1);
+            assert_equal(rt, self.fill_buf().expect(rt, "read").len(), 0);
+        }
+    }
+
+    /// Copies what a growable ring holds into a ring of eight bytes, which is too small for all of it.
+    fn assert_copies(mut self, rt: &impl Abort, mut from: GrowableAllocRingBuffer<u8>) {
+        assert_equal(rt, from.write_all(b"hello").is_ok(), true);
+        assert_equal(rt, io::copy(&mut from, &mut self).expect(rt, "copy"), 5);
+        assert_equal(rt, from.write_all(b", ring").is_ok(), true);
+        assert_equal(rt, io::copy(&mut from, &mut self).is_err(), true);
+        assert_reads(rt, &mut self, 8, b"hello, r");
+    }
+
+    /// Writes to a log of five bytes in pieces, of which one is longer than the log.
+    fn assert_keeps_the_last(mut self, rt: &impl Abort)
+        requires { IsSome (Self.limit self) }
+    {
+        let _ = self.push(b'-');
+        let mut log = LastBytes::new(self);
+        assert_keeps(rt, &log, b"-");
+        assert_writes(rt, &mut log, b"abc", 3);
+        assert_keeps(rt, &log, b"-abc");
+        assert_writes(rt, &mut log, b"", 0);
+        assert_writes(rt, &mut log, b"de", 2);
+        assert_keeps(rt, &log, b"abcde");
+        assert_writes(rt, &mut log, b"fghijklm", 8);
+        assert_keeps(rt, &log, b"ijklm");
+        for number in 0..4u8 {
+            assert_equal(rt, write!(log, "<{number}>").is_ok(), true);
+        }
+        assert_equal(rt, log.flush().is_ok(), true);
+        assert_keeps(rt, &log, b"2><3>");
+        let mut kept = log.into_ring();
+        assert_equal(rt, kept.dequeue(), Some(b'2'));
+    }
+}
+
+impl<S: TakesCopies<u8>> OfBytes for FixedRing<u8, S> {}
+
+impl OfBytes for GrowableAllocRingBuffer<u8> {}

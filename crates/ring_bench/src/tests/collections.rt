@@ -3,24 +3,11 @@
 ghost use Rattle.std.specs.Prelude.{List, ℤ};
 
 use super::assert_equal;
+use ring_slots::RingSlots;
 use ring_test_support::{on_each, on_fixed, on_growable};
-use ringbuffer::{RingBuffer, RingBufferExt};
+use ringbuffer::{FixedRing, GrowableAllocRingBuffer, RingBuffer, RingBufferExt};
 use std::iter::repeat_n;
 use std::process::Abort;
-
-/// Adds four numbers to a ring that holds one already, as to any collection, and then two thousand.
-fn assert_adds<R: RingBuffer<i64> + Extend<i64> + Drop>(rt: &impl Abort, mut ring: R, items: &[i64])
-    requires { (old : R) (xs : List ℤ) → R.can_extend old xs }
-{
-    let _ = ring.push(0);
-    assert_equal(rt, Extend::extend(&mut ring, [1, 2, 3, 4]).is_ok(), true);
-    assert_equal(rt, ring.len(), items.len());
-    for (i, item) in items.iter().enumerate() {
-        assert_equal(rt, ring.get(i).copied(), Some(*item));
-    }
-    let many = Extend::extend(&mut ring, repeat_n(7, 2000));
-    assert_equal(rt, (many.is_ok(), ring.back().copied()), (true, Some(7)));
-}
 
 #[test]
 fn generic_code_extends_a_ring(rt: HostRuntime) {
@@ -29,35 +16,63 @@ fn generic_code_extends_a_ring(rt: HostRuntime) {
     on_each!(&rt, 5, assert_adds, &[0, 1, 2, 3, 4]);
 }
 
-/// Compares a ring of three items, in memory that they go round in, with slices that differ at each place and in length.
-fn assert_equals_slices<R: RingBuffer<i64> + Drop>(rt: &impl Abort, mut ring: R) {
-    assert_equal(rt, (ring.eq_slice(&[]), ring.eq_slice(&[0])), (true, false));
-    for first in 0..9i64 {
-        let items = [first, first + 1, first + 2];
-        ring.clear();
-        for item in items {
-            let _ = ring.push(item);
-        }
-        assert_equal(rt, ring.eq_slice(&items), true);
-        for k in 0..3 {
-            let mut others = items;
-            others[k] = -1;
-            assert_equal(rt, ring.eq_slice(&others), false);
-            assert_equal(rt, ring.eq_slice(&items[..k]), false);
-            assert_equal(rt, ring.eq_slice(&items[k + 1..]), false);
-        }
-        assert_equal(
-            rt,
-            ring.eq_slice(&[first, first + 1, first + 2, first + 3]),
-            false,
-        );
-        let _ = ring.dequeue();
-        assert_equal(rt, ring.eq_slice(&items[1..]), true);
-    }
-}
-
 #[test]
 fn a_ring_is_compared_with_slices(rt: HostRuntime) {
     on_each!(&rt, 3, assert_equals_slices);
     on_each!(&rt, 4, assert_equals_slices);
 }
+
+/// A ring that is compared with slices.
+trait Compared: RingBuffer<i64> + Drop {
+    /// Compares a ring of three items, in memory that they go round in, with slices that differ at each place and in length.
+    fn assert_equals_slices(mut self, rt: &impl Abort) {
+        assert_equal(rt, (self.eq_slice(&[]), self.eq_slice(&[0])), (true, false));
+        for first in 0..9i64 {
+            let items = [first, first + 1, first + 2];
+            self.clear();
+            for item in items {
+                let _ = self.push(item);
+            }
+            assert_equal(rt, self.eq_slice(&items), true);
+            for k in 0..3 {
+                let mut others = items;
+                others[k] = -1;
+                assert_equal(rt, self.eq_slice(&others), false);
+                assert_equal(rt, self.eq_slice(&items[..k]), false);
+                assert_equal(rt, self.eq_slice(&items[k + 1..]), false);
+            }
+            assert_equal(
+                rt,
+                self.eq_slice(&[first, first + 1, first + 2, first + 3]),
+                false,
+            );
+            let _ = self.dequeue();
+            assert_equal(rt, self.eq_slice(&items[1..]), true);
+        }
+    }
+}
+
+impl<S: RingSlots<i64>> Compared for FixedRing<i64, S> {}
+
+impl Compared for GrowableAllocRingBuffer<i64> {}
+
+/// A ring that is added to, as any collection.
+trait Added: RingBuffer<i64> + Extend<i64> + Drop {
+    /// Adds four numbers to a ring that holds one already, as to any collection, and then two thousand.
+    fn assert_adds(mut self, rt: &impl Abort, items: &[i64])
+        requires { (old : Self) (xs : List ℤ) → Self.can_extend old xs }
+    {
+        let _ = self.push(0);
+        assert_equal(rt, Extend::extend(&mut self, [1, 2, 3, 4]).is_ok(), true);
+        assert_equal(rt, self.len(), items.len());
+        for (i, item) in items.iter().enumerate() {
+            assert_equal(rt, self.get(i).copied(), Some(*item));
+        }
+        let many = Extend::extend(&mut self, repeat_n(7, 2000));
+        assert_equal(rt, (many.is_ok(), self.back().copied()), (true, Some(7)));
+    }
+}
+
+impl<S: RingSlots<i64>> Added for FixedRing<i64, S> {}
+
+impl Added for GrowableAllocRingBuffer<i64> {}

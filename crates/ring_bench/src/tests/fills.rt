@@ -1,26 +1,18 @@
 //! Fills.
 
 use super::{assert_equal, assert_holds, push_all};
+use ring_slots::RingSlots;
 use ring_test_support::steps::Step::{DequeueAll, Fill, FillDefault, Len, PushAll};
 use ring_test_support::steps::{Step, first_fault};
 use ring_test_support::{on_each, on_fixed, on_growable};
-use ringbuffer::{AllocRingBuffer, DoubleEndedRing, GrowableAllocRingBuffer, RingBuffer};
+use ringbuffer::{
+    AllocRingBuffer, DoubleEndedRing, FixedRing, GrowableAllocRingBuffer, RingBuffer,
+};
 use std::alloc::AllocError;
 use std::process::Abort;
 
 /// Fills of a ring of four, and the items that are then there.
 const FILLS: &[(Step, &[i64])] = &[(FillDefault, &[0, 0, 0, 0]), (Fill(3), &[3, 3, 3, 3])];
-
-/// Fills a ring of four over none to three items.
-fn assert_fills<R: DoubleEndedRing<i64> + Drop>(rt: &impl Abort, mut ring: R) {
-    let over: [&'static [i64]; 4] = [&[], &[1], &[1, 1], &[1, 1, 1]];
-    for (fill, filled) in FILLS {
-        for held in over {
-            let steps = [PushAll(held), *fill, Len(4), DequeueAll(filled)];
-            assert_equal(rt, (held, first_fault(&mut ring, &steps)), (held, None));
-        }
-    }
-}
 
 #[test]
 fn a_fill_fills_from_any_length(rt: HostRuntime) {
@@ -54,26 +46,6 @@ fn fill_by_counts<R: RingBuffer<i64>>(rt: &impl Abort, ring: &mut R) -> i64 {
     calls
 }
 
-fn assert_filled_by_counts<R: RingBuffer<i64> + Drop>(rt: &impl Abort, mut ring: R, held: &[i64]) {
-    push_all(rt, &mut ring, held);
-    assert_equal(rt, fill_by_counts(rt, &mut ring), 3);
-    assert!(rt; ring.is_full());
-    assert_holds(rt, &ring, &[0, 1, 2]);
-}
-
-fn assert_filled_by_turns<R: RingBuffer<i64> + Drop>(rt: &impl Abort, mut ring: R) {
-    let mut calls = 0i64;
-    let mut last = 0i64;
-    let filled = ring.fill_with(|| {
-        calls = calls.wrapping_add(1);
-        last = 1i64.wrapping_sub(last);
-        last
-    });
-    assert!(rt; filled.is_ok());
-    assert_holds(rt, &ring, &[1, 0, 1, 0]);
-    assert_equal(rt, calls, 4);
-}
-
 #[test]
 fn a_fill_takes_the_answers_of_its_closure(rt: HostRuntime) {
     on_fixed!(&rt, 3, assert_filled_by_counts, &[7, 8]);
@@ -85,20 +57,6 @@ fn a_fill_takes_the_answers_of_its_closure(rt: HostRuntime) {
 fn assert_agrees<R: RingBuffer<i64>>(rt: &impl Abort, ring: &R) {
     assert_equal(rt, ring.is_full(), ring.len() == ring.capacity());
     assert_equal(rt, ring.buffer_size(), ring.capacity());
-}
-
-fn assert_filled_to_capacity<R: RingBuffer<i64> + Drop>(rt: &impl Abort, mut ring: R) {
-    push_all(rt, &mut ring, &[1, 2, 3]);
-    let capacity = ring.capacity();
-    assert!(rt; capacity >= 3);
-    assert_agrees(rt, &ring);
-    let calls = fill_by_counts(rt, &mut ring);
-    assert_equal(rt, ring.len(), capacity);
-    assert_agrees(rt, &ring);
-    for number in 0..calls {
-        assert_equal(rt, ring.dequeue(), Some(number));
-    }
-    assert!(rt; ring.is_empty());
 }
 
 #[test]
@@ -114,16 +72,6 @@ fn assert_full_of<R: RingBuffer<i64>>(rt: &impl Abort, ring: &R, count: usize, i
     for i in 0..count {
         assert_equal(rt, ring.get(i).copied(), Some(item));
     }
-}
-
-fn assert_filled_by_clones<R: RingBuffer<i64> + Drop>(rt: &impl Abort, mut ring: R) {
-    let capacity = ring.capacity();
-    assert!(rt; ring.fill(5).is_ok());
-    assert_full_of(rt, &ring, capacity, 5);
-    push_all(rt, &mut ring, &[1, 2, 3]);
-    let capacity = ring.capacity();
-    assert!(rt; ring.fill_default().is_ok());
-    assert_full_of(rt, &ring, capacity, 0);
 }
 
 #[test]
@@ -143,3 +91,65 @@ fn a_growable_ring_has_the_room_that_was_asked_for(rt: HostRuntime) -> Result<()
     }
     Ok(())
 }
+
+/// A ring that is filled.
+trait Filled: DoubleEndedRing<i64> + Drop {
+    /// Fills a ring of four over none to three items.
+    fn assert_fills(mut self, rt: &impl Abort) {
+        let over: [&'static [i64]; 4] = [&[], &[1], &[1, 1], &[1, 1, 1]];
+        for (fill, filled) in FILLS {
+            for held in over {
+                let steps = [PushAll(held), *fill, Len(4), DequeueAll(filled)];
+                assert_equal(rt, (held, first_fault(&mut self, &steps)), (held, None));
+            }
+        }
+    }
+
+    fn assert_filled_by_counts(mut self, rt: &impl Abort, held: &[i64]) {
+        push_all(rt, &mut self, held);
+        assert_equal(rt, fill_by_counts(rt, &mut self), 3);
+        assert!(rt; self.is_full());
+        assert_holds(rt, &self, &[0, 1, 2]);
+    }
+
+    fn assert_filled_by_turns(mut self, rt: &impl Abort) {
+        let mut calls = 0i64;
+        let mut last = 0i64;
+        let filled = self.fill_with(|| {
+            calls = calls.wrapping_add(1);
+            last = 1i64.wrapping_sub(last);
+            last
+        });
+        assert!(rt; filled.is_ok());
+        assert_holds(rt, &self, &[1, 0, 1, 0]);
+        assert_equal(rt, calls, 4);
+    }
+
+    fn assert_filled_to_capacity(mut self, rt: &impl Abort) {
+        push_all(rt, &mut self, &[1, 2, 3]);
+        let capacity = self.capacity();
+        assert!(rt; capacity >= 3);
+        assert_agrees(rt, &self);
+        let calls = fill_by_counts(rt, &mut self);
+        assert_equal(rt, self.len(), capacity);
+        assert_agrees(rt, &self);
+        for number in 0..calls {
+            assert_equal(rt, self.dequeue(), Some(number));
+        }
+        assert!(rt; self.is_empty());
+    }
+
+    fn assert_filled_by_clones(mut self, rt: &impl Abort) {
+        let capacity = self.capacity();
+        assert!(rt; self.fill(5).is_ok());
+        assert_full_of(rt, &self, capacity, 5);
+        push_all(rt, &mut self, &[1, 2, 3]);
+        let capacity = self.capacity();
+        assert!(rt; self.fill_default().is_ok());
+        assert_full_of(rt, &self, capacity, 0);
+    }
+}
+
+impl<S: RingSlots<i64>> Filled for FixedRing<i64, S> {}
+
+impl Filled for GrowableAllocRingBuffer<i64> {}

@@ -3,13 +3,13 @@
 ghost use Rattle.std.specs.Prelude.{◌<◌};
 
 use super::{assert_equal, assert_rows, assert_steps};
+use ring_test_support::kinds::{EACH, FIXED, Kind};
 use ring_test_support::steps::Row;
 use ring_test_support::steps::Step::{
     Begin, Below, Capacity, Holds, Insert, KeepNewest, Leaves, PopBack, PushAll, PushFront, Remove,
     RemoveRange, RetainAlternate, RetainEven, RotateLeft, RotateRight, Search, Swap, Truncate,
     TryPush,
 };
-use ring_test_support::{on_each, on_fixed, on_growable};
 use ringbuffer::AllocRingBuffer;
 
 const FIVE: &[i64] = &[1, 2, 3, 4, 5];
@@ -123,11 +123,11 @@ const TURNED: &[Row] = &[
 // On the heap a ring of five has spare slots, and one of eight has none.
 #[test]
 fn items_are_put_taken_and_turned_at_any_index(rt: HostRuntime) {
-    on_fixed!(&rt, 5, assert_rows, FULL);
-    on_growable!(&rt, 5, assert_rows, WITHOUT_LIMIT);
+    assert_rows(&rt, FIXED, 5, FULL);
+    assert_rows(&rt, &[Kind::Growable], 5, WITHOUT_LIMIT);
     for rows in [PUT, TAKEN, KEPT, TURNED] {
-        on_each!(&rt, 5, assert_rows, rows);
-        on_each!(&rt, 8, assert_rows, rows);
+        assert_rows(&rt, EACH, 5, rows);
+        assert_rows(&rt, EACH, 8, rows);
     }
 }
 
@@ -162,8 +162,8 @@ const SEARCHED: &[Row] = &[
 
 #[test]
 fn a_search_asks_of_few_items(rt: HostRuntime) {
-    on_each!(&rt, 13, assert_rows, SEARCHED);
-    on_each!(&rt, 16, assert_rows, SEARCHED);
+    assert_rows(&rt, EACH, 13, SEARCHED);
+    assert_rows(&rt, EACH, 16, SEARCHED);
 }
 
 /// The items of a ring of five, another capacity, and what is left.

@@ -2,12 +2,13 @@
 
 use super::{answers, assert_equal, assert_steps, push_all};
 use ring_slots::RingSlots;
+use ring_test_support::kinds::{EACH, FIXED, Kind};
+use ring_test_support::steps::Step;
 use ring_test_support::steps::Step::{
-    Back, Clear, Dequeue, DequeueAll, Extend, Front, Get, GetAll, GetAllSigned, GetSigned, Holds,
-    IsFull, Len, PushAll, Write, WriteBack, WriteFront, WriteSigned,
+    Back, Begin, Clear, Dequeue, DequeueAll, Extend, Front, Get, GetAll, GetAllSigned, GetSigned,
+    Holds, IsFull, Len, PushAll, Write, WriteBack, WriteFront, WriteSigned,
 };
-use ring_test_support::steps::{Step, first_fault};
-use ring_test_support::{on_each, on_fixed, on_growable};
+use ring_test_support::{on_each, on_fixed};
 use ringbuffer::{DoubleEndedRing, FixedRing, GrowableAllocRingBuffer, RingBuffer};
 use std::process::Abort;
 
@@ -82,41 +83,53 @@ const EXTREMES: &[(&[i64], i64, i64, i64)] = &[
     (&[7], 7, 7, 7),
 ];
 
-/// Reads at the least and the greatest positions that there are.
-fn wraps_extreme_positions<R: DoubleEndedRing<i64> + Drop>(rt: &impl Abort, mut ring: R) {
+/// Reads the newest item after each of ten pushes.
+const NEWEST: &[Step] = &[
+    PushAll(&[0]),
+    GetSigned(-1, Some(0)),
+    PushAll(&[1]),
+    GetSigned(-1, Some(1)),
+    PushAll(&[2]),
+    GetSigned(-1, Some(2)),
+    PushAll(&[3]),
+    GetSigned(-1, Some(3)),
+    PushAll(&[4]),
+    GetSigned(-1, Some(4)),
+    PushAll(&[5]),
+    GetSigned(-1, Some(5)),
+    PushAll(&[6]),
+    GetSigned(-1, Some(6)),
+    PushAll(&[7]),
+    GetSigned(-1, Some(7)),
+    PushAll(&[8]),
+    GetSigned(-1, Some(8)),
+    PushAll(&[9]),
+    GetSigned(-1, Some(9)),
+];
+
+#[test]
+fn positions_wrap_by_the_length(rt: HostRuntime) {
+    for (name, steps) in OF_EIGHT {
+        answers(&rt, EACH, 8, name, steps);
+    }
+    answers(&rt, EACH, 2, "the ends of two", THE_ENDS);
+    let mut growable = GrowableAllocRingBuffer::new(rt.alloc());
+    assert_steps(&rt, &mut growable, BELOW_ZERO);
+    answers(&rt, EACH, 4, "writes wrap in four slots", WRAPPED_WRITES);
+    answers(&rt, EACH, 8, "the newest item", NEWEST);
     for (items, at_least_signed, at_greatest_signed, at_greatest) in EXTREMES {
         let steps = [
+            Begin(5),
             PushAll(items),
             GetSigned(isize::MIN, Some(*at_least_signed)),
             GetSigned(isize::MAX, Some(*at_greatest_signed)),
             Get(usize::MAX, Some(*at_greatest)),
             DequeueAll(items),
+            PushAll(&[7]),
+            GetSigned(-1, Some(7)),
         ];
-        assert_steps(rt, &mut ring, &steps);
+        answers(&rt, EACH, 8, "the least and the greatest positions", &steps);
     }
-    assert_steps(rt, &mut ring, &[PushAll(&[7]), GetSigned(-1, Some(7))]);
-}
-
-/// Reads the newest item after each of ten pushes.
-fn reads_the_newest<R: DoubleEndedRing<i64> + Drop>(rt: &impl Abort, mut ring: R) {
-    for item in 0..10 {
-        push_all(rt, &mut ring, &[item]);
-        let fault = first_fault(&mut ring, &[GetSigned(-1, Some(item))]);
-        assert_equal(rt, (item, fault), (item, None));
-    }
-}
-
-#[test]
-fn positions_wrap_by_the_length(rt: HostRuntime) {
-    for (name, steps) in OF_EIGHT {
-        on_each!(&rt, 8, answers, name, steps);
-    }
-    on_each!(&rt, 2, answers, "the ends of two", THE_ENDS);
-    let growable = GrowableAllocRingBuffer::new(rt.alloc());
-    answers(&rt, growable, "a new ring wraps below zero", BELOW_ZERO);
-    on_each!(&rt, 4, answers, "writes wrap in four slots", WRAPPED_WRITES);
-    on_each!(&rt, 8, wraps_extreme_positions);
-    on_each!(&rt, 8, reads_the_newest);
 }
 
 /// Calls of a fixed ring of two.
@@ -171,10 +184,10 @@ const GROWABLE: &[(&str, &[Step])] = &[
 #[test]
 fn positions_move_with_the_oldest_item(rt: HostRuntime) {
     for (name, steps) in FIXED_OF_TWO {
-        on_fixed!(&rt, 2, answers, name, steps);
+        answers(&rt, FIXED, 2, name, steps);
     }
     for (name, steps) in GROWABLE {
-        on_growable!(&rt, 2, answers, name, steps);
+        answers(&rt, &[Kind::Growable], 2, name, steps);
     }
 }
 
@@ -234,37 +247,6 @@ impl Indexed for GrowableAllocRingBuffer<i64> {
     }
 }
 
-/// Reads and writes by an index, as by a position.
-fn assert_indexed<R: Indexed + Drop>(rt: &impl Abort, mut ring: R) {
-    assert_steps(rt, &mut ring, &[PushAll(&[2]), Len(1)]);
-    assert_equal(rt, ring.item(0), Some(2));
-    ring.write(0, 5);
-    assert_equal(rt, ring.item(0), Some(5));
-    assert_steps(rt, &mut ring, WRITTEN_BELOW_ZERO);
-    ring.write(4, 8);
-    assert_equal(rt, ring.item(5), Some(9));
-    assert_steps(rt, &mut ring, &[Holds(&[1, 8, 9])]);
-    assert_steps(rt, &mut ring, LENT_FOR_WRITING);
-    ring.write(3, 9);
-    assert_steps(rt, &mut ring, &[Holds(&[9, 2, 3])]);
-}
-
-/// Pushes zeros onto a ring until it is full, extends it, and reads by indexes what that leaves.
-fn assert_extended<R: Indexed + Drop>(
-    rt: &impl Abort,
-    mut ring: R,
-    source: &'static [i64],
-    left: &[i64],
-) {
-    for _ in left {
-        push_all(rt, &mut ring, &[0]);
-    }
-    assert_steps(rt, &mut ring, &[IsFull(true), Extend(source)]);
-    for (index, item) in left.iter().enumerate() {
-        assert_equal(rt, (index, ring.item(index)), (index, Some(*item)));
-    }
-}
-
 #[test]
 fn rings_are_indexed_by_positions(rt: HostRuntime) {
     on_each!(&rt, 8, assert_indexed);
@@ -272,3 +254,36 @@ fn rings_are_indexed_by_positions(rt: HostRuntime) {
     let (source, left) = (&[0, 1, 2, 3, 4, 5, 6, 7, 8, 9], &[2, 3, 4, 5, 6, 7, 8, 9]);
     on_fixed!(&rt, 8, assert_extended, source, left);
 }
+
+/// A ring that is read and written by indexes.
+trait IndexTests: Indexed + Drop {
+    /// Reads and writes by an index, as by a position.
+    fn assert_indexed(mut self, rt: &impl Abort) {
+        assert_steps(rt, &mut self, &[PushAll(&[2]), Len(1)]);
+        assert_equal(rt, self.item(0), Some(2));
+        self.write(0, 5);
+        assert_equal(rt, self.item(0), Some(5));
+        assert_steps(rt, &mut self, WRITTEN_BELOW_ZERO);
+        self.write(4, 8);
+        assert_equal(rt, self.item(5), Some(9));
+        assert_steps(rt, &mut self, &[Holds(&[1, 8, 9])]);
+        assert_steps(rt, &mut self, LENT_FOR_WRITING);
+        self.write(3, 9);
+        assert_steps(rt, &mut self, &[Holds(&[9, 2, 3])]);
+    }
+
+    /// Pushes zeros onto a ring until it is full, extends it, and reads by indexes what that leaves.
+    fn assert_extended(mut self, rt: &impl Abort, source: &'static [i64], left: &[i64]) {
+        for _ in left {
+            push_all(rt, &mut self, &[0]);
+        }
+        assert_steps(rt, &mut self, &[IsFull(true), Extend(source)]);
+        for (index, item) in left.iter().enumerate() {
+            assert_equal(rt, (index, self.item(index)), (index, Some(*item)));
+        }
+    }
+}
+
+impl<S: RingSlots<i64>> IndexTests for FixedRing<i64, S> {}
+
+impl IndexTests for GrowableAllocRingBuffer<i64> {}

@@ -3,14 +3,19 @@
 ghost use Rattle.std.specs.Prelude.{◌-◌, ◌<◌};
 ghost use Rattle.std.specs.Iterator.{at_most};
 
-use super::{answers, answers_in_slots, assert_steps, push_all};
+use super::{answers, assert_steps, push_all};
+use ring_slots::RingSlots;
+use ring_test_support::kinds::{EACH, FIXED, Kind};
 use ring_test_support::steps::Step;
 use ring_test_support::steps::Step::{
     Back, Capacity, Clear, Dequeue, DequeueAll, Enqueue, Extend, Fill, Front, GetSigned, Holds,
-    IsEmpty, IsFull, Len, Push, PushAll, PushToLen, Skip,
+    IsEmpty, IsFull, Len, Push, PushAll, PushToLen, Skip, Slots,
 };
-use ring_test_support::{on_array, on_each, on_fixed, on_growable, on_heap};
-use ringbuffer::{AllocRingBuffer, ConstGenericRingBuffer, DoubleEndedRing, RingBuffer};
+use ring_test_support::{on_each, on_fixed, on_heap};
+use ringbuffer::{
+    AllocRingBuffer, ConstGenericRingBuffer, DoubleEndedRing, FixedRing, GrowableAllocRingBuffer,
+    RingBuffer,
+};
 use std::process::Abort;
 
 /// Calls of a ring of two that overwrites an item.
@@ -124,25 +129,15 @@ const ROUND_THE_SLOTS: &[Step] = &[
 #[test]
 fn a_fixed_ring_overwrites_its_oldest_item(rt: HostRuntime) {
     let source = &[Extend(&[1, 2, 3]), Holds(&[3])];
-    on_fixed!(&rt, 1, answers, "one slot keeps the last", source);
+    answers(&rt, FIXED, 1, "one slot keeps the last", source);
     for (name, steps) in FIXED_OF_TWO {
-        on_fixed!(&rt, 2, answers, name, steps);
+        answers(&rt, FIXED, 2, name, steps);
     }
     for (name, steps) in FIXED_OF_THREE {
-        on_fixed!(&rt, 3, answers, name, steps);
+        answers(&rt, FIXED, 3, name, steps);
     }
-    on_fixed!(&rt, 5, answers, "round the slots", ROUND_THE_SLOTS);
+    answers(&rt, FIXED, 5, "round the slots", ROUND_THE_SLOTS);
     on_fixed!(&rt, 2, gives_its_items_as_a_vector);
-}
-
-/// Overwrites the first of three items, and asks for a vector of the others.
-fn gives_its_items_as_a_vector<R: DoubleEndedRing<i64> + Drop>(
-    rt: &(impl Abort + AllocGlobal),
-    mut ring: R,
-) {
-    assert_steps(rt, &mut ring, OVERWRITES_THE_FIRST);
-    let items = ring.to_vec(rt.alloc()).expect(rt, "memory");
-    assert!(rt; items.as_slice() == [42, 1].as_slice());
 }
 
 /// Calls of a growable ring with room for two.
@@ -190,7 +185,7 @@ const GROWABLE: &[(&str, &[Step])] = &[
 #[test]
 fn a_growable_ring_overwrites_nothing(rt: HostRuntime) {
     for (name, steps) in GROWABLE {
-        on_growable!(&rt, 2, answers, name, steps);
+        answers(&rt, &[Kind::Growable], 2, name, steps);
     }
 }
 
@@ -254,9 +249,9 @@ const SKIPS_NOTHING: &[Step] = &[
 #[test]
 fn items_go_in_and_out_in_order(rt: HostRuntime) {
     for (name, steps) in ROOMY {
-        on_each!(&rt, 8, answers, name, steps);
+        answers(&rt, EACH, 8, name, steps);
     }
-    on_each!(&rt, 2, answers, "an empty ring is skipped", SKIPS_NOTHING);
+    answers(&rt, EACH, 2, "an empty ring is skipped", SKIPS_NOTHING);
 }
 
 /// The capacity that is asked for on the heap, and the slots that are made.
@@ -274,74 +269,98 @@ const SLOTS: &[(usize, usize)] = &[
 #[test]
 fn a_new_ring_is_empty_and_has_its_capacity(rt: HostRuntime) {
     let new = &[Capacity(8), Len(0)];
-    on_fixed!(&rt, 8, answers, "new", new);
-    let array = ConstGenericRingBuffer::<i64, 8>::default();
-    answers(&rt, array, "default", new);
-    let heap = AllocRingBuffer::with_capacity(rt.alloc(), 8).expect(&rt, "memory");
-    answers(&rt, heap, "with_capacity", new);
-    let heap = AllocRingBuffer::with_capacity(rt.alloc(), 2).expect(&rt, "memory");
-    answers(&rt, heap, "with_capacity of two", OVERWRITES_THE_FIRST);
+    answers(&rt, FIXED, 8, "new", new);
+    let mut array = ConstGenericRingBuffer::<i64, 8>::default();
+    assert_steps(&rt, &mut array, new);
+    let mut heap = AllocRingBuffer::with_capacity(rt.alloc(), 8).expect(&rt, "memory");
+    assert_steps(&rt, &mut heap, new);
+    let mut heap = AllocRingBuffer::with_capacity(rt.alloc(), 2).expect(&rt, "memory");
+    assert_steps(&rt, &mut heap, OVERWRITES_THE_FIRST);
     for (exponent, capacity) in [(0, 1), (2, 4), (10, 1024)] {
         let heap = AllocRingBuffer::with_capacity_power_of_2(rt.alloc(), exponent);
-        let steps = &[Capacity(capacity), Len(0)];
-        answers(&rt, heap.expect(&rt, "memory"), "a power of two", steps);
+        let mut heap = heap.expect(&rt, "memory");
+        assert_steps(&rt, &mut heap, &[Capacity(capacity), Len(0)]);
     }
     for (capacity, slots) in SLOTS {
-        assert!(&rt; 0 < *capacity);
-        let heap = AllocRingBuffer::new(rt.alloc(), *capacity).expect(&rt, "memory");
-        answers_in_slots(&rt, heap, *slots, &[Capacity(*capacity)]);
+        let steps = &[Slots(*slots), Capacity(*capacity)];
+        answers(&rt, &[Kind::Heap], *capacity, "slots", steps);
     }
 }
 
 /// Calls of a heap ring of five, in eight slots.
 const IN_EIGHT_SLOTS: &[&[Step]] = &[
     &[
+        Slots(8),
         PushAll(&[0, 1, 2, 3, 4, 5, 6]),
         IsFull(true),
         Holds(&[2, 3, 4, 5, 6]),
+        Slots(8),
     ],
     &[
+        Slots(8),
         PushAll(&[0, 1, 2, 3, 4, 5, 6]),
         Fill(4),
         Holds(&[4, 4, 4, 4, 4]),
         IsFull(true),
         Capacity(5),
+        Slots(8),
     ],
 ];
 
 /// Calls of a heap ring of three, in four slots.
 const IN_FOUR_SLOTS: &[&[Step]] = &[
-    &[PushAll(&[1, 2, 3]), IsFull(true), Holds(&[1, 2, 3])],
-    &[PushAll(&[1, 2, 3, 4]), IsFull(true), Holds(&[2, 3, 4])],
+    &[
+        Slots(4),
+        PushAll(&[1, 2, 3]),
+        IsFull(true),
+        Holds(&[1, 2, 3]),
+        Slots(4),
+    ],
+    &[
+        Slots(4),
+        PushAll(&[1, 2, 3, 4]),
+        IsFull(true),
+        Holds(&[2, 3, 4]),
+        Slots(4),
+    ],
 ];
 
 /// Calls of a ring of one slot.
 const IN_ONE_SLOT: &[&[Step]] = &[
-    &[PushAll(&[1, 2]), Holds(&[2])],
-    &[PushAll(&[0, 1, 2, 3, 4, 5, 6, 7, 8, 9]), Holds(&[9])],
+    &[Slots(1), PushAll(&[1, 2]), Holds(&[2]), Slots(1)],
+    &[
+        Slots(1),
+        PushAll(&[0, 1, 2, 3, 4, 5, 6, 7, 8, 9]),
+        Holds(&[9]),
+        Slots(1),
+    ],
 ];
-
-/// Pushes a thousand items onto a heap ring of three.
-fn keeps_the_last_three<R: DoubleEndedRing<i64> + Drop>(rt: &impl Abort, mut ring: R) {
-    for item in 0..1000 {
-        push_all(rt, &mut ring, &[item]);
-    }
-    answers_in_slots(rt, ring, 4, &[Holds(&[997, 998, 999])]);
-}
 
 #[test]
 fn spare_slots_hold_no_items(rt: HostRuntime) {
     for steps in IN_ONE_SLOT {
-        on_fixed!(&rt, 1, answers_in_slots, 1, steps);
+        answers(&rt, FIXED, 1, "one slot", steps);
     }
     for steps in IN_FOUR_SLOTS {
-        on_heap!(&rt, 3, answers_in_slots, 4, steps);
+        answers(&rt, &[Kind::Heap], 3, "four slots", steps);
     }
     for steps in IN_EIGHT_SLOTS {
-        on_heap!(&rt, 5, answers_in_slots, 8, steps);
+        answers(&rt, &[Kind::Heap], 5, "eight slots", steps);
     }
-    let steps = &[Capacity(50), PushAll(&[5]), Holds(&[5])];
-    on_array!(&rt, 50, answers_in_slots, 50, steps);
+    let steps = &[
+        Slots(50),
+        Capacity(50),
+        PushAll(&[5]),
+        Holds(&[5]),
+        Slots(50),
+    ];
+    answers(
+        &rt,
+        &[Kind::Array],
+        50,
+        "as many slots as its capacity",
+        steps,
+    );
     on_heap!(&rt, 3, keeps_the_last_three);
 }
 
@@ -350,16 +369,6 @@ const LAST_TEN: &[Step] = &[
     DequeueAll(&[990, 991, 992, 993, 994, 995, 996, 997, 998, 999]),
     IsEmpty(true),
 ];
-
-/// Pushes thousands of items, of which a ring of ten keeps the last.
-fn keeps_the_last_ten<R: DoubleEndedRing<i64> + Drop>(rt: &impl Abort, mut ring: R) {
-    for _ in 0..100 {
-        for item in 0..1000 {
-            assert!(rt; ring.enqueue(item).is_ok());
-        }
-        assert_steps(rt, &mut ring, LAST_TEN);
-    }
-}
 
 /// Pushes of 1 and 2, between which the two oldest items leave, which are 1 and 2 as well.
 const COMES_AND_GOES: &[Step] = &[
@@ -373,12 +382,6 @@ const COMES_AND_GOES: &[Step] = &[
     GetSigned(-1, Some(2)),
     GetSigned(-2, Some(1)),
 ];
-
-fn comes_and_goes<R: DoubleEndedRing<i64> + Drop>(rt: &impl Abort, mut ring: R) {
-    for _ in 0..100_000 {
-        assert_steps(rt, &mut ring, COMES_AND_GOES);
-    }
-}
 
 #[test]
 fn items_come_and_go_for_long(rt: HostRuntime) {
@@ -408,16 +411,54 @@ impl Iterator for Numbers {
     }
 }
 
-fn takes_ten_thousand_numbers<R: DoubleEndedRing<i64> + Drop>(rt: &impl Abort, mut ring: R) {
-    let numbers = Numbers {
-        next: 0,
-        end: 10_000,
-    };
-    assert!(rt; ring.extend(numbers).is_ok());
-    assert_steps(rt, &mut ring, &[Holds(&[9998, 9999])]);
-}
-
 #[test]
 fn an_extension_takes_any_source_that_ends(rt: HostRuntime) {
     on_fixed!(&rt, 2, takes_ten_thousand_numbers);
 }
+
+/// A ring that is pushed onto.
+trait Pushed: DoubleEndedRing<i64> + Drop {
+    /// Overwrites the first of three items, and asks for a vector of the others.
+    fn gives_its_items_as_a_vector(mut self, rt: &(impl Abort + AllocGlobal)) {
+        assert_steps(rt, &mut self, OVERWRITES_THE_FIRST);
+        let items = self.to_vec(rt.alloc()).expect(rt, "memory");
+        assert!(rt; items.as_slice() == [42, 1].as_slice());
+    }
+
+    /// Pushes a thousand items onto a heap ring of three.
+    fn keeps_the_last_three(mut self, rt: &impl Abort) {
+        for item in 0..1000 {
+            push_all(rt, &mut self, &[item]);
+        }
+        assert_steps(rt, &mut self, &[Holds(&[997, 998, 999]), Slots(4)]);
+    }
+
+    /// Pushes thousands of items, of which a ring of ten keeps the last.
+    fn keeps_the_last_ten(mut self, rt: &impl Abort) {
+        for _ in 0..100 {
+            for item in 0..1000 {
+                assert!(rt; self.enqueue(item).is_ok());
+            }
+            assert_steps(rt, &mut self, LAST_TEN);
+        }
+    }
+
+    fn comes_and_goes(mut self, rt: &impl Abort) {
+        for _ in 0..100_000 {
+            assert_steps(rt, &mut self, COMES_AND_GOES);
+        }
+    }
+
+    fn takes_ten_thousand_numbers(mut self, rt: &impl Abort) {
+        let numbers = Numbers {
+            next: 0,
+            end: 10_000,
+        };
+        assert!(rt; self.extend(numbers).is_ok());
+        assert_steps(rt, &mut self, &[Holds(&[9998, 9999])]);
+    }
+}
+
+impl<S: RingSlots<i64>> Pushed for FixedRing<i64, S> {}
+
+impl Pushed for GrowableAllocRingBuffer<i64> {}

@@ -1,9 +1,13 @@
 //! Commands, one by one and in runs.
 
 use super::{assert_equal, assert_holds, push_all};
+use ring_slots::RingSlots;
 use ring_test_support::commands::{REPLIES_OF_TWO, every_command};
 use ring_test_support::{on_each, on_fixed, on_growable};
-use ringbuffer::{Command, Refused, Reply, RingBuffer, apply, run, run_into, runs_join};
+use ringbuffer::{
+    Command, FixedRing, GrowableAllocRingBuffer, Refused, Reply, RingBuffer, apply, run, run_into,
+    runs_join,
+};
 use std::process::Abort;
 use std::slice::from_ref;
 
@@ -46,51 +50,11 @@ fn assert_run<R: RingBuffer<i64>>(
     assert_equal(rt, answered.as_slice(), replies);
 }
 
-/// Runs every command, into places and for a list, and finds these replies, and nothing left.
-fn assert_runs<R: RingBuffer<i64> + Drop>(
-    rt: &(impl Abort + AllocGlobal),
-    mut ring: R,
-    replies: &[Reply<i64>],
-) {
-    let commands = every_command(rt.alloc()).expect(rt, "memory");
-    assert_run_into(rt, &mut ring, commands, replies);
-    assert_holds(rt, &ring, &[]);
-    let commands = every_command(rt.alloc()).expect(rt, "memory");
-    assert_run(rt, &mut ring, commands, replies);
-    assert_holds(rt, &ring, &[]);
-}
-
-/// Runs every command by itself, which leaves and replies what one run of all does.
-fn assert_runs_join<R: RingBuffer<i64> + Drop>(rt: &(impl Abort + AllocGlobal), mut ring: R) {
-    runs_join::<i64>();
-    let commands = every_command(rt.alloc()).expect(rt, "memory");
-    for (command, reply) in commands.into_iter().zip(&REPLIES_OF_TWO) {
-        let command = vec![in rt.alloc(); command].expect(rt, "memory");
-        assert_run_into(rt, &mut ring, command, from_ref(reply));
-    }
-    assert_holds(rt, &ring, &[]);
-}
-
 #[test]
 fn a_run_makes_its_replies(rt: HostRuntime) {
     on_fixed!(&rt, 2, assert_runs, &REPLIES_OF_TWO);
     on_growable!(&rt, 2, assert_runs, &REPLIES_WITHOUT_LIMIT);
     on_fixed!(&rt, 2, assert_runs_join);
-}
-
-fn assert_leaves_items<R: RingBuffer<i64> + Drop>(rt: &(impl Abort + AllocGlobal), mut ring: R) {
-    let extension = vec![in rt.alloc(); 1, 2, 3].expect(rt, "memory");
-    let commands = vec![in rt.alloc(); Command::Extend(extension), Command::Push(4)];
-    let replies = [Reply::Extended, Reply::Pushed(Some(2))];
-    assert_run(rt, &mut ring, commands.expect(rt, "memory"), &replies);
-    assert_holds(rt, &ring, &[3, 4]);
-}
-
-fn assert_run_of_nothing<R: RingBuffer<i64> + Drop>(rt: &(impl Abort + AllocGlobal), mut ring: R) {
-    push_all(rt, &mut ring, &[1, 2, 3]);
-    assert_run_into(rt, &mut ring, Vec::new(rt.alloc()), &[]);
-    assert_run(rt, &mut ring, Vec::new(rt.alloc()), &[]);
-    assert_holds(rt, &ring, &[1, 2, 3]);
 }
 
 /// Makes a run of dequeues.
@@ -100,20 +64,6 @@ fn dequeues(rt: &(impl Abort + AllocGlobal), count: usize) -> Vec<Command<i64>> 
         commands.push(Command::Dequeue).expect(rt, "memory");
     }
     commands
-}
-
-/// Takes more than there is.
-fn assert_takes_all<R: RingBuffer<i64> + Drop>(rt: &(impl Abort + AllocGlobal), mut ring: R) {
-    push_all(rt, &mut ring, &[1, 2, 3]);
-    let taken = [Some(1), Some(2), Some(3), None].map(Reply::Dequeued);
-    assert_run_into(rt, &mut ring, dequeues(rt, 4), &taken);
-    assert_holds(rt, &ring, &[]);
-    let answered = run(rt.alloc(), &mut ring, dequeues(rt, 5000));
-    assert_equal(
-        rt,
-        answered.expect(rt, "memory for the replies").len(),
-        5000,
-    );
 }
 
 #[test]
@@ -133,20 +83,86 @@ fn assert_applied<R: RingBuffer<i64>>(
     assert_equal(rt, apply(ring, command), answer);
 }
 
-fn assert_each_command<R: RingBuffer<i64> + Drop>(rt: &(impl Abort + AllocGlobal), mut ring: R) {
-    let ring = &mut ring;
-    assert_applied(rt, ring, Command::Push(1), Ok(Reply::Pushed(None)));
-    let extension = vec![in rt.alloc(); 2, 3, 4].expect(rt, "memory");
-    assert_applied(rt, ring, Command::Extend(extension), Ok(Reply::Extended));
-    assert_holds(rt, ring, &[1, 2, 3, 4]);
-    assert_applied(rt, ring, Command::Dequeue, Ok(Reply::Dequeued(Some(1))));
-    assert_applied(rt, ring, Command::Skip, Ok(Reply::Skipped));
-    assert_holds(rt, ring, &[3, 4]);
-    assert_applied(rt, ring, Command::Clear, Ok(Reply::Cleared));
-    assert_applied(rt, ring, Command::Dequeue, Ok(Reply::Dequeued(None)));
-}
-
 #[test]
 fn a_command_does_what_it_names(rt: HostRuntime) {
     on_each!(&rt, 8, assert_each_command);
 }
+
+/// A ring that commands are run on.
+trait Commanded: RingBuffer<i64> + Drop {
+    /// Runs every command, into places and for a list, and finds these replies, and nothing left.
+    fn assert_runs(mut self, rt: &(impl Abort + AllocGlobal), replies: &[Reply<i64>]) {
+        let commands = every_command(rt.alloc()).expect(rt, "memory");
+        assert_run_into(rt, &mut self, commands, replies);
+        assert_holds(rt, &self, &[]);
+        let commands = every_command(rt.alloc()).expect(rt, "memory");
+        assert_run(rt, &mut self, commands, replies);
+        assert_holds(rt, &self, &[]);
+    }
+
+    /// Runs every command by itself, which leaves and replies what one run of all does.
+    fn assert_runs_join(mut self, rt: &(impl Abort + AllocGlobal)) {
+        runs_join::<i64>();
+        let commands = every_command(rt.alloc()).expect(rt, "memory");
+        for (command, reply) in commands.into_iter().zip(&REPLIES_OF_TWO) {
+            let command = vec![in rt.alloc(); command].expect(rt, "memory");
+            assert_run_into(rt, &mut self, command, from_ref(reply));
+        }
+        assert_holds(rt, &self, &[]);
+    }
+
+    fn assert_leaves_items(mut self, rt: &(impl Abort + AllocGlobal)) {
+        let extension = vec![in rt.alloc(); 1, 2, 3].expect(rt, "memory");
+        let commands = vec![in rt.alloc(); Command::Extend(extension), Command::Push(4)];
+        let replies = [Reply::Extended, Reply::Pushed(Some(2))];
+        assert_run(rt, &mut self, commands.expect(rt, "memory"), &replies);
+        assert_holds(rt, &self, &[3, 4]);
+    }
+
+    fn assert_run_of_nothing(mut self, rt: &(impl Abort + AllocGlobal)) {
+        push_all(rt, &mut self, &[1, 2, 3]);
+        assert_run_into(rt, &mut self, Vec::new(rt.alloc()), &[]);
+        assert_run(rt, &mut self, Vec::new(rt.alloc()), &[]);
+        assert_holds(rt, &self, &[1, 2, 3]);
+    }
+
+    /// Takes more than there is.
+    fn assert_takes_all(mut self, rt: &(impl Abort + AllocGlobal)) {
+        push_all(rt, &mut self, &[1, 2, 3]);
+        let taken = [Some(1), Some(2), Some(3), None].map(Reply::Dequeued);
+        assert_run_into(rt, &mut self, dequeues(rt, 4), &taken);
+        assert_holds(rt, &self, &[]);
+        let answered = run(rt.alloc(), &mut self, dequeues(rt, 5000));
+        assert_equal(
+            rt,
+            answered.expect(rt, "memory for the replies").len(),
+            5000,
+        );
+    }
+
+    fn assert_each_command(mut self, rt: &(impl Abort + AllocGlobal)) {
+        assert_applied(rt, &mut self, Command::Push(1), Ok(Reply::Pushed(None)));
+        let extension = vec![in rt.alloc(); 2, 3, 4].expect(rt, "memory");
+        assert_applied(
+            rt,
+            &mut self,
+            Command::Extend(extension),
+            Ok(Reply::Extended),
+        );
+        assert_holds(rt, &self, &[1, 2, 3, 4]);
+        assert_applied(
+            rt,
+            &mut self,
+            Command::Dequeue,
+            Ok(Reply::Dequeued(Some(1))),
+        );
+        assert_applied(rt, &mut self, Command::Skip, Ok(Reply::Skipped));
+        assert_holds(rt, &self, &[3, 4]);
+        assert_applied(rt, &mut self, Command::Clear, Ok(Reply::Cleared));
+        assert_applied(rt, &mut self, Command::Dequeue, Ok(Reply::Dequeued(None)));
+    }
+}
+
+impl<S: RingSlots<i64>> Commanded for FixedRing<i64, S> {}
+
+impl Commanded for GrowableAllocRingBuffer<i64> {}

@@ -1,13 +1,13 @@
 //! Whole slices in and out.
 
 use super::{assert_equal, assert_steps};
-use ring_slots::RingSlots;
+use ring_slots::{LendsRows, RingSlots};
 use ring_test_support::steps::STARTS;
 use ring_test_support::steps::Step::{Begin, DequeueAll, Extend, Holds, Leaves, PushAll};
 use ring_test_support::{on_array, on_copies, on_each, on_growable, on_heap};
 use ringbuffer::{
     AllocRingBuffer, CopyRingBuffer, DoubleEndedRing, FixedRing, GrowableAllocRingBuffer,
-    RingBuffer, TakesCopies,
+    RingBuffer, ShowsRows, TakesCopies,
 };
 use std::alloc::{AllocError, Global};
 use std::process::Abort;
@@ -105,25 +105,6 @@ const COPIES: &[(&[i64], usize, &[i64])] = &[
     (&[1, 2, 3, 4, 5], 5, &[1, 2, 3, 4, 5, 9]),
 ];
 
-/// Extends by the slice of each row and by its items, and finds the last of all items that the limit allows.
-fn assert_extends<R: Extended + Drop>(rt: &impl Abort, mut ring: R, limit: usize) {
-    for (items, slice, all) in EXTENSIONS {
-        let left = &all[all.len().saturating_sub(limit)..];
-        for start in 0..STARTS {
-            assert_steps(rt, &mut ring, &[Begin(start), PushAll(items)]);
-            assert!(rt; ring.extend_by(slice).is_ok());
-            let again = [
-                DequeueAll(left),
-                Begin(start),
-                PushAll(items),
-                Extend(slice),
-            ];
-            assert_steps(rt, &mut ring, &again);
-            assert_steps(rt, &mut ring, &[DequeueAll(left)]);
-        }
-    }
-}
-
 #[test]
 fn slices_are_put_behind_the_items(rt: HostRuntime) {
     on_heap!(&rt, 4, assert_extends, 4);
@@ -137,44 +118,23 @@ fn slices_are_put_behind_the_items(rt: HostRuntime) {
     assert_equal(&rt, ring.len(), 5000);
 }
 
-/// Copies the items of each row, which begin at each place.
-fn assert_copies<R: Slices + Drop>(rt: &impl Abort, mut ring: R, alloc: Global) {
-    for (items, count, copied) in COPIES {
-        for start in 0..STARTS {
-            assert_steps(rt, &mut ring, &[Begin(start), PushAll(items)]);
-            let copies = ring.to_vec_copied(alloc).expect(rt, "memory");
-            assert_equal(rt, &*copies, items);
-            let mut output = [9; 6];
-            let output = &mut output[..copied.len().min(6)];
-            assert_equal(rt, Slices::copy_to_slice(&ring, output), *count);
-            assert_equal(rt, &*output, copied);
-            assert_steps(rt, &mut ring, &[Holds(items)]);
-            output.fill(9);
-            assert_equal(rt, ring.dequeue_into(output), *count);
-            assert_equal(rt, &*output, copied);
-            assert_steps(rt, &mut ring, &[Leaves(&items[*count..])]);
-        }
-    }
-}
-
 #[test]
 fn items_are_copied_to_slices(rt: HostRuntime) {
     on_each!(&rt, 6, assert_copies, rt.alloc());
     on_heap!(&rt, 8, assert_copies, rt.alloc());
 }
 
-/// Finds the items of a heap ring in two slices only where they go round its slots, and then in one, which is turned round
+/// Finds the items of a ring in two slices only where they go round its slots, and then in one, which is turned round
 /// before one more is pushed.
-fn assert_turned(
+fn assert_turned<S: LendsRows<i64> + ShowsRows<i64>>(
     rt: &impl Abort,
-    ring: &mut AllocRingBuffer<i64>,
+    ring: &mut FixedRing<i64, S>,
     start: usize,
     items: &'static [i64],
 ) {
     assert_steps(rt, ring, &[Begin(start), PushAll(items)]);
-    // The number of slots is a power of two.
     let slots = ring.buffer_size();
-    let to_the_last = slots.saturating_sub(start & slots.wrapping_sub(1));
+    let to_the_last = slots.saturating_sub(start.checked_rem(slots).unwrap_or(0));
     assert_equal(
         rt,
         ring.as_slices(),
@@ -194,17 +154,28 @@ fn assert_turned(
 
 const EIGHT: &[i64] = &[1, 2, 3, 4, 5, 6, 7, 8];
 
+/// Makes one slice of each number of items that a ring of up to eight can hold, from each start.
+fn assert_made_one_slice<S: LendsRows<i64> + ShowsRows<i64>>(
+    rt: &impl Abort,
+    mut ring: FixedRing<i64, S>,
+) {
+    for len in 0..=ring.capacity() {
+        let items = &EIGHT[..len.min(8)];
+        for start in 0..STARTS {
+            assert_turned(rt, &mut ring, start, items);
+        }
+    }
+}
+
 #[test]
 fn items_are_made_one_slice(rt: HostRuntime) -> Result<(), AllocError> {
     for capacity in [1, 2, 3, 5, 8] {
-        let mut ring = AllocRingBuffer::new(rt.alloc(), capacity)?;
-        for len in 0..=capacity {
-            let items = &EIGHT[..len.min(8)];
-            for start in 0..STARTS {
-                assert_turned(&rt, &mut ring, start, items);
-            }
-        }
+        assert_made_one_slice(&rt, AllocRingBuffer::new(rt.alloc(), capacity)?);
     }
+    assert_made_one_slice(&rt, CopyRingBuffer::<i64, 1>::new(7));
+    assert_made_one_slice(&rt, CopyRingBuffer::<i64, 2>::new(7));
+    assert_made_one_slice(&rt, CopyRingBuffer::<i64, 5>::new(7));
+    assert_made_one_slice(&rt, CopyRingBuffer::<i64, 8>::new(7));
     let mut ring = GrowableAllocRingBuffer::with_capacity(rt.alloc(), 5)?;
     for start in 0..STARTS {
         assert_steps(&rt, &mut ring, &[Begin(start), PushAll(&[1, 2, 3, 4, 5])]);
@@ -261,3 +232,56 @@ fn plain_items_are_shown_and_copied(rt: HostRuntime) {
         CopyRingBuffer::new(7),
     );
 }
+
+/// A ring that is extended by slices.
+trait ExtensionTests: Extended + Drop {
+    /// Extends by the slice of each row and by its items, and finds the last of all items that the limit allows.
+    fn assert_extends(mut self, rt: &impl Abort, limit: usize) {
+        for (items, slice, all) in EXTENSIONS {
+            let left = &all[all.len().saturating_sub(limit)..];
+            for start in 0..STARTS {
+                assert_steps(rt, &mut self, &[Begin(start), PushAll(items)]);
+                assert!(rt; self.extend_by(slice).is_ok());
+                let again = [
+                    DequeueAll(left),
+                    Begin(start),
+                    PushAll(items),
+                    Extend(slice),
+                ];
+                assert_steps(rt, &mut self, &again);
+                assert_steps(rt, &mut self, &[DequeueAll(left)]);
+            }
+        }
+    }
+}
+
+impl<S: TakesCopies<i64>> ExtensionTests for FixedRing<i64, S> {}
+
+impl ExtensionTests for GrowableAllocRingBuffer<i64> {}
+
+/// A ring that is copied to slices.
+trait SliceTests: Slices + Drop {
+    /// Copies the items of each row, which begin at each place.
+    fn assert_copies(mut self, rt: &impl Abort, alloc: Global) {
+        for (items, count, copied) in COPIES {
+            for start in 0..STARTS {
+                assert_steps(rt, &mut self, &[Begin(start), PushAll(items)]);
+                let copies = self.to_vec_copied(alloc).expect(rt, "memory");
+                assert_equal(rt, &*copies, items);
+                let mut output = [9; 6];
+                let output = &mut output[..copied.len().min(6)];
+                assert_equal(rt, Slices::copy_to_slice(&self, output), *count);
+                assert_equal(rt, &*output, copied);
+                assert_steps(rt, &mut self, &[Holds(items)]);
+                output.fill(9);
+                assert_equal(rt, self.dequeue_into(output), *count);
+                assert_equal(rt, &*output, copied);
+                assert_steps(rt, &mut self, &[Leaves(&items[*count..])]);
+            }
+        }
+    }
+}
+
+impl<S: RingSlots<i64>> SliceTests for FixedRing<i64, S> {}
+
+impl SliceTests for GrowableAllocRingBuffer<i64> {}

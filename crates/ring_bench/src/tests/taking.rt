@@ -1,9 +1,12 @@
 //! Items taken out of a ring into a vector, on items that begin at each place.
 
 use super::{assert_equal, assert_steps};
+use ring_slots::RingSlots;
 use ring_test_support::on_each;
 use ring_test_support::steps::Step::{Begin, Holds, Leaves, PushAll};
-use ringbuffer::{DoubleEndedRing, DoubleEndedRingExt, RingBufferExt};
+use ringbuffer::{
+    DoubleEndedRing, DoubleEndedRingExt, FixedRing, GrowableAllocRingBuffer, RingBufferExt,
+};
 use std::alloc::Global;
 use std::process::Abort;
 
@@ -25,41 +28,6 @@ const RANGES: &[(usize, usize, &[i64], &[i64])] = &[
     (9, 9, &[], FIVE),
 ];
 
-/// Takes out the items of each range.
-fn gives_the_items_of_a_range<R: DoubleEndedRing<i64> + Drop>(
-    rt: &impl Abort,
-    mut ring: R,
-    alloc: Global,
-) {
-    for place in 0..8 {
-        for (start, end, taken, left) in RANGES {
-            assert_steps(rt, &mut ring, &[Begin(place), PushAll(FIVE)]);
-            let items = ring.drain_range(*start..*end, alloc).expect(rt, "memory");
-            assert_equal(rt, items.as_slice(), *taken);
-            assert_steps(rt, &mut ring, &[Leaves(left)]);
-        }
-    }
-}
-
-/// Takes out the items from each index on, and then the others.
-fn gives_the_items_from_an_index_on<R: DoubleEndedRing<i64> + Drop>(
-    rt: &impl Abort,
-    mut ring: R,
-    alloc: Global,
-) {
-    for place in 0..8 {
-        for at in 0..6usize {
-            assert_steps(rt, &mut ring, &[Begin(place), PushAll(FIVE)]);
-            assert!(rt; at <= ring.len());
-            let later = ring.split_off(at, alloc).expect(rt, "memory");
-            assert_equal(rt, later.as_slice(), &FIVE[at.min(FIVE.len())..]);
-            let sooner = ring.take_all(alloc).expect(rt, "memory");
-            assert_equal(rt, sooner.as_slice(), &FIVE[..at.min(FIVE.len())]);
-            assert_steps(rt, &mut ring, &[Holds(&[])]);
-        }
-    }
-}
-
 #[test]
 fn items_of_a_ring_are_taken_out(rt: HostRuntime) {
     on_each!(&rt, 5, gives_the_items_of_a_range, rt.alloc());
@@ -67,3 +35,37 @@ fn items_of_a_ring_are_taken_out(rt: HostRuntime) {
     on_each!(&rt, 5, gives_the_items_from_an_index_on, rt.alloc());
     on_each!(&rt, 8, gives_the_items_from_an_index_on, rt.alloc());
 }
+
+/// A ring whose items are taken out.
+trait Taken: DoubleEndedRing<i64> + Drop {
+    /// Takes out the items of each range.
+    fn gives_the_items_of_a_range(mut self, rt: &impl Abort, alloc: Global) {
+        for place in 0..8 {
+            for (start, end, taken, left) in RANGES {
+                assert_steps(rt, &mut self, &[Begin(place), PushAll(FIVE)]);
+                let items = self.drain_range(*start..*end, alloc).expect(rt, "memory");
+                assert_equal(rt, items.as_slice(), *taken);
+                assert_steps(rt, &mut self, &[Leaves(left)]);
+            }
+        }
+    }
+
+    /// Takes out the items from each index on, and then the others.
+    fn gives_the_items_from_an_index_on(mut self, rt: &impl Abort, alloc: Global) {
+        for place in 0..8 {
+            for at in 0..6usize {
+                assert_steps(rt, &mut self, &[Begin(place), PushAll(FIVE)]);
+                assert!(rt; at <= self.len());
+                let later = self.split_off(at, alloc).expect(rt, "memory");
+                assert_equal(rt, later.as_slice(), &FIVE[at.min(FIVE.len())..]);
+                let sooner = self.take_all(alloc).expect(rt, "memory");
+                assert_equal(rt, sooner.as_slice(), &FIVE[..at.min(FIVE.len())]);
+                assert_steps(rt, &mut self, &[Holds(&[])]);
+            }
+        }
+    }
+}
+
+impl<S: RingSlots<i64>> Taken for FixedRing<i64, S> {}
+
+impl Taken for GrowableAllocRingBuffer<i64> {}

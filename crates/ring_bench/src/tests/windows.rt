@@ -1,8 +1,9 @@
 //! Windows over each type of ring.
 
 use super::{assert_equal, push_all};
+use ring_slots::RingSlots;
 use ring_test_support::{on_each, on_fixed, on_growable, on_heap};
-use ringbuffer::RingBuffer;
+use ringbuffer::{FixedRing, GrowableAllocRingBuffer, RingBuffer};
 use std::process::Abort;
 use window::WindowSum;
 
@@ -14,21 +15,6 @@ enum Slide {
     ForgetOldest(Option<i64>),
     Sum(i128),
     Len(usize),
-}
-
-/// Asserts what the calls of a window over a ring that holds these samples answer.
-fn assert_slides<R: RingBuffer<i64> + Drop>(
-    rt: &impl Abort,
-    mut ring: R,
-    held: &[i64],
-    slides: &[Slide],
-) {
-    push_all(rt, &mut ring, held);
-    let mut window = WindowSum::new(ring);
-    for (i, slide) in slides.iter().enumerate() {
-        let found = answered(rt, &mut window, *slide);
-        assert_equal(rt, (i, found), (i, *slide));
-    }
 }
 
 /// Does the call. Returns it with what the window answered.
@@ -119,23 +105,40 @@ fn averaged(samples: &[i64], newest: usize) -> (i128, i128) {
     (sum, count)
 }
 
-fn assert_averages<R: RingBuffer<i64> + Drop>(rt: &impl Abort, ring: R) {
-    let samples = series();
-    let mut window = WindowSum::new(ring);
-    for (i, sample) in samples.iter().enumerate() {
-        assert!(rt; window.push(*sample).is_ok());
-        // Only a ring without a limit has too many.
-        if window.len() > AVERAGED {
-            let _ = window.forget_oldest();
-        }
-        let (sum, count) = averaged(&samples, i);
-        let mean = window.sum().checked_div(window.len() as i128);
-        let found = (i, window.sum(), mean);
-        assert_equal(rt, found, (i, sum, sum.checked_div(count)));
-    }
-}
-
 #[test]
 fn a_window_has_a_moving_average(rt: HostRuntime) {
     on_each!(&rt, 10, assert_averages);
 }
+
+/// A ring that a window slides over.
+trait Slid: RingBuffer<i64> + Drop {
+    /// Asserts what the calls of a window over a ring that holds these samples answer.
+    fn assert_slides(mut self, rt: &impl Abort, held: &[i64], slides: &[Slide]) {
+        push_all(rt, &mut self, held);
+        let mut window = WindowSum::new(self);
+        for (i, slide) in slides.iter().enumerate() {
+            let found = answered(rt, &mut window, *slide);
+            assert_equal(rt, (i, found), (i, *slide));
+        }
+    }
+
+    fn assert_averages(self, rt: &impl Abort) {
+        let samples = series();
+        let mut window = WindowSum::new(self);
+        for (i, sample) in samples.iter().enumerate() {
+            assert!(rt; window.push(*sample).is_ok());
+            // Only a ring without a limit has too many.
+            if window.len() > AVERAGED {
+                let _ = window.forget_oldest();
+            }
+            let (sum, count) = averaged(&samples, i);
+            let mean = window.sum().checked_div(window.len() as i128);
+            let found = (i, window.sum(), mean);
+            assert_equal(rt, found, (i, sum, sum.checked_div(count)));
+        }
+    }
+}
+
+impl<S: RingSlots<i64>> Slid for FixedRing<i64, S> {}
+
+impl Slid for GrowableAllocRingBuffer<i64> {}

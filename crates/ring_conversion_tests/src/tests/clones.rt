@@ -1,63 +1,12 @@
 //! Clones of a slice's items pushed onto a ring, and of a ring's items put into a slice, through the trait alone.
 
 use super::{assert_equal, assert_holds};
+use ring_slots::RingSlots;
 use ring_test_support::counted::{Counted, Supply};
 use ring_test_support::{on_each, on_each_of_any, on_fixed};
-use ringbuffer::RingBuffer;
+use ringbuffer::{FixedRing, GrowableAllocRingBuffer, RingBuffer};
 use std::alloc::AllocError;
 use std::process::Abort;
-
-/// Asserts that slices go onto a ring with room for four items as pushes would, and come out of it.
-fn assert_takes_and_gives<R: RingBuffer<i64> + Drop>(rt: &impl Abort, mut ring: R) {
-    assert_equal(
-        rt,
-        RingBuffer::extend_from_slice(&mut ring, &[]).is_ok(),
-        true,
-    );
-    assert_equal(
-        rt,
-        RingBuffer::extend_from_slice(&mut ring, &[1, 2, 3]).is_ok(),
-        true,
-    );
-    assert_holds(rt, &ring, &[1, 2, 3]);
-    let mut two = [9, 9];
-    assert_equal(rt, RingBuffer::copy_to_slice(&ring, &mut two), Ok(2));
-    assert_equal(rt, two, [1, 2]);
-    let _ = ring.dequeue();
-    assert_equal(
-        rt,
-        RingBuffer::extend_from_slice(&mut ring, &[4, 5]).is_ok(),
-        true,
-    );
-    assert_holds(rt, &ring, &[2, 3, 4, 5]);
-    let mut six = [9, 9, 9, 9, 9, 9];
-    assert_equal(rt, RingBuffer::copy_to_slice(&ring, &mut six), Ok(4));
-    assert_equal(rt, six, [2, 3, 4, 5, 9, 9]);
-}
-
-/// Asserts that the newest of many items stay, in a ring of four that begins anywhere.
-fn assert_keeps_the_newest<R: RingBuffer<i64> + Drop>(rt: &impl Abort, mut ring: R) {
-    for first in 0..6 {
-        let items = [first, 11, 12, 13, 14, 15];
-        assert_equal(
-            rt,
-            RingBuffer::extend_from_slice(&mut ring, &items[..3]).is_ok(),
-            true,
-        );
-        assert_equal(
-            rt,
-            RingBuffer::extend_from_slice(&mut ring, &items).is_ok(),
-            true,
-        );
-        assert_holds(rt, &ring, &[12, 13, 14, 15]);
-        assert_equal(
-            rt,
-            RingBuffer::extend_from_slice(&mut ring, &[first]).is_ok(),
-            true,
-        );
-        assert_holds(rt, &ring, &[13, 14, 15, first]);
-    }
-}
 
 #[test]
 fn slices_go_onto_any_ring_and_come_out(rt: HostRuntime) {
@@ -114,3 +63,62 @@ fn a_refused_clone_leaves_those_before_it(rt: HostRuntime) -> Result<(), AllocEr
     on_each_of_any!(&rt, 4, assert_stays_short, &supply);
     Ok(())
 }
+
+/// A ring that was cloned or converted.
+trait ClonedTo: RingBuffer<i64> + Drop {
+    /// Asserts that slices go onto a ring with room for four items as pushes would, and come out of it.
+    fn assert_takes_and_gives(mut self, rt: &impl Abort) {
+        assert_equal(
+            rt,
+            RingBuffer::extend_from_slice(&mut self, &[]).is_ok(),
+            true,
+        );
+        assert_equal(
+            rt,
+            RingBuffer::extend_from_slice(&mut self, &[1, 2, 3]).is_ok(),
+            true,
+        );
+        assert_holds(rt, &self, &[1, 2, 3]);
+        let mut two = [9, 9];
+        assert_equal(rt, RingBuffer::copy_to_slice(&self, &mut two), Ok(2));
+        assert_equal(rt, two, [1, 2]);
+        let _ = self.dequeue();
+        assert_equal(
+            rt,
+            RingBuffer::extend_from_slice(&mut self, &[4, 5]).is_ok(),
+            true,
+        );
+        assert_holds(rt, &self, &[2, 3, 4, 5]);
+        let mut six = [9, 9, 9, 9, 9, 9];
+        assert_equal(rt, RingBuffer::copy_to_slice(&self, &mut six), Ok(4));
+        assert_equal(rt, six, [2, 3, 4, 5, 9, 9]);
+    }
+
+    /// Asserts that the newest of many items stay, in a ring of four that begins anywhere.
+    fn assert_keeps_the_newest(mut self, rt: &impl Abort) {
+        for first in 0..6 {
+            let items = [first, 11, 12, 13, 14, 15];
+            assert_equal(
+                rt,
+                RingBuffer::extend_from_slice(&mut self, &items[..3]).is_ok(),
+                true,
+            );
+            assert_equal(
+                rt,
+                RingBuffer::extend_from_slice(&mut self, &items).is_ok(),
+                true,
+            );
+            assert_holds(rt, &self, &[12, 13, 14, 15]);
+            assert_equal(
+                rt,
+                RingBuffer::extend_from_slice(&mut self, &[first]).is_ok(),
+                true,
+            );
+            assert_holds(rt, &self, &[13, 14, 15, first]);
+        }
+    }
+}
+
+impl<S: RingSlots<i64>> ClonedTo for FixedRing<i64, S> {}
+
+impl ClonedTo for GrowableAllocRingBuffer<i64> {}

@@ -5,7 +5,7 @@ use super::{
     supply,
 };
 use ring_test_support::counted::{Counted, Supply};
-use ring_test_support::{on_each_of_any, on_growable};
+use ring_test_support::{on_each_of_any, on_growable_of_any};
 use ringbuffer::{DoubleEndedRing, RingBuffer, RingBufferIntoIterator, retain};
 use std::process::Abort;
 
@@ -31,7 +31,7 @@ fn assert_push_front_refused<'a, R: DoubleEndedRing<Counted<'a>> + Drop>(
 #[test]
 fn a_refused_push_in_front_hands_its_item_back(rt: HostRuntime) {
     let supply = supply(&rt, 40);
-    on_growable!(&rt, 4, assert_push_front_refused, &supply);
+    on_growable_of_any!(&rt, 4, assert_push_front_refused, &supply);
 }
 
 /// Drops every other item of a full ring by a filter, which needs no memory.

@@ -4,10 +4,14 @@ use super::{
     assert_dropped_after, assert_dropped_with, assert_drops, assert_equal, assert_three, items,
     next, push_first, push_items, supply,
 };
+use ring_slots::RingSlots;
 use ring_test_support::counted::{Counted, Supply};
-use ring_test_support::{on_each_of_any, on_fixed, on_fixed_of_any, on_growable};
+use ring_test_support::{
+    on_each_of_any, on_fixed, on_fixed_of_any, on_growable, on_growable_of_any,
+};
 use ringbuffer::{
-    AllocRingBuffer, Command, RingBuffer, RingBufferDrainingIterator, RingBufferIntoIterator, apply,
+    AllocRingBuffer, Command, FixedRing, GrowableAllocRingBuffer, RingBuffer,
+    RingBufferDrainingIterator, RingBufferIntoIterator, apply,
 };
 use std::process::Abort;
 
@@ -58,9 +62,9 @@ fn assert_drops_overwritten<'a, R: RingBuffer<Counted<'a>> + Drop>(
 fn what_a_push_hands_back_lives_until_it_is_dropped(rt: HostRuntime) {
     let supply = supply(&rt, 4);
     on_fixed_of_any!(&rt, 1, assert_hands_back, &supply, true);
-    on_growable!(&rt, 1, assert_hands_back, &supply, false);
+    on_growable_of_any!(&rt, 1, assert_hands_back, &supply, false);
     on_fixed_of_any!(&rt, 1, assert_drops_overwritten, &supply, 1);
-    on_growable!(&rt, 1, assert_drops_overwritten, &supply, 0);
+    on_growable_of_any!(&rt, 1, assert_drops_overwritten, &supply, 0);
 }
 
 fn assert_ends<'a, R: RingBuffer<Counted<'a>> + Drop>(
@@ -178,7 +182,7 @@ fn assert_applied<'a, R: RingBuffer<Counted<'a>> + Drop>(
 fn an_extension_drops_what_it_overwrites(rt: HostRuntime) {
     let supply = supply(&rt, 5);
     on_fixed_of_any!(&rt, 2, assert_extends, &supply, 1);
-    on_growable!(&rt, 2, assert_extends, &supply, 0);
+    on_growable_of_any!(&rt, 2, assert_extends, &supply, 0);
     on_each_of_any!(&rt, 2, assert_applied, &supply);
 }
 
@@ -218,20 +222,27 @@ fn a_walk_that_takes_hands_its_items_over(rt: HostRuntime) {
     on_each_of_any!(&rt, 4, assert_walk_ends, &supply);
 }
 
-fn assert_takes_nothings<R: RingBuffer<()> + Drop>(rt: &impl Abort, mut ring: R, kept: usize) {
-    for _ in 0..7 {
-        assert!(rt; ring.push(()).is_ok());
-    }
-    let newest = ring.get_signed(-1).copied();
-    assert_equal(rt, (ring.len(), newest), (kept, Some(())));
-    for _ in 0..kept {
-        assert_equal(rt, ring.dequeue(), Some(()));
-    }
-    assert_equal(rt, ring.dequeue(), None);
-}
-
 #[test]
 fn items_may_have_no_size(rt: HostRuntime) {
     on_fixed!(&rt, 5, assert_takes_nothings, 5);
     on_growable!(&rt, 5, assert_takes_nothings, 7);
 }
+
+/// A ring of items without size.
+trait OfNothings: RingBuffer<()> + Drop {
+    fn assert_takes_nothings(mut self, rt: &impl Abort, kept: usize) {
+        for _ in 0..7 {
+            assert!(rt; self.push(()).is_ok());
+        }
+        let newest = self.get_signed(-1).copied();
+        assert_equal(rt, (self.len(), newest), (kept, Some(())));
+        for _ in 0..kept {
+            assert_equal(rt, self.dequeue(), Some(()));
+        }
+        assert_equal(rt, self.dequeue(), None);
+    }
+}
+
+impl<S: RingSlots<()>> OfNothings for FixedRing<(), S> {}
+
+impl OfNothings for GrowableAllocRingBuffer<()> {}

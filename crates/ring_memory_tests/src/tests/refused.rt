@@ -6,12 +6,15 @@ use super::{
     assert_dropped_after, assert_dropped_with, assert_drops, assert_equal, assert_holds,
     assert_numbered, assert_three, drought, items, next, push_all, push_first, push_items, supply,
 };
+use ring_slots::RingSlots;
 use ring_test_support::counted::{Counted, Supply};
 use ring_test_support::drought::{Drought, MOST_STEPS, is_in_turn, spared};
-use ring_test_support::{on_each, on_each_of_any, on_growable, on_heap, refused_in_turn};
+use ring_test_support::{
+    on_each, on_each_of_any, on_growable_of_any, on_heap_of_any, refused_in_turn,
+};
 use ringbuffer::{
-    AllocRingBuffer, Command, ConstGenericRingBuffer, GrowableAllocRingBuffer, Refused, Reply,
-    RingBuffer, RunFault, Stopped, apply, run, run_into,
+    AllocRingBuffer, Command, ConstGenericRingBuffer, CopyRingBuffer, FixedRing,
+    GrowableAllocRingBuffer, Refused, Reply, RingBuffer, RunFault, Stopped, apply, run, run_into,
 };
 use std::alloc::{AllocError, Global};
 use std::mem::size_of;
@@ -171,8 +174,8 @@ fn a_refused_clone_into_a_ring_leaves_those_before_it(rt: HostRuntime) {
 #[test]
 fn a_clone_and_a_list_are_refused_in_turn(rt: HostRuntime) {
     let supply = supply(&rt, 6);
-    on_heap!(&rt, 3, assert_copies_refused, &supply, Copying::Ring);
-    on_growable!(&rt, 0, assert_copies_refused, &supply, Copying::Ring);
+    on_heap_of_any!(&rt, 3, assert_copies_refused, &supply, Copying::Ring);
+    on_growable_of_any!(&rt, 0, assert_copies_refused, &supply, Copying::Ring);
     on_each_of_any!(&rt, 3, assert_copies_refused, &supply, Copying::List);
 }
 
@@ -235,36 +238,6 @@ fn assert_holds_all<R: RingBuffer<i64>>(rt: &impl Abort, ring: &R, times: usize,
     for i in 0..times {
         assert_equal(rt, ring.get(i).copied(), Some(item));
     }
-}
-
-/// Fills a ring in a drought, with what it had room for before: so memory is refused to nothing except a clone.
-fn assert_fills_take_none<R: RingBuffer<i64> + Drop>(rt: &(impl Abort + AllocGlobal), mut ring: R) {
-    push_all(rt, &mut ring, &[1, 2]);
-    let capacity = ring.capacity();
-    let drought = drought(rt, 0);
-    assert!(rt; ring.fill_default().is_ok());
-    assert_holds_all(rt, &ring, capacity, 0);
-    assert!(rt; ring.fill(7).is_ok());
-    assert_holds_all(rt, &ring, capacity, 7);
-    assert!(rt; ring.fill_with(|| 8).is_ok());
-    assert_holds_all(rt, &ring, capacity, 8);
-    drop(drought);
-}
-
-/// Compares a ring with its clone, and then with a shorter one.
-fn assert_comparison_takes_none<R: RingBuffer<i64> + PartialEq + Clone + Drop>(
-    rt: &(impl Abort + AllocGlobal),
-    mut one: R,
-) {
-    push_all(rt, &mut one, &[1, 2]);
-    let mut other = one.clone().expect(rt, "memory");
-    let drought = drought(rt, 0);
-    let equal = one == other;
-    other.skip();
-    let differ = one != other;
-    drop(drought);
-    assert_equal(rt, (equal, differ), (true, true));
-    assert_holds(rt, &one, &[1, 2]);
 }
 
 #[test]
@@ -461,7 +434,7 @@ fn assert_push_refused<'a, R: RingBuffer<Counted<'a>> + Drop>(
 #[test]
 fn a_refused_push_hands_its_item_back(rt: HostRuntime) {
     let supply = supply(&rt, 40);
-    on_growable!(&rt, 4, assert_push_refused, &supply);
+    on_growable_of_any!(&rt, 4, assert_push_refused, &supply);
 }
 
 // How many items the extensions below have.
@@ -774,3 +747,48 @@ fn places_hold_the_replies_before_a_refusal(rt: HostRuntime) {
     );
     assert!(rt; is_in_turn(refused) && refused > 1);
 }
+
+/// A ring that is filled while memory is refused.
+trait FilledWithNone: RingBuffer<i64> + Drop {
+    /// Fills a ring in a drought, with what it had room for before: so memory is refused to nothing except a clone.
+    fn assert_fills_take_none(mut self, rt: &(impl Abort + AllocGlobal)) {
+        push_all(rt, &mut self, &[1, 2]);
+        let capacity = self.capacity();
+        let drought = drought(rt, 0);
+        assert!(rt; self.fill_default().is_ok());
+        assert_holds_all(rt, &self, capacity, 0);
+        assert!(rt; self.fill(7).is_ok());
+        assert_holds_all(rt, &self, capacity, 7);
+        assert!(rt; self.fill_with(|| 8).is_ok());
+        assert_holds_all(rt, &self, capacity, 8);
+        drop(drought);
+    }
+}
+
+impl<S: RingSlots<i64>> FilledWithNone for FixedRing<i64, S> {}
+
+impl FilledWithNone for GrowableAllocRingBuffer<i64> {}
+
+/// A ring that is compared while memory is refused.
+trait ComparedWithNone: RingBuffer<i64> + PartialEq + Clone + Drop {
+    /// Compares a ring with its clone, and then with a shorter one.
+    fn assert_comparison_takes_none(&mut self, rt: &(impl Abort + AllocGlobal)) {
+        push_all(rt, self, &[1, 2]);
+        let mut other = self.clone().expect(rt, "memory");
+        let drought = drought(rt, 0);
+        let equal = *self == other;
+        other.skip();
+        let differ = *self != other;
+        drop(drought);
+        assert_equal(rt, (equal, differ), (true, true));
+        assert_holds(rt, self, &[1, 2]);
+    }
+}
+
+impl<const CAP: usize> ComparedWithNone for ConstGenericRingBuffer<i64, CAP> {}
+
+impl<const CAP: usize> ComparedWithNone for CopyRingBuffer<i64, CAP> {}
+
+impl ComparedWithNone for AllocRingBuffer<i64> {}
+
+impl ComparedWithNone for GrowableAllocRingBuffer<i64> {}

@@ -3,7 +3,10 @@
 use super::items::Maker;
 use super::player::{Done, Player};
 use super::rings::Played;
-use ringbuffer::{DoubleEndedRing, RingBufferDrainingIterator, RingBufferIntoIterator};
+use ringbuffer::{
+    DoubleEndedRing, DoubleEndedRingExt, RingBufferDrainingIterator, RingBufferExt,
+    RingBufferIntoIterator,
+};
 use std::alloc::AllocError;
 
 // Takes items from both ends of a walk that hands them out.
@@ -26,7 +29,7 @@ pub fn play<T: Clone + Drop, M: Maker<T>, R: Played<T>>(
     ring: &mut R,
     player: &mut Player<M>,
 ) -> Done {
-    match player.up_to(9) {
+    match player.up_to(10) {
         0 => return push_front(ring, player),
         1 => player.note_taken(ring.pop_back()),
         2 => ring.truncate(player.kept_of(ring.len())),
@@ -34,6 +37,7 @@ pub fn play<T: Clone + Drop, M: Maker<T>, R: Played<T>>(
         4 => return ring.extend_by_std(player.items()?),
         5 => take!(RingBufferDrainingIterator::new(ring), player),
         6 => take!(RingBufferIntoIterator::new(ring.clone()?), player),
+        7 => return take_out(ring, player),
         _ => play_middle(ring, player),
     }
     Ok(())
@@ -62,6 +66,24 @@ fn play_middle<T: Clone + Drop, M: Maker<T>, R: DoubleEndedRing<T>>(
             ring.remove_range(index..end);
         }
     }
+}
+
+// Takes out all items, those from an index on, or those of a range.
+fn take_out<T: Clone + Drop, M: Maker<T>, R: DoubleEndedRing<T>>(
+    ring: &mut R,
+    player: &mut Player<M>,
+) -> Done {
+    let (index, alloc) = (player.up_to(ring.len()), player.alloc);
+    let taken = match player.up_to(2) {
+        0 => ring.take_all(alloc)?,
+        1 => ring.split_off(index, alloc)?,
+        _ => {
+            let end = player.up_to(ring.len().saturating_add(2));
+            ring.drain_range(index..end, alloc)?
+        }
+    };
+    player.note_each(&taken);
+    Ok(())
 }
 
 fn push_front<T: Clone + Drop, M: Maker<T>, R: DoubleEndedRing<T>>(

@@ -5,9 +5,10 @@ use super::comparing;
 use super::items::{Maker, Wide};
 use super::makers::Made;
 use super::player::{Done, Player};
+use ring_slots::RingSlots;
 use ringbuffer::{
-    AllocRingBuffer, ConstGenericRingBuffer, CopyRingBuffer, DoubleEndedRing,
-    GrowableAllocRingBuffer, RingBuffer, move_all,
+    AllocRingBuffer, ConstGenericRingBuffer, CopyRingBuffer, DoubleEndedRing, FixedRing,
+    GrowableAllocRingBuffer, RingBuffer, TakesCopies, move_all,
 };
 use std::alloc::AllocError;
 use std::collections::VecDeque;
@@ -76,29 +77,42 @@ macro_rules! play_ends {
 }
 
 // Calls of fixed rings.
-macro_rules! play_middle {
-    ($ring:expr, $player:expr) => {{
-        let (item, index) = ($player.item(), $player.up_to($ring.len()));
-        match $player.up_to(7) {
-            0 => $player.note_taken($ring.try_push(item).err()),
-            1 => $player.note_taken($ring.push_front(item)),
-            2 => $player.note_taken($ring.insert(index, item).err()),
-            3 => $player.note_taken($ring.remove(index)),
-            4 => $ring.rotate_left(index),
-            5 => $ring.rotate_right(index),
-            6 => {
-                let other = $player.up_to($ring.len());
-                if index < $ring.len() && other < $ring.len() {
-                    $ring.swap(index, other);
-                }
-            }
-            _ => {
-                $player.note($ring.capacity() as u64);
-                $player.note($ring.buffer_size() as u64);
-                $player.note($ring.is_full() as u64);
+fn play_middle<T: Clone + Drop, M: Maker<T>, S: RingSlots<T>>(
+    ring: &mut FixedRing<T, S>,
+    player: &mut Player<M>,
+) {
+    let (item, index) = (player.item(), player.up_to(ring.len()));
+    match player.up_to(7) {
+        0 => player.note_taken(ring.try_push(item).err()),
+        1 => player.note_taken(ring.push_front(item)),
+        2 => player.note_taken(ring.insert(index, item).err()),
+        3 => player.note_taken(ring.remove(index)),
+        4 => ring.rotate_left(index),
+        5 => ring.rotate_right(index),
+        6 => {
+            let other = player.up_to(ring.len());
+            if index < ring.len() && other < ring.len() {
+                ring.swap(index, other);
             }
         }
-    }};
+        _ => {
+            player.note(ring.capacity() as u64);
+            player.note(ring.buffer_size() as u64);
+            player.note(ring.is_full() as u64);
+        }
+    }
+}
+
+// Calls at the ends of fixed rings, by an index, and of their clones.
+fn play_fixed_ends<T: Clone + Drop, M: Maker<T>, S: RingSlots<T>>(
+    ring: &mut FixedRing<T, S>,
+    player: &mut Player<M>,
+) -> Done
+where
+    FixedRing<T, S>: Clone,
+{
+    play_ends!(ring, player);
+    Ok(())
 }
 
 // Calls of rings that lie in memory of their own.
@@ -158,21 +172,62 @@ macro_rules! play_copies {
     }};
 }
 
+// Calls of fixed rings that copy items, or compare them.
+fn play_fixed_copies<T: Plain, M: Maker<T>, S: TakesCopies<T>>(
+    ring: &mut FixedRing<T, S>,
+    player: &mut Player<M>,
+) -> Done
+where
+    FixedRing<T, S>: Clone,
+{
+    play_copies!(ring, player, items, ring.extend_from_slice(&items))
+}
+
+// Calls of rings in an array, but for copies onto another ring.
+fn play_array<T: Clone + Drop, M: Maker<T>, S: RingSlots<T>>(
+    call: usize,
+    ring: &mut FixedRing<T, S>,
+    player: &mut Player<M>,
+) -> Done
+where
+    FixedRing<T, S>: Clone,
+{
+    match call {
+        0..=6 => return play_fixed_ends(ring, player),
+        7..=13 => play_middle(ring, player),
+        _ => return fill(ring, player),
+    }
+    Ok(())
+}
+
+// Calls of rings in an array that copy items, or compare them.
+fn play_array_copies<T: Plain, M: Maker<T>, S: TakesCopies<T>>(
+    ring: &mut FixedRing<T, S>,
+    player: &mut Player<M>,
+) -> Done
+where
+    FixedRing<T, S>: Clone,
+{
+    match player.up_to(3) {
+        0..=1 => return play_fixed_copies(ring, player),
+        2 => player.note_each(&ring.to_vec_copied(player.alloc)?),
+        _ => return comparing::play(ring, player),
+    }
+    Ok(())
+}
+
 impl<T: Clone + Drop, const CAP: usize> Played<T> for ConstGenericRingBuffer<T, CAP> {
     fn play_own<M: Maker<T>>(&mut self, player: &mut Player<M>) -> Done {
-        match player.up_to(15) {
-            0..=6 => play_ends!(self, player),
-            7..=13 => play_middle!(self, player),
-            14 => fill(self, player)?,
-            _ => {
-                let items: Vec<T> = player.items()?;
-                if 0 < CAP {
-                    let mut ring = ConstGenericRingBuffer::<T, CAP>::from_iter(items);
-                    player.note_ring(&ring);
-                    self.clone_into(&mut ring)?;
-                    player.note_ring(&ring);
-                }
-            }
+        let call = player.up_to(15);
+        if call < 15 {
+            return play_array(call, self, player);
+        }
+        let items: Vec<T> = player.items()?;
+        if 0 < CAP {
+            let mut ring = ConstGenericRingBuffer::<T, CAP>::from_iter(items);
+            player.note_ring(&ring);
+            self.clone_into(&mut ring)?;
+            player.note_ring(&ring);
         }
         Ok(())
     }
@@ -184,31 +239,23 @@ impl<T: Clone + Drop, const CAP: usize> Played<T> for ConstGenericRingBuffer<T, 
 
 impl<T: Plain, const CAP: usize> PlayedCopies<T> for ConstGenericRingBuffer<T, CAP> {
     fn play_copies<M: Maker<T>>(&mut self, player: &mut Player<M>) -> Done {
-        match player.up_to(3) {
-            0..=1 => return play_copies!(self, player, items, self.extend_from_slice(&items)),
-            2 => player.note_each(&self.to_vec_copied(player.alloc)?),
-            _ => comparing::play(self, player)?,
-        }
-        Ok(())
+        play_array_copies(self, player)
     }
 }
 
 /// The calls are those of array rings, so that the answers are.
 impl<T: Plain, const CAP: usize> Played<T> for CopyRingBuffer<T, CAP> {
     fn play_own<M: Maker<T>>(&mut self, player: &mut Player<M>) -> Done {
-        match player.up_to(15) {
-            0..=6 => play_ends!(self, player),
-            7..=13 => play_middle!(self, player),
-            14 => fill(self, player)?,
-            _ => {
-                let items: Vec<T> = player.items()?;
-                if 0 < CAP {
-                    let mut ring = CopyRingBuffer::<T, CAP>::from_iter(T::default(), items);
-                    player.note_ring(&ring);
-                    self.copy_into(&mut ring);
-                    player.note_ring(&ring);
-                }
-            }
+        let call = player.up_to(15);
+        if call < 15 {
+            return play_array(call, self, player);
+        }
+        let items: Vec<T> = player.items()?;
+        if 0 < CAP {
+            let mut ring = CopyRingBuffer::<T, CAP>::from_iter(T::default(), items);
+            player.note_ring(&ring);
+            self.copy_into(&mut ring);
+            player.note_ring(&ring);
         }
         Ok(())
     }
@@ -220,20 +267,15 @@ impl<T: Plain, const CAP: usize> Played<T> for CopyRingBuffer<T, CAP> {
 
 impl<T: Plain, const CAP: usize> PlayedCopies<T> for CopyRingBuffer<T, CAP> {
     fn play_copies<M: Maker<T>>(&mut self, player: &mut Player<M>) -> Done {
-        match player.up_to(3) {
-            0..=1 => return play_copies!(self, player, items, self.extend_from_slice(&items)),
-            2 => player.note_each(&self.to_vec_copied(player.alloc)?),
-            _ => comparing::play(self, player)?,
-        }
-        Ok(())
+        play_array_copies(self, player)
     }
 }
 
 impl<T: Clone + Drop> Played<T> for AllocRingBuffer<T> {
     fn play_own<M: Maker<T>>(&mut self, player: &mut Player<M>) -> Done {
         match player.up_to(16) {
-            0..=5 => play_ends!(self, player),
-            6..=11 => play_middle!(self, player),
+            0..=5 => play_fixed_ends(self, player)?,
+            6..=11 => play_middle(self, player),
             12 => play_slices!(self, player),
             13 => self.set_capacity(player.up_to(299) + 1)?,
             14 => fill(self, player)?,
@@ -256,7 +298,7 @@ impl<T: Clone + Drop> Played<T> for AllocRingBuffer<T> {
 impl<T: Plain> PlayedCopies<T> for AllocRingBuffer<T> {
     fn play_copies<M: Maker<T>>(&mut self, player: &mut Player<M>) -> Done {
         match player.up_to(8) {
-            0..=3 => return play_copies!(self, player, items, self.extend_from_slice(&items)),
+            0..=3 => return play_fixed_copies(self, player),
             4..=6 => comparing::play(self, player)?,
             7 => player.note_each(&self.to_vec_copied(player.alloc)?),
             _ => {
@@ -269,10 +311,27 @@ impl<T: Plain> PlayedCopies<T> for AllocRingBuffer<T> {
     }
 }
 
+// Calls at the ends of growable rings, by an index, and of their clones.
+fn play_growable_ends<T: Clone + Drop, M: Maker<T>>(
+    ring: &mut GrowableAllocRingBuffer<T>,
+    player: &mut Player<M>,
+) -> Done {
+    play_ends!(ring, player);
+    Ok(())
+}
+
+// Calls of growable rings that copy items, or compare them.
+fn play_growable_copies<T: Plain, M: Maker<T>>(
+    ring: &mut GrowableAllocRingBuffer<T>,
+    player: &mut Player<M>,
+) -> Done {
+    play_copies!(ring, player, items, ring.extend_from_slice(&items)?)
+}
+
 impl<T: Clone + Drop> Played<T> for GrowableAllocRingBuffer<T> {
     fn play_own<M: Maker<T>>(&mut self, player: &mut Player<M>) -> Done {
         match player.up_to(8) {
-            0..=4 => play_ends!(self, player),
+            0..=4 => play_growable_ends(self, player)?,
             5 => play_slices!(self, player),
             6 => {
                 let len = self.len();
@@ -293,7 +352,7 @@ impl<T: Clone + Drop> Played<T> for GrowableAllocRingBuffer<T> {
 impl<T: Plain> PlayedCopies<T> for GrowableAllocRingBuffer<T> {
     fn play_copies<M: Maker<T>>(&mut self, player: &mut Player<M>) -> Done {
         match player.up_to(8) {
-            0..=3 => return play_copies!(self, player, items, self.extend_from_slice(&items)?),
+            0..=3 => return play_growable_copies(self, player),
             4..=6 => comparing::play(self, player)?,
             7 => player.note_each(&self.to_vec_copied(player.alloc)?),
             _ => {

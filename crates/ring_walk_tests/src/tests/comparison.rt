@@ -1,10 +1,11 @@
 //! Equality, clones and what `{:?}` writes.
 
 use super::{assert_equal, assert_holds, assert_steps, push_all};
+use ring_slots::RingSlots;
 use ring_test_support::steps::Step;
 use ring_test_support::{on_fixed, on_growable, on_heap};
 use ringbuffer::{
-    AllocRingBuffer, ConstGenericRingBuffer, CopyRingBuffer, DoubleEndedRing,
+    AllocRingBuffer, ConstGenericRingBuffer, CopyRingBuffer, DoubleEndedRing, FixedRing,
     GrowableAllocRingBuffer, RingBuffer,
 };
 use std::alloc::AllocError;
@@ -83,51 +84,12 @@ fn heap_rings_of_two_capacities_differ(rt: HostRuntime) -> Result<(), AllocError
     Ok(())
 }
 
-/// Pushes the items `before`, then some more, then the same onto the ring and its clone. Both then hold the items `held`.
-/// On a fixed ring those in `before` are overwritten.
-fn assert_stays_equal<R: RingBuffer<i64> + PartialEq + Clone + Drop>(
-    rt: &impl Abort,
-    mut ring: R,
-    before: &[i64],
-    held: &[i64],
-) {
-    push_all(rt, &mut ring, before);
-    push_all(rt, &mut ring, &[42, 32, 22]);
-    let mut twin = ring.clone().expect(rt, "memory");
-    assert_compares(rt, &twin, &ring, true);
-    push_all(rt, &mut ring, &[11, 12]);
-    push_all(rt, &mut twin, &[11, 12]);
-    assert_compares(rt, &twin, &ring, true);
-    assert_holds(rt, &ring, held);
-    assert_holds(rt, &twin, held);
-}
-
 #[test]
 fn a_clone_stays_equal_under_the_same_pushes(rt: HostRuntime) {
     on_fixed!(&rt, 4, assert_stays_equal, &[], &[32, 22, 11, 12]);
     // The items that are cloned lie in two pieces.
     on_fixed!(&rt, 4, assert_stays_equal, &[1, 2], &[32, 22, 11, 12]);
     on_growable!(&rt, 4, assert_stays_equal, &[], &[42, 32, 22, 11, 12]);
-}
-
-/// Clones an empty ring.
-fn assert_cloned_empty<R: RingBuffer<i64> + PartialEq + Clone + Drop>(rt: &impl Abort, ring: R) {
-    let twin = ring.clone().expect(rt, "memory");
-    assert_compares(rt, &twin, &ring, true);
-    assert_holds(rt, &twin, &[]);
-}
-
-/// Pushes onto a clone, which leaves its source.
-fn assert_source_is_left<R: RingBuffer<i64> + PartialEq + Clone + Drop>(
-    rt: &impl Abort,
-    mut ring: R,
-) {
-    push_all(rt, &mut ring, &[1, 2]);
-    let mut twin = ring.clone().expect(rt, "memory");
-    push_all(rt, &mut twin, &[11, 12]);
-    assert_holds(rt, &ring, &[1, 2]);
-    assert_holds(rt, &twin, &[1, 2, 11, 12]);
-    assert_compares(rt, &twin, &ring, false);
 }
 
 #[test]
@@ -137,7 +99,7 @@ fn pushes_on_a_clone_leave_the_source(rt: HostRuntime) {
     on_growable!(&rt, 0, assert_cloned_empty);
     on_fixed!(&rt, 4, assert_source_is_left);
     on_growable!(&rt, 0, assert_source_is_left);
-    assert_source_is_left(&rt, GrowableAllocRingBuffer::new(rt.alloc()));
+    GrowableAllocRingBuffer::new(rt.alloc()).assert_source_is_left(&rt);
 }
 
 /// Leaves a full ring of five.
@@ -171,17 +133,6 @@ const WRITTEN: &[(&[i64], &str, &str)] = &[
     (&[0, 1, 20, -3, 4], "[20, -3, 4]", "[0, 1, 20, -3, 4]"),
 ];
 
-fn assert_writes<R: RingBuffer<i64> + Debug + Drop>(
-    rt: &(impl Abort + AllocGlobal),
-    mut ring: R,
-    items: &[i64],
-    text: &str,
-) {
-    push_all(rt, &mut ring, items);
-    let written = format!(in rt.alloc(); "{ring:?}").expect(rt, "memory");
-    assert_equal(rt, written.as_str(), text);
-}
-
 #[test]
 fn a_ring_writes_its_items_oldest_first(rt: HostRuntime) {
     for (items, fixed, growable) in WRITTEN {
@@ -189,3 +140,58 @@ fn a_ring_writes_its_items_oldest_first(rt: HostRuntime) {
         on_growable!(&rt, 0, assert_writes, items, growable);
     }
 }
+
+/// A ring that is compared with its clones.
+trait Compared: RingBuffer<i64> + PartialEq + Clone + Drop {
+    /// Pushes the items `before`, then some more, then the same onto the ring and its clone. Both then hold the items `held`.
+    /// On a fixed ring those in `before` are overwritten.
+    fn assert_stays_equal(&mut self, rt: &impl Abort, before: &[i64], held: &[i64]) {
+        push_all(rt, self, before);
+        push_all(rt, self, &[42, 32, 22]);
+        let mut twin = self.clone().expect(rt, "memory");
+        assert_compares(rt, &twin, self, true);
+        push_all(rt, self, &[11, 12]);
+        push_all(rt, &mut twin, &[11, 12]);
+        assert_compares(rt, &twin, self, true);
+        assert_holds(rt, self, held);
+        assert_holds(rt, &twin, held);
+    }
+
+    /// Clones an empty ring.
+    fn assert_cloned_empty(&mut self, rt: &impl Abort) {
+        let twin = self.clone().expect(rt, "memory");
+        assert_compares(rt, &twin, self, true);
+        assert_holds(rt, &twin, &[]);
+    }
+
+    /// Pushes onto a clone, which leaves its source.
+    fn assert_source_is_left(&mut self, rt: &impl Abort) {
+        push_all(rt, self, &[1, 2]);
+        let mut twin = self.clone().expect(rt, "memory");
+        push_all(rt, &mut twin, &[11, 12]);
+        assert_holds(rt, self, &[1, 2]);
+        assert_holds(rt, &twin, &[1, 2, 11, 12]);
+        assert_compares(rt, &twin, self, false);
+    }
+}
+
+impl<const CAP: usize> Compared for ConstGenericRingBuffer<i64, CAP> {}
+
+impl<const CAP: usize> Compared for CopyRingBuffer<i64, CAP> {}
+
+impl Compared for AllocRingBuffer<i64> {}
+
+impl Compared for GrowableAllocRingBuffer<i64> {}
+
+/// A ring that is printed.
+trait Printed: RingBuffer<i64> + Debug + Drop {
+    fn assert_writes(mut self, rt: &(impl Abort + AllocGlobal), items: &[i64], text: &str) {
+        push_all(rt, &mut self, items);
+        let written = format!(in rt.alloc(); "{self:?}").expect(rt, "memory");
+        assert_equal(rt, written.as_str(), text);
+    }
+}
+
+impl<S: RingSlots<i64>> Printed for FixedRing<i64, S> {}
+
+impl Printed for GrowableAllocRingBuffer<i64> {}

@@ -1,9 +1,13 @@
 //! Reading walks over a range of indexes.
 
 use super::{assert_equal, assert_steps, push_all};
+use ring_slots::RingSlots;
 use ring_test_support::on_each;
 use ring_test_support::steps::Step;
-use ringbuffer::{DoubleEndedRing, RingBuffer, RingBufferExt, RingBufferIterator};
+use ringbuffer::{
+    DoubleEndedRing, FixedRing, GrowableAllocRingBuffer, RingBuffer, RingBufferExt,
+    RingBufferIterator,
+};
 use std::ops::{Bound, RangeBounds};
 use std::process::Abort;
 
@@ -53,38 +57,45 @@ const RANGES: &[(usize, usize, &[i64])] = &[
     (usize::MAX, usize::MAX, &[]),
 ];
 
-fn assert_ranges<R: DoubleEndedRing<i64> + Drop>(rt: &impl Abort, mut ring: R) {
-    assert_range(rt, &ring, .., &[]);
-    assert_range(rt, &ring, 0..3, &[]);
-    assert_steps(rt, &mut ring, FROM_ONE_TO_SEVEN);
-    for (from, to, items) in RANGES {
-        assert_range(rt, &ring, *from..*to, items);
-    }
-    assert_range(rt, &ring, .., &[1, 2, 3, 4, 5, 6, 7]);
-    assert_range(rt, &ring, 5.., &[6, 7]);
-    assert_range(rt, &ring, ..2, &[1, 2]);
-    assert_range(rt, &ring, 1..=2, &[2, 3]);
-    assert_range(rt, &ring, ..=usize::MAX, &[1, 2, 3, 4, 5, 6, 7]);
-    let after_the_fifth = (Bound::Excluded(4), Bound::Unbounded);
-    assert_range(rt, &ring, after_the_fifth, &[6, 7]);
-    let after_all = (Bound::Excluded(usize::MAX), Bound::Unbounded);
-    assert_range(rt, &ring, after_all, &[]);
-}
-
-/// Reads a range from both ends.
-fn assert_both_ends<R: DoubleEndedRing<i64> + Drop>(rt: &impl Abort, mut ring: R) {
-    assert_steps(rt, &mut ring, FROM_ONE_TO_SEVEN);
-    let mut walk = ring.range(1..6);
-    assert_equal(rt, walk.next_back().copied(), Some(6));
-    assert_equal(rt, walk.nth(1).copied(), Some(3));
-    assert_gives(rt, walk, &[4, 5]);
-    let walk = ring.range(1..3);
-    assert_equal(rt, walk.last().copied(), Some(3));
-}
-
 #[test]
 fn a_range_is_read(rt: HostRuntime) {
     on_each!(&rt, 8, assert_ranges);
     on_each!(&rt, 7, assert_ranges);
     on_each!(&rt, 8, assert_both_ends);
 }
+
+/// A ring whose ranges are walked over.
+trait Ranged: DoubleEndedRing<i64> + Drop {
+    fn assert_ranges(mut self, rt: &impl Abort) {
+        assert_range(rt, &self, .., &[]);
+        assert_range(rt, &self, 0..3, &[]);
+        assert_steps(rt, &mut self, FROM_ONE_TO_SEVEN);
+        for (from, to, items) in RANGES {
+            assert_range(rt, &self, *from..*to, items);
+        }
+        assert_range(rt, &self, .., &[1, 2, 3, 4, 5, 6, 7]);
+        assert_range(rt, &self, 5.., &[6, 7]);
+        assert_range(rt, &self, ..2, &[1, 2]);
+        assert_range(rt, &self, 1..=2, &[2, 3]);
+        assert_range(rt, &self, ..=usize::MAX, &[1, 2, 3, 4, 5, 6, 7]);
+        let after_the_fifth = (Bound::Excluded(4), Bound::Unbounded);
+        assert_range(rt, &self, after_the_fifth, &[6, 7]);
+        let after_all = (Bound::Excluded(usize::MAX), Bound::Unbounded);
+        assert_range(rt, &self, after_all, &[]);
+    }
+
+    /// Reads a range from both ends.
+    fn assert_both_ends(mut self, rt: &impl Abort) {
+        assert_steps(rt, &mut self, FROM_ONE_TO_SEVEN);
+        let mut walk = self.range(1..6);
+        assert_equal(rt, walk.next_back().copied(), Some(6));
+        assert_equal(rt, walk.nth(1).copied(), Some(3));
+        assert_gives(rt, walk, &[4, 5]);
+        let walk = self.range(1..3);
+        assert_equal(rt, walk.last().copied(), Some(3));
+    }
+}
+
+impl<S: RingSlots<i64>> Ranged for FixedRing<i64, S> {}
+
+impl Ranged for GrowableAllocRingBuffer<i64> {}

@@ -5,7 +5,7 @@ use Pass::{Beyond, From};
 use ring_slots::RingSlots;
 use ring_test_support::steps::End::{self, Back, Front};
 use ring_test_support::steps::Step::{
-    self, Adds, Clear, Contains, Drains, Holds, Len, Lends, PushAll, Reads, Skip,
+    self, Adds, Begin, Clear, Contains, Drains, Holds, Len, Lends, PushAll, Reads, Skip,
 };
 use ring_test_support::{on_each, on_each_of_any, on_fixed, on_growable};
 use ringbuffer::{
@@ -36,37 +36,6 @@ const WALKS: &[(&[i64], &[End], &[i64])] = &[
         &[1, 2, 3, 4, 5, 6, 7],
     ),
 ];
-
-/// Walks over the items of each row by each kind of walk. The number still to come is exact before each step.
-fn assert_walks<R: DoubleEndedRing<i64> + Drop>(
-    rt: &impl Abort,
-    mut ring: R,
-    items: &'static [i64],
-    ends: &'static [End],
-    found: &'static [i64],
-) {
-    let steps = [
-        PushAll(items),
-        Reads(ends, found),
-        Lends(ends, found),
-        Drains(ends, found),
-        Holds(&[]),
-        PushAll(items),
-    ];
-    assert_steps(rt, &mut ring, &steps);
-    let mut walk = RingBufferIntoIterator::new(ring);
-    let mut left = items.len();
-    for (i, end) in ends.iter().enumerate() {
-        let to_come = (walk.size_hint(), walk.len());
-        assert_equal(rt, (i, to_come), (i, ((left, Some(left)), left)));
-        let item = match end {
-            Front => walk.next(),
-            Back => walk.next_back(),
-        };
-        assert_equal(rt, (i, item), (i, found.get(i).copied()));
-        left = left.saturating_sub(1);
-    }
-}
 
 #[test]
 fn walks_meet_in_the_middle(rt: HostRuntime) {
@@ -127,24 +96,6 @@ const OVER_SOME: &[(Pass, Option<i64>)] = &[
 
 const OVER_ALL: &[(Pass, Option<i64>)] = &[(Beyond(usize::MAX), None), (From(Back), None)];
 
-fn assert_passes_over<R: DoubleEndedRing<i64> + Drop>(rt: &impl Abort, mut ring: R) {
-    assert_steps(rt, &mut ring, FROM_ONE_TO_SEVEN);
-    assert_passes(rt, &ring, OVER_SOME, 0);
-    assert_passes(rt, &ring, OVER_ALL, 0);
-    assert_passes(rt, &ring, &[(From(Front), Some(1))], 6);
-    assert_equal(rt, ring.iter().last().copied(), Some(7));
-}
-
-/// Reads by two walks in turn.
-fn assert_reads_twice<R: RingBuffer<i64> + Drop>(rt: &impl Abort, mut ring: R) {
-    push_all(rt, &mut ring, &[1, 2, 3]);
-    let (mut one, mut other) = (ring.iter(), ring.iter());
-    for item in [1, 2, 3] {
-        let found = (one.next().copied(), other.next().copied());
-        assert_equal(rt, found, (Some(item), Some(item)));
-    }
-}
-
 #[test]
 fn walks_pass_over_items_and_go_side_by_side(rt: HostRuntime) {
     on_each!(&rt, 8, assert_passes_over);
@@ -188,19 +139,6 @@ fn assert_lists<R: RingBuffer<i64>>(rt: &(impl Abort + AllocGlobal), ring: &R, i
     assert_equal(rt, listed.as_slice(), items);
 }
 
-/// Lists nothing, pushes 1, 2 and 3, and lists what is kept of them. Then it does the calls.
-fn assert_seen<R: DoubleEndedRing<i64> + Drop>(
-    rt: &(impl Abort + AllocGlobal),
-    mut ring: R,
-    kept: &[i64],
-    steps: &[Step],
-) {
-    assert_lists(rt, &ring, &[]);
-    push_all(rt, &mut ring, &[1, 2, 3]);
-    assert_lists(rt, &ring, kept);
-    assert_steps(rt, &mut ring, steps);
-}
-
 const THE_LAST_TWO: &[Step] = &[
     Reads(&[Front, Front, Front], &[2, 3]),
     Adds(&[(Front, 1), (Front, 1)]),
@@ -220,11 +158,25 @@ fn an_overwritten_item_is_not_seen(rt: HostRuntime) {
     on_each!(&rt, 8, assert_seen, &[1, 2, 3], ALL_THREE);
 }
 
-/// Walks over a ring of 1 to 4 that are dropped before the end.
+const ONE_TO_FOUR: Step = PushAll(&[1, 2, 3, 4]);
+
+/// Walks over a ring of four, round the end of its slots, that are dropped before the end.
 const IN_PART: &[&[Step]] = &[
-    &[Adds(&[(Front, 10), (Back, 20)]), Holds(&[11, 2, 3, 24])],
-    &[Adds(&[(Front, 4)]), Holds(&[5, 2, 3, 4])],
     &[
+        Begin(3),
+        ONE_TO_FOUR,
+        Adds(&[(Front, 10), (Back, 20)]),
+        Holds(&[11, 2, 3, 24]),
+    ],
+    &[
+        Begin(3),
+        ONE_TO_FOUR,
+        Adds(&[(Front, 4)]),
+        Holds(&[5, 2, 3, 4]),
+    ],
+    &[
+        Begin(3),
+        ONE_TO_FOUR,
         Drains(&[], &[]),
         Holds(&[1, 2, 3, 4]),
         Drains(&[Front, Front], &[1, 2]),
@@ -232,33 +184,31 @@ const IN_PART: &[&[Step]] = &[
         Drains(&[Front], &[3]),
         Holds(&[4]),
     ],
-    &[Drains(&[Front, Front, Front], &[1, 2, 3]), Holds(&[4])],
-    &[Drains(&[Back], &[4]), Holds(&[1, 2, 3])],
-    &[Drains(&[Front, Back], &[1, 4]), Holds(&[2, 3])],
-    &[Drains(&[Back, Back, Front], &[4, 3, 1]), Holds(&[2])],
+    &[
+        Begin(3),
+        ONE_TO_FOUR,
+        Drains(&[Front, Front, Front], &[1, 2, 3]),
+        Holds(&[4]),
+    ],
+    &[
+        Begin(3),
+        ONE_TO_FOUR,
+        Drains(&[Back], &[4]),
+        Holds(&[1, 2, 3]),
+    ],
+    &[
+        Begin(3),
+        ONE_TO_FOUR,
+        Drains(&[Front, Back], &[1, 4]),
+        Holds(&[2, 3]),
+    ],
+    &[
+        Begin(3),
+        ONE_TO_FOUR,
+        Drains(&[Back, Back, Front], &[4, 3, 1]),
+        Holds(&[2]),
+    ],
 ];
-
-/// Writes the first item and the last through a cursor, and then the first alone. Both know how many are left.
-fn assert_lends_both_ends<R: DoubleEndedRing<i64> + Drop>(rt: &impl Abort, mut ring: R) {
-    push_all(rt, &mut ring, &[1, 2, 3, 4]);
-    {
-        let mut cursor = ring.iter_mut();
-        assert_equal(rt, cursor.next().map(|item| add(item, 10)), Some(1));
-        assert_equal(rt, cursor.next_back().map(|item| add(item, 20)), Some(4));
-        assert_equal(rt, cursor.size_hint(), (2, Some(2)));
-    }
-    assert_steps(rt, &mut ring, &[Holds(&[11, 2, 3, 24]), Clear]);
-    push_all(rt, &mut ring, &[1, 2, 3]);
-    {
-        let mut cursor = ring.iter_mut();
-        assert_equal(rt, cursor.next().map(|item| add(item, 4)), Some(1));
-    }
-    assert_steps(rt, &mut ring, &[Holds(&[5, 2, 3])]);
-    let mut walk = RingBufferIntoIterator::new(ring);
-    assert_equal(rt, walk.size_hint(), (3, Some(3)));
-    assert_equal(rt, walk.next(), Some(5));
-    assert_equal(rt, walk.size_hint(), (2, Some(2)));
-}
 
 /// Adds to an item. Returns what it was.
 fn add(item: &mut i64, more: i64) -> i64 {
@@ -291,28 +241,13 @@ const CONTAINED: &[Step] = &[
     Contains(3, false),
 ];
 
-/// Does the calls of each list on a ring of 1 to 4.
-fn assert_in_part<R: DoubleEndedRing<i64> + Drop>(rt: &impl Abort, mut ring: R) {
-    for steps in IN_PART {
-        assert_steps(rt, &mut ring, &[Clear, PushAll(&[1, 2, 3, 4])]);
-        assert_steps(rt, &mut ring, steps);
-    }
-}
-
 #[test]
 fn a_dropped_walk_leaves_the_rest(rt: HostRuntime) {
-    on_each!(&rt, 4, assert_in_part);
-    on_each!(&rt, 16, answers, DRAINED);
-    on_each!(&rt, 8, answers, CONTAINED);
-}
-
-/// Asserts that walks that are turned round find 3, 2 and 1.
-fn assert_turns_round<R: DoubleEndedRing<i64> + Drop>(rt: &impl Abort, mut ring: R) {
-    push_all(rt, &mut ring, &[1, 2, 3]);
-    assert!(rt; ring.iter().rev().copied().eq([3, 2, 1]));
-    assert!(rt; ring.drain().rev().eq([3, 2, 1]));
-    push_all(rt, &mut ring, &[1, 2, 3]);
-    assert!(rt; RingBufferIntoIterator::new(ring).rev().eq([3, 2, 1]));
+    for steps in IN_PART {
+        answers(&rt, 4, steps);
+    }
+    answers(&rt, 16, DRAINED);
+    answers(&rt, 8, CONTAINED);
 }
 
 /// Goes from 1 to 3 by loops over the ring, by reference and by value.
@@ -333,17 +268,120 @@ macro_rules! loop_over {
     }};
 }
 
-fn assert_looped_over<S: RingSlots<i64>>(rt: &impl Abort, ring: FixedRing<i64, S>) {
-    loop_over!(rt, ring);
+/// A ring that a loop goes over.
+trait LoopedOver {
+    fn assert_looped_over(self, rt: &impl Abort);
 }
 
-fn assert_growable_looped_over(rt: &impl Abort, ring: GrowableAllocRingBuffer<i64>) {
-    loop_over!(rt, ring);
+impl<S: RingSlots<i64>> LoopedOver for FixedRing<i64, S> {
+    fn assert_looped_over(self, rt: &impl Abort) {
+        loop_over!(rt, self);
+    }
+}
+
+impl LoopedOver for GrowableAllocRingBuffer<i64> {
+    fn assert_looped_over(self, rt: &impl Abort) {
+        loop_over!(rt, self);
+    }
 }
 
 #[test]
 fn walks_are_turned_round_and_rings_looped_over(rt: HostRuntime) {
     on_each!(&rt, 3, assert_turns_round);
-    on_fixed!(&rt, 3, assert_looped_over);
-    on_growable!(&rt, 3, assert_growable_looped_over);
+    on_each!(&rt, 3, assert_looped_over);
 }
+
+/// A ring that is walked over.
+trait Walked: DoubleEndedRing<i64> + Drop {
+    /// Walks over the items of each row by each kind of walk. The number still to come is exact before each step.
+    fn assert_walks(
+        mut self,
+        rt: &impl Abort,
+        items: &'static [i64],
+        ends: &'static [End],
+        found: &'static [i64],
+    ) {
+        let steps = [
+            PushAll(items),
+            Reads(ends, found),
+            Lends(ends, found),
+            Drains(ends, found),
+            Holds(&[]),
+            PushAll(items),
+        ];
+        assert_steps(rt, &mut self, &steps);
+        let mut walk = RingBufferIntoIterator::new(self);
+        let mut left = items.len();
+        for (i, end) in ends.iter().enumerate() {
+            let to_come = (walk.size_hint(), walk.len());
+            assert_equal(rt, (i, to_come), (i, ((left, Some(left)), left)));
+            let item = match end {
+                Front => walk.next(),
+                Back => walk.next_back(),
+            };
+            assert_equal(rt, (i, item), (i, found.get(i).copied()));
+            left = left.saturating_sub(1);
+        }
+    }
+
+    fn assert_passes_over(mut self, rt: &impl Abort) {
+        assert_steps(rt, &mut self, FROM_ONE_TO_SEVEN);
+        assert_passes(rt, &self, OVER_SOME, 0);
+        assert_passes(rt, &self, OVER_ALL, 0);
+        assert_passes(rt, &self, &[(From(Front), Some(1))], 6);
+        assert_equal(rt, self.iter().last().copied(), Some(7));
+    }
+
+    /// Reads by two walks in turn.
+    fn assert_reads_twice(mut self, rt: &impl Abort) {
+        push_all(rt, &mut self, &[1, 2, 3]);
+        let (mut one, mut other) = (self.iter(), self.iter());
+        for item in [1, 2, 3] {
+            let found = (one.next().copied(), other.next().copied());
+            assert_equal(rt, found, (Some(item), Some(item)));
+        }
+    }
+
+    /// Lists nothing, pushes 1, 2 and 3, and lists what is kept of them. Then it does the calls.
+    fn assert_seen(mut self, rt: &(impl Abort + AllocGlobal), kept: &[i64], steps: &[Step]) {
+        assert_lists(rt, &self, &[]);
+        push_all(rt, &mut self, &[1, 2, 3]);
+        assert_lists(rt, &self, kept);
+        assert_steps(rt, &mut self, steps);
+    }
+
+    /// Writes the first item and the last through a cursor, and then the first alone. Both know how many are left.
+    fn assert_lends_both_ends(mut self, rt: &impl Abort) {
+        push_all(rt, &mut self, &[1, 2, 3, 4]);
+        {
+            let mut cursor = self.iter_mut();
+            assert_equal(rt, cursor.next().map(|item| add(item, 10)), Some(1));
+            assert_equal(rt, cursor.next_back().map(|item| add(item, 20)), Some(4));
+            assert_equal(rt, cursor.size_hint(), (2, Some(2)));
+        }
+        assert_steps(rt, &mut self, &[Holds(&[11, 2, 3, 24]), Clear]);
+        push_all(rt, &mut self, &[1, 2, 3]);
+        {
+            let mut cursor = self.iter_mut();
+            assert_equal(rt, cursor.next().map(|item| add(item, 4)), Some(1));
+        }
+        assert_steps(rt, &mut self, &[Holds(&[5, 2, 3])]);
+        let mut walk = RingBufferIntoIterator::new(self);
+        assert_equal(rt, walk.size_hint(), (3, Some(3)));
+        assert_equal(rt, walk.next(), Some(5));
+        assert_equal(rt, walk.size_hint(), (2, Some(2)));
+    }
+
+    /// Asserts that walks that are turned round find 3, 2 and 1.
+    fn assert_turns_round(mut self, rt: &impl Abort) {
+        push_all(rt, &mut self, &[1, 2, 3]);
+        assert!(rt; self.iter().rev().copied().eq([3, 2, 1]));
+        assert!(rt; self.drain().rev().eq([3, 2, 1]));
+        push_all(rt, &mut self, &[1, 2, 3]);
+        assert!(rt; RingBufferIntoIterator::new(self).rev().eq([3, 2, 1]));
+    }
+}
+
+impl<S: RingSlots<i64>> Walked for FixedRing<i64, S> {}
+
+impl Walked for GrowableAllocRingBuffer<i64> {}

@@ -1,10 +1,12 @@
 //! Windows of the items that came within a span of time.
 
 use super::assert_equal;
+use ring_slots::RingSlots;
 use ring_test_support::drought::Drought;
 use ring_test_support::{on_each, on_fixed};
 use ringbuffer::{
-    AllocRingBuffer, ConstGenericRingBuffer, GrowableAllocRingBuffer, RingBuffer, RingBufferExt,
+    AllocRingBuffer, ConstGenericRingBuffer, FixedRing, GrowableAllocRingBuffer, RingBuffer,
+    RingBufferExt,
 };
 use std::process::Abort;
 use window::{
@@ -34,55 +36,14 @@ fn assert_holds<R: RingBuffer<Stamped<u32>>>(
     }
 }
 
-/// Items leave once they came more than 10 before the newest, and the one before that at 10 stays.
-fn assert_newer_push_out_older<R: RingBuffer<Stamped<u32>> + Drop>(rt: &impl Abort, ring: R) {
-    let mut window = WindowTime::new(ring, 10);
-    assert_holds(rt, &window, &[]);
-    for (stamp, item) in [(0, 1), (5, 2), (10, 3)] {
-        assert_equal(rt, window.push(stamp, item), Ok(None));
-    }
-    assert_holds(rt, &window, &[at(0, 1), at(5, 2), at(10, 3)]);
-    assert_equal(rt, window.push(11, 4), Ok(None));
-    assert_holds(rt, &window, &[at(5, 2), at(10, 3), at(11, 4)]);
-    assert_equal(rt, window.push(30, 5), Ok(None));
-    assert_holds(rt, &window, &[at(30, 5)]);
-}
-
 #[test]
 fn newer_items_push_out_older_ones(rt: HostRuntime) {
     on_each!(&rt, 4, assert_newer_push_out_older);
 }
 
-/// Of a window of two, a young item that gives way is handed back, and one that is too old isn't.
-fn assert_hands_back_the_young<R: RingBuffer<Stamped<u32>> + Drop>(rt: &impl Abort, ring: R) {
-    let mut window = WindowTime::new(ring, 10);
-    assert_equal(rt, window.push(1, 6), Ok(None));
-    assert_equal(rt, window.push(2, 7), Ok(None));
-    assert_equal(rt, window.push(11, 8), Ok(Some(at(1, 6))));
-    assert_holds(rt, &window, &[at(2, 7), at(11, 8)]);
-    assert_equal(rt, window.push(13, 9), Ok(None));
-    assert_holds(rt, &window, &[at(11, 8), at(13, 9)]);
-    assert_equal(rt, window.push(40, 5), Ok(None));
-    assert_holds(rt, &window, &[at(40, 5)]);
-}
-
 #[test]
 fn a_full_window_hands_back_young_items(rt: HostRuntime) {
     on_fixed!(&rt, 2, assert_hands_back_the_young);
-}
-
-/// An item that is too old stays while it is behind one that isn't.
-fn assert_stays_behind_a_younger<R: RingBuffer<Stamped<u32>> + Drop>(rt: &impl Abort, ring: R) {
-    let mut window = WindowTime::new(ring, 10);
-    for (stamp, item) in [(5, 1), (1, 2), (12, 3)] {
-        assert_equal(rt, window.push(stamp, item), Ok(None));
-    }
-    assert_holds(rt, &window, &[at(5, 1), at(1, 2), at(12, 3)]);
-    assert_equal(rt, window.push(16, 4), Ok(None));
-    assert_holds(rt, &window, &[at(12, 3), at(16, 4)]);
-    // A stamp before those of the others drops nothing.
-    assert_equal(rt, window.push(3, 5), Ok(None));
-    assert_holds(rt, &window, &[at(12, 3), at(16, 4), at(3, 5)]);
 }
 
 #[test]
@@ -178,27 +139,72 @@ fn a_refused_push_drops_nothing(rt: HostRuntime) {
     assert_holds(&rt, &window, &[at(50, 7)]);
 }
 
-/// Slides a window over a ring of two, in a drought.
-fn assert_takes_no_memory<R: RingBuffer<Stamped<u32>> + Drop>(
-    rt: &(impl Abort + AllocGlobal),
-    ring: R,
-) {
-    let drought = Drought::total(rt.alloc()).expect(rt, "memory");
-    let mut window = WindowTime::new(ring, 10);
-    let pushed = (
-        window.push(1, 1),
-        window.push(2, 2),
-        window.push(12, 3),
-        window.push(13, 4),
-    );
-    let left = window.advance(23);
-    drop(drought);
-    assert_equal(rt, pushed, (Ok(None), Ok(None), Ok(None), Ok(None)));
-    assert_equal(rt, left, 1);
-    assert_holds(rt, &window, &[at(13, 4)]);
-}
-
 #[test]
 fn a_window_of_time_over_a_fixed_ring_takes_no_memory(rt: HostRuntime) {
     on_fixed!(&rt, 2, assert_takes_no_memory);
 }
+
+/// A ring of items with stamps.
+trait OfStamped: RingBuffer<Stamped<u32>> + Drop {
+    /// Items leave once they came more than 10 before the newest, and the one before that at 10 stays.
+    fn assert_newer_push_out_older(self, rt: &impl Abort) {
+        let mut window = WindowTime::new(self, 10);
+        assert_holds(rt, &window, &[]);
+        for (stamp, item) in [(0, 1), (5, 2), (10, 3)] {
+            assert_equal(rt, window.push(stamp, item), Ok(None));
+        }
+        assert_holds(rt, &window, &[at(0, 1), at(5, 2), at(10, 3)]);
+        assert_equal(rt, window.push(11, 4), Ok(None));
+        assert_holds(rt, &window, &[at(5, 2), at(10, 3), at(11, 4)]);
+        assert_equal(rt, window.push(30, 5), Ok(None));
+        assert_holds(rt, &window, &[at(30, 5)]);
+    }
+
+    /// Of a window of two, a young item that gives way is handed back, and one that is too old isn't.
+    fn assert_hands_back_the_young(self, rt: &impl Abort) {
+        let mut window = WindowTime::new(self, 10);
+        assert_equal(rt, window.push(1, 6), Ok(None));
+        assert_equal(rt, window.push(2, 7), Ok(None));
+        assert_equal(rt, window.push(11, 8), Ok(Some(at(1, 6))));
+        assert_holds(rt, &window, &[at(2, 7), at(11, 8)]);
+        assert_equal(rt, window.push(13, 9), Ok(None));
+        assert_holds(rt, &window, &[at(11, 8), at(13, 9)]);
+        assert_equal(rt, window.push(40, 5), Ok(None));
+        assert_holds(rt, &window, &[at(40, 5)]);
+    }
+
+    /// An item that is too old stays while it is behind one that isn't.
+    fn assert_stays_behind_a_younger(self, rt: &impl Abort) {
+        let mut window = WindowTime::new(self, 10);
+        for (stamp, item) in [(5, 1), (1, 2), (12, 3)] {
+            assert_equal(rt, window.push(stamp, item), Ok(None));
+        }
+        assert_holds(rt, &window, &[at(5, 1), at(1, 2), at(12, 3)]);
+        assert_equal(rt, window.push(16, 4), Ok(None));
+        assert_holds(rt, &window, &[at(12, 3), at(16, 4)]);
+        // A stamp before those of the others drops nothing.
+        assert_equal(rt, window.push(3, 5), Ok(None));
+        assert_holds(rt, &window, &[at(12, 3), at(16, 4), at(3, 5)]);
+    }
+
+    /// Slides a window over a ring of two, in a drought.
+    fn assert_takes_no_memory(self, rt: &(impl Abort + AllocGlobal)) {
+        let drought = Drought::total(rt.alloc()).expect(rt, "memory");
+        let mut window = WindowTime::new(self, 10);
+        let pushed = (
+            window.push(1, 1),
+            window.push(2, 2),
+            window.push(12, 3),
+            window.push(13, 4),
+        );
+        let left = window.advance(23);
+        drop(drought);
+        assert_equal(rt, pushed, (Ok(None), Ok(None), Ok(None), Ok(None)));
+        assert_equal(rt, left, 1);
+        assert_holds(rt, &window, &[at(13, 4)]);
+    }
+}
+
+impl<S: RingSlots<Stamped<u32>>> OfStamped for FixedRing<Stamped<u32>, S> {}
+
+impl OfStamped for GrowableAllocRingBuffer<Stamped<u32>> {}

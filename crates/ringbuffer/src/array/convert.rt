@@ -4,10 +4,10 @@ ghost use Rattle.std.specs.Iterator.{Drains, IsFiniteIterable};
 ghost use Rattle.ringbuffer.specs.Somes.{somes};
 ghost use Rattle.ringbuffer.specs.Conversion.{ClonesMeet, HoldsLast};
 
-use crate::any_ring::{extend_cloned, extend_somes};
 use crate::array::ConstGenericRingBuffer;
 use crate::grow::GrowableAllocRingBuffer;
 use crate::heap::AllocRingBuffer;
+use crate::pushes::{extend_cloned, extend_somes};
 use std::alloc::AllocError;
 use std::collections::{LinkedList, VecDeque};
 

@@ -4,10 +4,10 @@ ghost use Rattle.std.specs.Iterator.{Drains, IsFiniteIterable, YieldsThen};
 ghost use Rattle.std.specs.List.{AllZip};
 ghost use Rattle.ringbuffer.specs.Somes.{somes};
 
-use crate::any_ring::{extend_cloned, extend_somes};
 use crate::fixed::FixedRing;
 use crate::grow::GrowableAllocRingBuffer;
 use crate::heap::AllocRingBuffer;
+use crate::pushes::{extend_cloned, extend_somes};
 use ring_core::RingBuffer;
 use ring_slots::RingSlots;
 use std::alloc::{AllocError, Global};

@@ -5,10 +5,10 @@ ghost use Rattle.ring_core.specs.Contents.{keep_last};
 ghost use Rattle.ringbuffer.specs.Somes.{somes};
 ghost use Rattle.ringbuffer.specs.Conversion.{ClonesMeet, HoldsAll};
 
-use crate::any_ring::extend_somes;
 use crate::fixed::FixedRing;
 use crate::grow::GrowableAllocRingBuffer;
 use crate::heap::AllocRingBuffer;
+use crate::pushes::extend_somes;
 use ring_core::RingBuffer;
 use ring_slots::RingSlots;
 use std::alloc::{AllocError, Global};

@@ -2,7 +2,7 @@ use Rattle.std.proofs.lemmas.Iterator.{YieldsList-from_slice}
 use Rattle.std.proofs.lemmas.Iterator.Consumers.{YieldsList-from_copied}
 use Rattle.ring_core.proofs.Words.{◌≡◌, ◌-◌, ◌++◌, length, drop, ap, sym, ◌∙◌, rules, keep_last, map-id}
 use Rattle.ring_core.proofs.Cloned.{keep_last-newest, past_limit_over}
-use Rattle.ring_core.proofs.Drained.{shown_extended}
+use Rattle.ring_core.proofs.SourceEnds.{shown_extended}
 use Rattle.ring_core.proofs.last_bytes.push_newest.Goals as goal
 
 -- The source gives the newest bytes, and the limit leaves of them what it leaves of all.

@@ -3,7 +3,7 @@ use Rattle.std.proofs.Common.{of_calls}
 use Rattle.std.specs.Fn.{CalledAt}
 use Rattle.std.proofs.lemmas.Fn.{FoldsTo-push, called_at}
 use Rattle.ring_core.proofs.Items.{take-suc_get}
-use Rattle.ring_core.proofs.Mapped.{first_left, prefix_len-passes}
+use Rattle.ring_core.proofs.Mapped.{first_fails, first_left, prefix_len-passes}
 use Rattle.ring_core.proofs.retaining.dequeue_while.Goals as goal
 
 pub returns-then-not-test-clause-called : goal.returns-then-not-test-clause-called
@@ -12,6 +12,10 @@ returns-then-not-test-clause-called g c = (_, c.loop-count.invariant.passed, rw 
 pub returns-then-not-test-clause-value : goal.returns-then-not-test-clause-value
 returns-then-not-test-clause-value g c =
     λ test same. prefix_len-passes (CalledAt g.F.FnMut) test _ same _ _ (omega arith) (returns-then-not-test-clause-called g c)
+
+pub returns-then-not-test-clause-first : goal.returns-then-not-test-clause-first
+returns-then-not-test-clause-first g c =
+    λ test same. rw (c.loop-count.invariant.rest, returns-then-not-test-clause-value g c test same) (first_fails test (g.R.RingBuffer.contents c.args.ring.now))
 
 pub loop-count-preserved : goal.loop-count-preserved
 loop-count-preserved g c =
@@ -35,3 +39,8 @@ returns-clause-called g c =
 
 pub returns-clause-value : goal.returns-clause-value
 returns-clause-value g c = λ test same. prefix_len-passes (CalledAt g.F.FnMut) test _ same _ _ (omega arith) (returns-clause-called g c)
+
+pub returns-clause-first : goal.returns-clause-first
+returns-clause-first g c =
+    let all : c.loop-count.count ≡ c.len-len.result = omega arith in
+    λ test same. rw (c.loop-count.invariant.rest, all, returns-clause-value g c test same) (first_fails test (g.R.RingBuffer.contents c.args.ring.now))

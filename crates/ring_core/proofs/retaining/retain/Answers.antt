@@ -2,7 +2,7 @@ use Rattle.ring_core.proofs.Words.{◌++◌, ◌∷◌, ◌∙◌, [], ap, arith
 use Rattle.std.proofs.Common.{of_calls}
 use Rattle.std.specs.Fn.{CalledAt}
 use Rattle.std.proofs.lemmas.Fn.{called_at, filter_same}
-use Rattle.ring_core.proofs.Picking.{all_asked, dropped, first_is_some, kept, nothing_asked, put_back, refused}
+use Rattle.ring_core.proofs.RetainedItems.{all_asked, dropped, first_is_some, kept, nothing_asked, put_back, refused}
 use Rattle.ring_core.proofs.retaining.retain.Goals as goal
 
 pub loop-init : goal.loop-init

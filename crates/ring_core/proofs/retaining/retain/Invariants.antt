@@ -1,7 +1,7 @@
 use Rattle.ring_core.proofs.Words.{IsSome, length, ◌+◌, ◌≡◌, ◌≤◌}
 use denote.Param.Always.{always_mut}
 use Rattle.std.specs.Fn.{CalledAt}
-use Rattle.ring_core.proofs.Picking.{Picks}
+use Rattle.ring_core.proofs.RetainedItems.{Picks}
 use Rattle.ring_core.proofs.retaining.retain.Given as goal
 
 -- the changes are two for each turn, less one for each item dropped

@@ -1,6 +1,6 @@
 -- An extension by a vector takes the vector's items in order: all of them, or a cut beginning at a refusal.
 use Rattle.ring_core.proofs.Words.{◌≡◌, Err, Ok, sym, ◌∙◌, map-id, rules}
-use Rattle.ring_core.proofs.Drained.{YieldsList-of_vec, all_extended, cut_extended, shown_drained}
+use Rattle.ring_core.proofs.SourceEnds.{YieldsList-of_vec, all_extended, cut_extended, shown_drained}
 use Rattle.ring_core.proofs.runs.apply.Goals as goal
 
 pub returns-in-Ok-extend-clause-contents : goal.returns-in-Ok-extend-clause-contents

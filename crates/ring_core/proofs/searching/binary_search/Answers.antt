@@ -2,7 +2,7 @@ use Rattle.ring_core.proofs.Words.{ap, arith, false, rules, sym, ◌∙◌, ◌�
 use Rattle.std.proofs.Common.{of_calls}
 use Rattle.std.proofs.lemmas.Fn.{always_returns_same}
 use Rattle.std.specs.Ordering.{is_eq, is_lt}
-use Rattle.ring_core.proofs.Halving.{greater_from, holds_at, less_before}
+use Rattle.ring_core.proofs.BinarySearch.{greater_from, holds_at, less_before}
 use Rattle.ring_core.proofs.searching.binary_search.Goals.{else-index-len-via-then-index-len+else-is_eq, else-index-len-via-else-index-len}
 use Rattle.ring_core.proofs.searching.binary_search.Goals as goal
 

@@ -1,7 +1,7 @@
 use Rattle.ring_core.proofs.Words.{arith, sym}
 use Rattle.std.proofs.Common.{of_calls}
 use Rattle.std.proofs.lemmas.Fn.{called}
-use Rattle.ring_core.proofs.Halving.{answers_next, failed, passed}
+use Rattle.ring_core.proofs.BinarySearch.{answers_next, failed, passed}
 use Rattle.ring_core.proofs.searching.partition_point.Goals as goal
 
 pub loop-low-preserved-then-is_before : goal.loop-low-preserved-then-is_before

@@ -1,7 +1,7 @@
 use Rattle.ring_core.proofs.Words.{Bool, length, ◌-◌, ◌≤◌}
 use Rattle.std.specs.Fn.{ComputesKey}
 use denote.Param.Always.{always_mut}
-use Rattle.ring_core.proofs.Halving.{Halves}
+use Rattle.ring_core.proofs.BinarySearch.{Halves}
 use Rattle.ring_core.proofs.searching.partition_point.Given as goal
 
 abbrev pub invariant-loop-low : goal.invariant-loop-low

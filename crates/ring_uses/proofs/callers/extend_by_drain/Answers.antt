@@ -1,4 +1,4 @@
-use Rattle.ringbuffer.proofs.Drained.{extended_by_drain}
+use Rattle.ringbuffer.proofs.SourceEnds.{extended_by_drain}
 use Rattle.ring_uses.proofs.callers.extend_by_drain.Goals as goal
 
 pub returns-clause-moved : goal.returns-clause-moved

@@ -1,6 +1,6 @@
 -- A vector gives its items in order, all of them or a cut beginning.
 use Rattle.std.specs.Prelude.{None}
-use Rattle.ringbuffer.proofs.Drained.{YieldsList-of_vec, all_extended, cut_extended}
+use Rattle.ringbuffer.proofs.SourceEnds.{YieldsList-of_vec, all_extended, cut_extended}
 use Rattle.ring_uses.proofs.everyday.append_numbers.Goals as goal
 
 pub returns-clause-all : goal.returns-clause-all

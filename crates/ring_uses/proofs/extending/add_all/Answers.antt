@@ -3,7 +3,7 @@ use Rattle.std.proofs.lemmas.Iterator.{YieldsList}
 use Rattle.std.proofs.lemmas.List.{map-id}
 use Rattle.std.specs.Iterator.{Drains, Yields}
 use Rattle.std.specs.Prelude.{MatchResult}
-use Rattle.ringbuffer.proofs.Drained.{YieldsList-of_vec, shown_drained}
+use Rattle.ringbuffer.proofs.SourceEnds.{YieldsList-of_vec, shown_drained}
 use Rattle.ring_uses.proofs.extending.add_all.Goals as goal
 
 -- what holds of the items that a source gave, on Ok all, holds then of the list that it shows

@@ -3,7 +3,7 @@ use Rattle.std.proofs.lemmas.Iterator.{items_from_collect}
 use Rattle.std.proofs.lemmas.Iterator.Splits.{YieldsList-from_lines}
 use Rattle.std.proofs.lemmas.Result.{IfOk-weaker}
 use Rattle.ringbuffer.specs.Contents.{keep_last}
-use Rattle.ringbuffer.proofs.Drained.{YieldsList-unpacked, shown_extended}
+use Rattle.ringbuffer.proofs.SourceEnds.{YieldsList-unpacked, shown_extended}
 use Rattle.ringbuffer.proofs.Limits.{map-keep_last}
 use Rattle.ring_uses.proofs.last_lines.tail.Goals as goal
 

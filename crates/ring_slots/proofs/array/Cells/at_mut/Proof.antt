@@ -1,97 +1,55 @@
--- An element of the array is lent to the caller, which the borrow checker does not follow through an array. The struct
--- lies where its one field does, so the element is taken out of memory with a way back at any value, and then lent.
-use Rattle.ring_slots.proofs.Words.{◌≡◌, refl, sym, ap, ◌∙◌, List, [], ◌∷◌, ℕ, zero, ◌+◌, ◌*◌, ◌^◌, ◌<◌, ◌≤◌, mul-le-mul_right, arith, length, get_or, set, length-set, Ura, Args, a_type, a_number, ty_array, named, w64, inst_fn, vptr, vint, SProp, ent, sep, ex, guard, all, wand, all_e, apply∗, full_share, Fml, GName, ftrue, fsep, feq, flft, size, align, up, Logic, sem, cells, ‵, raw, ◌⊛◌, some, given, later, ◌$◌, ◌∵◌, !, qed, move, keep, drop, split, split3, join, learn, check, fsplit, fsplit3, fjoin, feq_l, feq_i, use1, use2, await, pick, suffices, frame, group, rewrite, show, done, ◌⊑◌, stop, fld, addr, bin, size_word, returns, enter, alloc_all, pass_all, free_all, look_at, get, through, sets, is, RefMutOf, usize, yes, no, follows, lends_Part, mem, part_at, param, number, layout, layouts, ArrayAt, Laws, param_laws, number_array_laws, uint_vals, uint_Tells, RattleType, MutRef, mut_vals, mut_Tells, plain, nothing, Struct, says, Stays, stay_dropped, Goes-dropped, Goes-spent_ref, ends_at, proved, get_or_default, Array}
+-- An element of the array is lent to the caller, which the borrow checker does not follow through an array. The element is
+-- taken out of the cells in memory with a way back at any value, and then lent.
+use Rattle.ring_slots.proofs.Words.{◌≡◌, refl, sym, ap, ◌∙◌, [], ◌∷◌, ℕ, zero, ◌+◌, ◌*◌, ◌^◌, ◌<◌, ◌≤◌, mul-le-mul_right, arith, length, get_or, set, length-set, Ura, ty_array, named, w64, inst_fn, vptr, vint, SProp, ent, sep, ex, guard, all, wand, all_e, apply∗, GName, ftrue, flft, size, align, up, Logic, sem, cells, ‵, raw, ◌⊛◌, some, given, later, ◌$◌, ◌∵◌, !, qed, by, move, keep, drop, split, split3, join, learn, check, fsplit3, use1, use2, await, pick, suffices, frame, group, show, done, ◌⊑◌, stop, fld, addr, bin, size_word, returns, enter, alloc_all, pass_all, free_all, look_at, get, through, sets, is, RefMutOf, usize, yes, no, follows, lends_Part, mem, number, layout, Laws, uint_vals, uint_Tells, RattleType, MutRef, mut_vals, mut_Tells, plain, nothing, says, Stays, stay_dropped, Goes-dropped, Goes-spent_ref, ends_at, proved, get_or_default}
 use types.Mut.{open_ref}
-use denote.ArrayMemory.{Array-apart, Array-whole}
-use denote.Index.{row, whole_in, whole_out}
-use denote.Struct.CellSteps.{only_out, first_at, BackTo}
-use denote.Struct.Declared.{shape}
-use denote.Struct.Members.{Member}
-use denote.Struct.Recorded.{Recorded-part}
+use denote.Struct.CellSteps.{first_at}
 use denote.Triple.Clauses.{Ended}
 use borrow.Table.Elements.{at, at_mul, focus_any}
+use Rattle.ring_slots.proofs.CellsInMemory.{Cells, Element, Shell, arguments, array_in, array_out}
 use Rattle.ring_slots.proofs.Filled.{first_item}
 use Rattle.ring_slots.proofs.SlotsInMemory.{product_is}
-use Rattle.ring_slots.specs.contracts.array.Cells.{the_row, the_type}
 use Rattle.ring_slots.specs.contracts.array.Cells.at_mut as contract
 use Rattle.ring_slots.proofs.array.Cells.at_mut.Statement.{statement}
 use Rattle.ring_slots.proofs.array.Cells.at_mut.Code as code
 
-module _ (X : RattleType) (n : ℕ) where
-  -- the types of an element, of the length and of the struct, as the code of the function has them
-  abbrev Element : RattleType
-  Element = param 0 X
+module _ (X : RattleType) (n : ℕ) (L : Laws X) {M : Type 1} {𝓤 : Ura M} (𝓛 : Logic 𝓤) (b o m : ℕ) (d : (Cells X n).Denot) where
+  abbrev R : RattleType
+  R = Element X n
 
-  abbrev Count : RattleType
-  Count = param 1 (number n)
+  abbrev spot : ℕ
+  spot = at o (mem R).size m
 
-  abbrev Cells : RattleType
-  Cells = the_row Element Count
+  abbrev with : X.Denot → (Cells X n).Denot
+  with x = record { xs = set d.xs m x }
 
-  abbrev field : Member
-  field = record { row = ArrayAt Element Count; ty = ty_array (layout X) n }
+  -- the way from the element at any value back to the cells
+  abbrev cells_back : X.Denot → SProp 𝓤
+  cells_back x = wand 𝓤 (sem 𝓛 ((mem R).own_at x b spot)) (sem 𝓛 (cells (mem R) (set d.xs m x) b o))
 
-  abbrev Tuple : RattleType
-  Tuple = Struct (shape (the_type Element Count))
+  -- the struct in memory without the element
+  abbrev Rest : SProp 𝓤
+  Rest = sep 𝓤 (all 𝓤 cells_back) (Shell X n 𝓛 b o)
 
-  lies_as_tuple : (d : Cells.Denot) (b o : ℕ) → part_at Cells full_share d b o ≡ part_at Tuple full_share (d.xs, tt) b o
-  lies_as_tuple d b o = let T = the_type Element Count in Recorded-part (Struct (shape T)) T.D T.to T.to_one full_share d b o
+  back : length d.xs ≡ n → (x : X.Denot) → ent 𝓤 (sep 𝓤 (sem 𝓛 ((mem R).own_at x b spot)) Rest) (sem 𝓛 ((mem (Cells X n)).own_at (with x) b o))
+  back long x =
+      qed 𝓛 (‵ ((mem R).own_at x b spot) ∷ (raw (all 𝓤 cells_back) ⊛ raw (Shell X n 𝓛 b o)) ∷ []) ∵ move ! (1 ∷ []) $ split ! $
+      use1 𝓛 (raw (cells_back x)) (all_e 𝓤 cells_back x) $ move ! (2 ∷ 0 ∷ []) $
+      use2 𝓛 (‵ (cells (mem R) (set d.xs m x) b o)) (apply∗ 𝓤 (sem 𝓛 ((mem R).own_at x b spot)) (sem 𝓛 (cells (mem R) (set d.xs m x) b o))) $
+      by ! (array_in X n 𝓛 b o (with x) (length-set d.xs m x ∙ long))
 
-  module _ (L : Laws X) {M : Type 1} {𝓤 : Ura M} (𝓛 : Logic 𝓤) (b o m : ℕ) (d : Cells.Denot) where
-    open 𝓛 use {H, A}
+  -- the element is x, and lies apart from the rest
+  abbrev Apart : X.Denot → SProp 𝓤
+  Apart x = guard 𝓤 ((x ≡ get_or d.xs m x) × (length d.xs ≡ n)) (sep 𝓤 (sem 𝓛 ((mem R).own_at x b spot)) Rest)
 
-    abbrev spot : ℕ
-    spot = at o (mem Element).size m
-
-    abbrev with : X.Denot → Cells.Denot
-    with x = record { xs = set d.xs m x }
-
-    abbrev name : List ℕ
-    name = (shape (the_type Element Count)).name
-
-    -- the way from the array back to the struct, and from the element at any value back to the array
-    abbrev To : List X.Denot → SProp 𝓤
-    To ys = sem 𝓛 (part_at Tuple full_share (ys, tt) b o)
-
-    abbrev struct_back : List X.Denot → SProp 𝓤
-    struct_back ys = wand 𝓤 (sem 𝓛 (part_at (Array Element n) full_share ys b o)) (To ys)
-
-    abbrev array_back : X.Denot → SProp 𝓤
-    array_back x = wand 𝓤 (sem 𝓛 ((mem Element).own_at x b spot)) (sem 𝓛 (cells (mem Element) (set d.xs m x) b o))
-
-    -- the struct in memory without the element
-    abbrev Rest : SProp 𝓤
-    Rest = sep 𝓤 (all 𝓤 array_back) (BackTo 𝓛 name [] [] field To b o)
-
-    back : length d.xs ≡ n → (x : X.Denot) → ent 𝓤 (sep 𝓤 (sem 𝓛 ((mem Element).own_at x b spot)) Rest) (sem 𝓛 ((mem Cells).own_at (with x) b o))
-    back long x =
-        let written : List X.Denot = set d.xs m x in
-        qed 𝓛 (‵ ((mem Element).own_at x b spot) ∷ (raw (all 𝓤 array_back) ⊛ raw (BackTo 𝓛 name [] [] field To b o)) ∷ []) ∵ move ! (1 ∷ []) $ split ! $
-        use1 𝓛 (raw (array_back x)) (all_e 𝓤 array_back x) $ move ! (2 ∷ 0 ∷ []) $
-        use2 𝓛 (‵ (cells (mem Element) written b o)) (apply∗ 𝓤 (sem 𝓛 ((mem Element).own_at x b spot)) (sem 𝓛 (cells (mem Element) written b o))) $
-        use1 𝓛 (‵ (row Element full_share written b o)) (whole_out 𝓛 Element written b o) $ feq_i ! ℕ (length written) n (length-set d.xs m x ∙ long) $ fjoin ! $
-        use1 𝓛 (‵ (part_at (Array Element n) full_share written b o)) (Array-whole 𝓛 Element full_share n written b o) $
-        move ! (1 ∷ []) $ use1 𝓛 (raw (struct_back written)) (all_e 𝓤 struct_back written) $ move ! (1 ∷ 0 ∷ []) $
-        use2 𝓛 (‵ (part_at Tuple full_share (written, tt) b o)) (apply∗ 𝓤 (sem 𝓛 (part_at (Array Element n) full_share written b o)) (To written)) $
-        rewrite ! 0 (λ (f : Fml). ‵ f) (sym (lies_as_tuple (with x) b o)) refl $ done !
-
-    -- the element is x, and lies apart from the rest
-    abbrev Apart : X.Denot → SProp 𝓤
-    Apart x = guard 𝓤 ((x ≡ get_or d.xs m x) × (length d.xs ≡ n)) (sep 𝓤 (sem 𝓛 ((mem Element).own_at x b spot)) Rest)
-
-    element_out : m < n → ent 𝓤 (sem 𝓛 ((mem Cells).own_at d b o)) (ex 𝓤 Apart)
-    element_out within =
-        let lawful = (number_array_laws Element (param_laws 0 X L) Count refl).lawful 𝓛 in
-        qed 𝓛 (‵ (part_at Cells full_share d b o) ∷ []) ∵ rewrite ! 0 (λ (f : Fml). ‵ f) (lies_as_tuple d b o) refl $
-        use1 𝓛 (‵ (part_at (Array Element n) full_share d.xs b o) ⊛ raw (BackTo 𝓛 name [] [] field To b o)) (only_out 𝓛 name [] [] field lawful b o d.xs) $ split ! $
-        use1 𝓛 (‵ (fsep (feq ℕ (length d.xs) n) (row Element full_share d.xs b o))) (Array-apart 𝓛 Element full_share tt n d.xs b o) $
-        fsplit ! $ feq_l ! (λ long.
-        let is_there : m < length d.xs = omega arith in
-        let any : X.Denot = first_item d.xs (omega arith) in let read : X.Denot = get_or d.xs m any in
-        show ! Apart read $ check ! (get_or_default d.xs m any read is_there, long) $
-        use1 𝓛 (‵ (cells (mem Element) d.xs b o)) (whole_in 𝓛 Element d.xs b o) $
-        use1 𝓛 (‵ ((mem Element).own_at read b spot) ⊛ raw (all 𝓤 array_back)) (focus_any 𝓛 (mem Element) any m d.xs b o is_there) $
-        split ! $ frame ! $ done !)
+  element_out : m < n → ent 𝓤 (sem 𝓛 ((mem (Cells X n)).own_at d b o)) (ex 𝓤 Apart)
+  element_out within =
+      qed 𝓛 (‵ ((mem (Cells X n)).own_at d b o) ∷ []) ∵
+      use1 𝓛 (given (length d.xs ≡ n) (‵ (cells (mem R) d.xs b o) ⊛ raw (Shell X n 𝓛 b o))) (array_out X n 𝓛 b o L d) $ learn ! (λ long. split ! $
+      let is_there : m < length d.xs = omega arith in
+      let any : X.Denot = first_item d.xs (omega arith) in let read : X.Denot = get_or d.xs m any in
+      show ! Apart read $ check ! (get_or_default d.xs m any read is_there, long) $
+      use1 𝓛 (‵ ((mem R).own_at read b spot) ⊛ raw (all 𝓤 cells_back)) (focus_any 𝓛 (mem R) any m d.xs b o is_there) $
+      split ! $ frame ! $ done !)
 
 module _ (X : RattleType) (n : ℕ) where
   abbrev ended : Ended
@@ -99,9 +57,6 @@ module _ (X : RattleType) (n : ℕ) where
 
   abbrev stayed : Stays ended.signature.params ended.kept
   stayed = (stay_dropped (RefMutOf (0 ∷ []) tt (plain (λ _. Cells X n)) (λ _. tt)) no, (stay_dropped (plain (λ _. usize)) yes, tt))
-
-  abbrev arguments : Args
-  arguments = layouts (a_type ∷ a_number ∷ []) (X, (number n, tt))
 
 pub at_mut_spec : {M : Type 1} → statement M
 at_mut_spec 𝓤 𝓛 𝓜 𝓡 wired X n L fits =

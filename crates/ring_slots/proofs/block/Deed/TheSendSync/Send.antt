@@ -1,6 +1,6 @@
 use denote.RattleType.{RattleType}
 use denote.Param.Send.{IsSend}
-use Rattle.ring_slots.proofs.Crossing.{Deed-send}
+use Rattle.ring_slots.proofs.SendSync.{Deed-send}
 use Rattle.ring_slots.specs.contracts.block.Deed.{the_row}
 
 pub send : (R : RattleType) → IsSend (the_row R)

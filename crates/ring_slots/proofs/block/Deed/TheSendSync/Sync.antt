@@ -1,6 +1,6 @@
 use denote.RattleType.{RattleType}
 use denote.Param.Send.{IsSync}
-use Rattle.ring_slots.proofs.Crossing.{Deed-sync}
+use Rattle.ring_slots.proofs.SendSync.{Deed-sync}
 use Rattle.ring_slots.specs.contracts.block.Deed.{the_row}
 
 pub sync : (R : RattleType) → IsSync (the_row R)

@@ -1,6 +1,6 @@
 use denote.RattleType.{RattleType}
 use denote.Param.Send.{IsSend}
-use Rattle.ring_slots.proofs.Crossing.{Owner-send}
+use Rattle.ring_slots.proofs.SendSync.{Owner-send}
 use Rattle.ring_slots.specs.contracts.block.Owner.{the_row}
 
 pub send : (R : RattleType) → IsSend R → IsSend (the_row R)

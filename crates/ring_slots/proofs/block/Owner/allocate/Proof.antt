@@ -11,7 +11,7 @@ use Rattle.std.proofs.alloc.Global.TheLaws as heap_laws
 use Rattle.std.proofs.impls.GlobalAllocator.allocate.Met.{met}
 use Rattle.ring_slots.proofs.BlockCalls.{Handle, Ask, ask, asks, asked, block_type, block_laid, handle_lent, handle_back}
 use Rattle.ring_slots.proofs.SlotsInMemory.{has_size, product_is, of_room}
-use Rattle.ring_slots.proofs.Parts.{R, Three, three, begun, three_made}
+use Rattle.ring_slots.proofs.OwnerParts.{R, Three, three, begun, three_made}
 use Rattle.ring_slots.specs.contracts.block.Owner.allocate as contract
 use Rattle.ring_slots.proofs.block.Owner.allocate.Statement.{statement}
 use Rattle.ring_slots.proofs.block.Owner.allocate.Code as code

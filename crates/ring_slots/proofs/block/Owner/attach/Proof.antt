@@ -6,8 +6,8 @@ use Rattle.core.proofs.slots.Opens.{row_had, row_made, row_val}
 use Rattle.core.proofs.slots.Slots.into_raw_parts.Met as callee
 use Rattle.std_alloc.proofs.vec.Blocks.{all, el}
 use Rattle.std_alloc.proofs.vec.Spares.{Row, parts_typed, Into, Into-gives, Into-goes, at_into}
-use Rattle.ring_slots.proofs.Rows.{empty_from, held_to, items_of, length-slots_to, of_row, slots_to}
-use Rattle.ring_slots.proofs.Parts.{R, Seen, slots_opened, slots_closed}
+use Rattle.ring_slots.proofs.CoreRows.{empty_from, held_to, items_of, length-slots_to, of_row, slots_to}
+use Rattle.ring_slots.proofs.OwnerParts.{R, Seen, slots_opened, slots_closed}
 use Rattle.ring_slots.specs.contracts.block.Owner.attach as contract
 use Rattle.ring_slots.proofs.block.Owner.attach.Statement.{statement}
 use Rattle.ring_slots.proofs.block.Owner.attach.Code as code

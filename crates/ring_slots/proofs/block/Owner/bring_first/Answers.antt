@@ -2,7 +2,7 @@ use Rattle.ring_slots.proofs.Words.{arith, ◌∙◌}
 use mathlib.Core.Logic.{inr}
 use Rattle.std.specs.Prelude.{◌-◌}
 use Rattle.ring_slots.proofs.Filled.{first_item}
-use Rattle.ring_slots.proofs.Lowered.{brought, stretch_filled}
+use Rattle.ring_slots.proofs.MovedDown.{brought, stretch_filled}
 use Rattle.ring_slots.proofs.SlotsInMemory.{stretch_long}
 use Rattle.ring_slots.proofs.block.Owner.bring_first.Goals as goal
 

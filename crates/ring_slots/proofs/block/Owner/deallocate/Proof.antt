@@ -7,7 +7,7 @@ use Rattle.ring_slots.specs.block.Block.{IsDeedOf}
 use Rattle.ring_slots.specs.block.Memory.{owned}
 use Rattle.ring_slots.proofs.BlockCalls.{Give, give, gives, gave, block_type, block_laid, handle_lent, handle_back}
 use Rattle.ring_slots.proofs.SlotsInMemory.{has_size, product_is, to_room}
-use Rattle.ring_slots.proofs.Parts.{R, Seen, Right, mark_had}
+use Rattle.ring_slots.proofs.OwnerParts.{R, Seen, Right, mark_had}
 use Rattle.ring_slots.specs.contracts.block.Owner.deallocate as contract
 use Rattle.ring_slots.proofs.block.Owner.deallocate.Statement.{statement}
 use Rattle.ring_slots.proofs.block.Owner.deallocate.Code as code

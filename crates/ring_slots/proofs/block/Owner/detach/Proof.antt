@@ -6,9 +6,9 @@ use Rattle.std_alloc.proofs.vec.Blocks.{all}
 use Rattle.std_alloc.proofs.vec.Spares.{Row, row_Typed, From, Made, at_from, from_gives, from_goes}
 use Rattle.core.proofs.slots.Opens.{row_val}
 use Rattle.core.proofs.slots.Slots.from_raw_parts.Met as callee
-use Rattle.ring_slots.proofs.Rows.{held_in, is_full, items_of, or_this, to_row}
+use Rattle.ring_slots.proofs.CoreRows.{held_in, is_full, items_of, or_this, to_row}
 use Rattle.ring_slots.proofs.SlotsInMemory.{says_both}
-use Rattle.ring_slots.proofs.Parts.{R, Seen, pointer_good, slots_opened, slots_closed}
+use Rattle.ring_slots.proofs.OwnerParts.{R, Seen, pointer_good, slots_opened, slots_closed}
 use Rattle.ring_slots.specs.contracts.block.Owner.detach as contract
 use Rattle.ring_slots.proofs.block.Owner.detach.Statement.{statement}
 use Rattle.ring_slots.proofs.block.Owner.detach.Code as code

@@ -2,7 +2,7 @@
 use Rattle.ring_slots.proofs.Words.{◌≡◌, refl, sym, subst, ◌∙◌, List, [], ◌∷◌, ◌++◌, ℕ, ◌+◌, ◌*◌, ◌^◌, ◌<◌, length, get_or, length-set, Fn, a_type, named, inst_fn, Val, vptr, Ura, full_share, SProp, ent, sep, Fml, GName, ftrue, fsep, fat, flft, WpFn, Logic, sem, ‵, raw, ◌⊛◌, some, later, prop, at_ret, ◌$◌, ◌∵◌, !, qed, move, keep, drop, use1, use2, pick, split, split3, join, fsplit, fsplit3, fjoin, fjoin3, fpack, feq_l, flt_i, flt_l, rewrite, regoal, suffices, frame, group, await, done, stop, addr, of_opd, bin, size_lit, first, blocks, exec, returns, enter, alloc_all, pass_all, free_all, look_at, get, through, sets, sets_last, take_at, give_at, env, ◌⊑◌, fact, tables, usize, yes, no, follows, lends_Part, mem, cell_at, part_of, layouts, RattleType, Ptr, RawPtr, block_ptr, ptr_val, MutRef, plain, mut_ref_to, nothing, heard, says, Stays, stay_dropped, Goes-dropped, Goes-spent_ref, walk_of, ends_at, Option, Some, None, IsSome, type_size, after, proved_at, ty_ptr, owner_with, slot, row}
 use Rattle.ring_slots.specs.block.Memory.{owned}
 use Rattle.ring_slots.proofs.SlotsInMemory.{item_of, full_within, place_fits, others, slot_out, slot_in}
-use Rattle.ring_slots.proofs.Parts.{R, Seen, Mark, AreSmall, pointer_good, slots_opened}
+use Rattle.ring_slots.proofs.OwnerParts.{R, Seen, Mark, AreSmall, pointer_good, slots_opened}
 use Rattle.ring_slots.specs.contracts.block.Owner.get_mut as contract
 use Rattle.ring_slots.proofs.block.Owner.get_mut.Statement.{statement}
 use Rattle.ring_slots.proofs.block.Owner.get_mut.Code as code

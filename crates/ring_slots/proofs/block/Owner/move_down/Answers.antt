@@ -1,7 +1,7 @@
 use Rattle.ring_slots.proofs.Words.{arith, ◌∙◌}
 use Rattle.std.specs.Prelude.{◌-◌}
 use Rattle.ring_slots.proofs.Filled.{first_item}
-use Rattle.ring_slots.proofs.Lowered.{moved_down, stretch_filled}
+use Rattle.ring_slots.proofs.MovedDown.{moved_down, stretch_filled}
 use Rattle.ring_slots.proofs.SlotsInMemory.{stretch_long}
 use Rattle.ring_slots.proofs.block.Owner.move_down.Goals as goal
 

@@ -4,7 +4,7 @@ use denote.FollowSlice.{lends_Elements}
 use Rattle.ring_slots.specs.block.Memory.{owned}
 use Rattle.ring_slots.proofs.Filled.{length-filled, refilled_is}
 use Rattle.ring_slots.proofs.SlotsInMemory.{around, of_cells, product_is, stretch_fits, stretch_in, stretch_long, stretch_out, to_cells}
-use Rattle.ring_slots.proofs.Parts.{R, Seen, Mark, AreSmall, pointer_good, slots_opened}
+use Rattle.ring_slots.proofs.OwnerParts.{R, Seen, Mark, AreSmall, pointer_good, slots_opened}
 use Rattle.ring_slots.specs.contracts.block.Owner.slice_mut as contract
 use Rattle.ring_slots.proofs.block.Owner.slice_mut.Statement.{statement}
 use Rattle.ring_slots.proofs.block.Owner.slice_mut.Code as code

@@ -4,7 +4,7 @@ use prog.Align.{dv_self}
 use Rattle.std.specs.contracts.alloc.Global as heap
 use Rattle.std.proofs.alloc.Global.TheLaws as heap_laws
 use Rattle.ring_slots.proofs.SlotsInMemory.{of_room}
-use Rattle.ring_slots.proofs.Parts.{R, three, begun, three_made}
+use Rattle.ring_slots.proofs.OwnerParts.{R, three, begun, three_made}
 use Rattle.ring_slots.specs.contracts.block.Owner.without_memory as contract
 use Rattle.ring_slots.proofs.block.Owner.without_memory.Statement.{statement}
 use Rattle.ring_slots.proofs.block.Owner.without_memory.Code as code

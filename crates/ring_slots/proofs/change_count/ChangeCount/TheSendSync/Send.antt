@@ -1,5 +1,5 @@
 use denote.Param.Send.{IsSend}
-use Rattle.ring_slots.proofs.Crossing.{ChangeCount-send}
+use Rattle.ring_slots.proofs.SendSync.{ChangeCount-send}
 use Rattle.ring_slots.specs.contracts.change_count.ChangeCount.{the_row}
 
 pub send : IsSend the_row

@@ -1,5 +1,5 @@
 use denote.Param.Send.{IsSync}
-use Rattle.ring_slots.proofs.Crossing.{ChangeCount-sync}
+use Rattle.ring_slots.proofs.SendSync.{ChangeCount-sync}
 use Rattle.ring_slots.specs.contracts.change_count.ChangeCount.{the_row}
 
 pub sync : IsSync the_row

@@ -16,11 +16,11 @@ invariant_of-self g c =
     let fs = c.self.inside.marks.full in let xs = c.self.inside.cells.xs in let same = c.self.invariant.1 ∙ sym c.self.invariant.0 in
     let empty = rw (sym c.self.view_is) at c.requires in let items = c.args.items.now in let n = length items in
     let low : c.args.from + n ≤ length xs = omega (arith, empty.0, length-shown fs xs same) in
-    (rw c.put_slice.ensures (length-over xs items c.args.from n refl low ∙ c.self.invariant.0), rw c.filled-self-inside.ensures (length-over fs (replicate n true) c.args.from n (length-replicate n true) (omega (arith, low, same)) ∙ c.self.invariant.1))
+    (rw c.put_slice.ensures (length-over xs items c.args.from n refl low ∙ c.self.invariant.0), rw c.marked-self-inside.ensures (length-over fs (replicate n true) c.args.from n (length-replicate n true) (omega (arith, low, same)) ∙ c.self.invariant.1))
 
 pub returns : goal.returns
 returns g c =
     let fs = c.self.inside.marks.full in let xs = c.self.inside.cells.xs in let same = c.self.invariant.1 ∙ sym c.self.invariant.0 in
     let items = c.args.items.now in
-    let slots : shown c.filled-self-inside.result.full c.put_slice.new.self.xs ≡ filled (shown fs xs) c.args.from items = rw (c.filled-self-inside.ensures, c.put_slice.ensures) (shown-filled fs xs c.args.from items same) in
+    let slots : shown c.marked-self-inside.result.full c.put_slice.new.self.xs ≡ filled (shown fs xs) c.args.from items = rw (c.marked-self-inside.ensures, c.put_slice.ensures) (shown-filled fs xs c.args.from items same) in
     rw (sym c.self.view_is) (λ i. record { slots = slots i; changes = c.after-self-inside.ensures i; capacity = g.row.CAP })

@@ -1,5 +1,5 @@
 use denote.Param.Send.{IsSend}
-use Rattle.ring_slots.proofs.Crossing.{Marks-send}
+use Rattle.ring_slots.proofs.SendSync.{Marks-send}
 use Rattle.ring_slots.specs.contracts.marks.Marks.{the_row}
 
 pub send : IsSend the_row

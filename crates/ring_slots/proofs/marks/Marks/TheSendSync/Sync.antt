@@ -1,5 +1,5 @@
 use denote.Param.Send.{IsSync}
-use Rattle.ring_slots.proofs.Crossing.{Marks-sync}
+use Rattle.ring_slots.proofs.SendSync.{Marks-sync}
 use Rattle.ring_slots.specs.contracts.marks.Marks.{the_row}
 
 pub sync : IsSync the_row

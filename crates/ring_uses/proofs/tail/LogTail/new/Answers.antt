@@ -1,5 +1,5 @@
-use Rattle.std.proofs.Common.{rules}
+use Rattle.std.proofs.Common.{refl}
 use Rattle.ring_uses.proofs.tail.LogTail.new.Goals as goal
 
 pub returns : goal.returns
-returns c = search rules
+returns c = rw c.in_ok-new.ensures.made refl

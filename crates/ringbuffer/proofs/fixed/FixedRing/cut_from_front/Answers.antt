@@ -1,5 +1,5 @@
 use Rattle.ringbuffer.proofs.Words.{refl, ◌%◌, ap, arith, sym, view_from, ◌+◌, ◌-◌, ◌∙◌, subst, LaysApart, after_cut}
-use Rattle.ringbuffer.proofs.LaysApart.{cut_fits, cut_more, last_of_front, moved_up, all_behind}
+use Rattle.ringbuffer.proofs.Gap.{cut_fits, cut_more, last_of_front, moved_up, all_behind}
 use Rattle.ringbuffer.proofs.fixed.FixedRing.cut_from_front.Goals as goal
 
 pub loop-moved-init : goal.loop-moved-init

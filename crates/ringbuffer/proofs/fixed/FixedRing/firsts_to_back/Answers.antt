@@ -1,6 +1,6 @@
 use Rattle.ringbuffer.proofs.Words.{◌≡◌, ◌<◌, ◌∙◌, Some, View, after_put, after_take, ap, arith, length, slice_get, sym, turned, view_from}
 use Rattle.ringbuffer.proofs.LaysOut.{LaysOut-none, LaysOut-then}
-use Rattle.ringbuffer.proofs.Turns.{after_turn_left-more, after_turn_left-none}
+use Rattle.ringbuffer.proofs.Rotations.{after_turn_left-more, after_turn_left-none}
 use Rattle.ringbuffer.proofs.fixed.FixedRing.firsts_to_back.Goals as goal
 
 pub loop-init : goal.loop-init

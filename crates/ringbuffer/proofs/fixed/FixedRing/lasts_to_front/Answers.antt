@@ -1,6 +1,6 @@
 use Rattle.ringbuffer.proofs.Words.{◌≡◌, ◌-◌, ◌<◌, Some, View, after_pop, after_put_first, ap, arith, length, slice_get, sym, turned, view_from}
 use Rattle.ringbuffer.proofs.LaysOut.{LaysOut-none, LaysOut-then}
-use Rattle.ringbuffer.proofs.Turns.{after_turn_right-more, after_turn_right-none}
+use Rattle.ringbuffer.proofs.Rotations.{after_turn_right-more, after_turn_right-none}
 use Rattle.ringbuffer.proofs.fixed.FixedRing.lasts_to_front.Goals as goal
 
 pub loop-init : goal.loop-init

@@ -1,5 +1,5 @@
 use Rattle.ringbuffer.proofs.Words.{◌∙◌}
-use Rattle.ringbuffer.proofs.Poured.{filled_by}
+use Rattle.ringbuffer.proofs.FromSource.{filled_by}
 use Rattle.ringbuffer.proofs.grow.GrowableAllocRingBufferRingBuffer.fill_with.Goals as goal
 
 pub returns-clause-made : goal.returns-clause-made

@@ -1,7 +1,9 @@
 use Rattle.std.proofs.Common.{◌≡◌, ◌∷◌, ◌++◌, [], option_to_list, refl}
 use Rattle.ringbuffer.specs.Contents.{keep_last}
 use Rattle.ringbuffer.proofs.Limits.{overwritten-keep_last}
-use Rattle.window.proofs.Combined.{items-keep_last, items-overwritten, left_by, one_more}
+use Rattle.window.proofs.Combined.{left_by, one_more}
+use Rattle.window.proofs.Mapped.{map-overwritten, map-pushed}
+use Rattle.window.specs.Folds.{item_of}
 use Rattle.window.proofs.fold_window.WindowFold.push.Goals as goal
 
 -- The oldest item was the first of the older ones, and the pushed one comes last.
@@ -29,18 +31,18 @@ invariant_of-self-in-Ok-None g c =
 
 pub returns-in-Ok-Some-clause-overwrites : goal.returns-in-Ok-Some-clause-overwrites
 returns-in-Ok-Some-clause-overwrites g c =
-    rw (← c.self.view_is, ← c.before_push.ensures.items, ← c.before_push.ensures.limit, ← items-overwritten (g.R.RingBuffer.limit c.before_push.new.ring) (g.R.RingBuffer.contents c.before_push.new.ring), ← c.in-Ok-Some.ensures.overwrites, c.in-Ok-Some.field-0-is) refl
+    rw (← c.self.view_is, ← c.before_push.ensures.items, ← c.before_push.ensures.limit, ← map-overwritten item_of (g.R.RingBuffer.limit c.before_push.new.ring) (g.R.RingBuffer.contents c.before_push.new.ring), ← c.in-Ok-Some.ensures.overwrites, c.in-Ok-Some.field-0-is) refl
 
 pub returns-in-Ok-Some-clause-ok : goal.returns-in-Ok-Some-clause-ok
 returns-in-Ok-Some-clause-ok g c =
     rw (← c.self.view_is, ← c.before_push.ensures.items, ← c.before_push.ensures.limit, c.in-Ok-Some.ensures.ok, ← c.new.ensures)
-    (items-keep_last (g.R.RingBuffer.limit c.before_push.new.ring) (g.R.RingBuffer.contents c.before_push.new.ring) c.new.result)
+    (map-pushed item_of (g.R.RingBuffer.limit c.before_push.new.ring) (g.R.RingBuffer.contents c.before_push.new.ring) c.new.result)
 
 pub returns-in-Ok-None-clause-overwrites : goal.returns-in-Ok-None-clause-overwrites
 returns-in-Ok-None-clause-overwrites g c =
-    rw (← c.self.view_is, ← c.before_push.ensures.items, ← c.before_push.ensures.limit, ← items-overwritten (g.R.RingBuffer.limit c.before_push.new.ring) (g.R.RingBuffer.contents c.before_push.new.ring), ← c.in-Ok-None.ensures.overwrites, c.in-Ok-None.field-0-is) refl
+    rw (← c.self.view_is, ← c.before_push.ensures.items, ← c.before_push.ensures.limit, ← map-overwritten item_of (g.R.RingBuffer.limit c.before_push.new.ring) (g.R.RingBuffer.contents c.before_push.new.ring), ← c.in-Ok-None.ensures.overwrites, c.in-Ok-None.field-0-is) refl
 
 pub returns-in-Ok-None-clause-ok : goal.returns-in-Ok-None-clause-ok
 returns-in-Ok-None-clause-ok g c =
     rw (← c.self.view_is, ← c.before_push.ensures.items, ← c.before_push.ensures.limit, c.in-Ok-None.ensures.ok, ← c.new.ensures)
-    (items-keep_last (g.R.RingBuffer.limit c.before_push.new.ring) (g.R.RingBuffer.contents c.before_push.new.ring) c.new.result)
+    (map-pushed item_of (g.R.RingBuffer.limit c.before_push.new.ring) (g.R.RingBuffer.contents c.before_push.new.ring) c.new.result)

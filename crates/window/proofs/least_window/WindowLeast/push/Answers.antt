@@ -1,6 +1,7 @@
 use Rattle.std.proofs.Common.{◌*◌, ◌∙◌, ap, refl}
-use Rattle.window.proofs.MonotonicQueues.{items_on-keep_last, items_on-overwritten}
+use Rattle.window.proofs.Mapped.{map-overwritten, map-pushed}
 use Rattle.window.proofs.Pushed.{stay, stay_behind, stay_pushed}
+use Rattle.window.specs.MonotonicQueue.{item_on}
 use Rattle.window.proofs.least_window.WindowLeast.push.Goals as goal
 
 pub forget-oldest-requires : goal.forget-oldest-requires
@@ -19,9 +20,9 @@ rank_newest-requires g c =
 pub returns-in-Ok-clause-overwrites : goal.returns-in-Ok-clause-overwrites
 returns-in-Ok-clause-overwrites g c =
     rw (← c.self.view_is, c.forget-oldest.ensures.value, c.in-Ok.ensures.overwrites)
-    (items_on-overwritten (g.R.RingBuffer.limit c.self.inside.ring) (g.R.RingBuffer.contents c.self.inside.ring))
+    (map-overwritten item_on (g.R.RingBuffer.limit c.self.inside.ring) (g.R.RingBuffer.contents c.self.inside.ring))
 
 pub returns-in-Ok-clause-ok : goal.returns-in-Ok-clause-ok
 returns-in-Ok-clause-ok g c =
     rw (← c.self.view_is, c.rank_newest.ensures.items, c.in-Ok.ensures.ok refl, c.unranked.ensures)
-    (items_on-keep_last (g.R.RingBuffer.limit c.self.inside.ring) (g.R.RingBuffer.contents c.self.inside.ring) (record { item = c.args.item; behind = 1; ahead = 0 }))
+    (map-pushed item_on (g.R.RingBuffer.limit c.self.inside.ring) (g.R.RingBuffer.contents c.self.inside.ring) (record { item = c.args.item; behind = 1; ahead = 0 }))

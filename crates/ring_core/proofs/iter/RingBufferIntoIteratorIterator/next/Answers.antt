@@ -1,2 +1,0 @@
-pub returns-clause-steps : Rattle.ring_core.proofs.iter.RingBufferIntoIteratorIterator.next.Goals.returns-clause-steps
-returns-clause-steps g c = search Rattle.std.proofs.Common.rules

@@ -1,2 +1,0 @@
-pub returns : Rattle.ring_slots.proofs.heap.HeapSlots.slice_mut.Goals.returns
-returns g c = search Rattle.std.proofs.Common.rules

@@ -1,0 +1,127 @@
+//! Lists of calls, each on a new ring of each of some types.
+
+use crate::drought::Drought;
+use crate::steps::{Fault, Outcome, Row, Step, first_fault, first_fault_of_rows};
+use ringbuffer::{
+    AllocRingBuffer, ConstGenericRingBuffer, CopyRingBuffer, DoubleEndedRing,
+    GrowableAllocRingBuffer,
+};
+use std::alloc::Global;
+
+/// A type of ring.
+#[derive(Clone, Copy, Debug, Drop, PartialEq)]
+pub enum Kind {
+    Array,
+    Copies,
+    Heap,
+    Growable,
+}
+
+/// The types of ring that have a limit.
+pub const FIXED: &[Kind] = &[Kind::Array, Kind::Copies, Kind::Heap];
+
+/// All types of ring.
+pub const EACH: &[Kind] = &[Kind::Array, Kind::Copies, Kind::Heap, Kind::Growable];
+
+/// Calls of a ring.
+#[derive(Clone, Copy)]
+pub enum Calls<'a> {
+    /// Each answers what its step says.
+    Steps(&'a [Step]),
+    /// The call of each row answers what it says, and leaves what it says, on items that begin at each place.
+    Rows(&'a [Row]),
+    /// Pushes of some items, and then steps while no memory is had.
+    InDrought(&'static [i64], &'a [Step]),
+}
+
+// There is no ring in an array of this capacity, or no memory for one.
+const NO_RING: Fault = (0, 0, 0, Outcome::Refused);
+
+/// Does the calls on a new ring of each of these types, with this capacity or this room. Returns the first type whose ring
+/// doesn't answer as they say, and where that is.
+///
+/// A generic function takes some three seconds to prove for each type of ring that it is called with. So each ring that
+/// a list may be for has its one call here.
+pub fn first_fault_on(
+    alloc: Global,
+    kinds: &[Kind],
+    capacity: usize,
+    calls: Calls,
+) -> Option<(Kind, Fault)> {
+    for kind in kinds {
+        let fault = match kind {
+            Kind::Array => fault_in_array(alloc, capacity, calls),
+            Kind::Copies => fault_of_copies(alloc, capacity, calls),
+            Kind::Heap => fault_on_heap(alloc, capacity, calls),
+            Kind::Growable => fault_of_growable(alloc, capacity, calls),
+        };
+        if let Some(fault) = fault {
+            return Some((*kind, fault));
+        }
+    }
+    None
+}
+
+// Does the calls on a ring. Returns where one doesn't answer as they say.
+fn fault_of<R: DoubleEndedRing<i64>>(alloc: Global, ring: &mut R, calls: Calls) -> Option<Fault> {
+    let (step, outcome) = match calls {
+        Calls::Steps(steps) => first_fault(ring, steps)?,
+        Calls::Rows(rows) => return first_fault_of_rows(ring, rows),
+        Calls::InDrought(items, steps) => {
+            let Ok(_) = ring.extend(items.iter().copied()) else {
+                return Some(NO_RING);
+            };
+            let Ok(_drought) = Drought::but_for(alloc, 0) else {
+                return Some(NO_RING);
+            };
+            first_fault(ring, steps)?
+        }
+    };
+    Some((0, 0, step, outcome))
+}
+
+fn fault_in_array(alloc: Global, capacity: usize, calls: Calls) -> Option<Fault> {
+    match capacity {
+        1 => fault_of(alloc, &mut ConstGenericRingBuffer::<i64, 1>::new(), calls),
+        2 => fault_of(alloc, &mut ConstGenericRingBuffer::<i64, 2>::new(), calls),
+        3 => fault_of(alloc, &mut ConstGenericRingBuffer::<i64, 3>::new(), calls),
+        4 => fault_of(alloc, &mut ConstGenericRingBuffer::<i64, 4>::new(), calls),
+        5 => fault_of(alloc, &mut ConstGenericRingBuffer::<i64, 5>::new(), calls),
+        8 => fault_of(alloc, &mut ConstGenericRingBuffer::<i64, 8>::new(), calls),
+        13 => fault_of(alloc, &mut ConstGenericRingBuffer::<i64, 13>::new(), calls),
+        16 => fault_of(alloc, &mut ConstGenericRingBuffer::<i64, 16>::new(), calls),
+        50 => fault_of(alloc, &mut ConstGenericRingBuffer::<i64, 50>::new(), calls),
+        _ => Some(NO_RING),
+    }
+}
+
+fn fault_of_copies(alloc: Global, capacity: usize, calls: Calls) -> Option<Fault> {
+    match capacity {
+        1 => fault_of(alloc, &mut CopyRingBuffer::<i64, 1>::new(0), calls),
+        2 => fault_of(alloc, &mut CopyRingBuffer::<i64, 2>::new(0), calls),
+        3 => fault_of(alloc, &mut CopyRingBuffer::<i64, 3>::new(0), calls),
+        4 => fault_of(alloc, &mut CopyRingBuffer::<i64, 4>::new(0), calls),
+        5 => fault_of(alloc, &mut CopyRingBuffer::<i64, 5>::new(0), calls),
+        8 => fault_of(alloc, &mut CopyRingBuffer::<i64, 8>::new(0), calls),
+        13 => fault_of(alloc, &mut CopyRingBuffer::<i64, 13>::new(0), calls),
+        16 => fault_of(alloc, &mut CopyRingBuffer::<i64, 16>::new(0), calls),
+        _ => Some(NO_RING),
+    }
+}
+
+fn fault_on_heap(alloc: Global, capacity: usize, calls: Calls) -> Option<Fault> {
+    if capacity == 0 {
+        return Some(NO_RING);
+    }
+    match AllocRingBuffer::new(alloc, capacity) {
+        Ok(mut ring) => fault_of(alloc, &mut ring, calls),
+        Err(_) => Some(NO_RING),
+    }
+}
+
+fn fault_of_growable(alloc: Global, room: usize, calls: Calls) -> Option<Fault> {
+    match GrowableAllocRingBuffer::with_capacity(alloc, room) {
+        Ok(mut ring) => fault_of(alloc, &mut ring, calls),
+        Err(_) => Some(NO_RING),
+    }
+}
