@@ -1,0 +1,161 @@
+//! What a run is, and how a ring plays one. The methods have their bodies in traits: a call of a function over rings would
+//! be proved anew for each type and each capacity of an array.
+
+use super::bytes::PlayedBytes;
+use super::calls;
+use super::digests::{BLOCKS, DIGESTS};
+use super::items::{Maker, Values};
+use super::player::Player;
+use super::rings::{Plain, Played, PlayedCopies};
+use ringbuffer::{
+    AllocRingBuffer, ConstGenericRingBuffer, CopyRingBuffer, GrowableAllocRingBuffer,
+};
+use std::alloc::Global;
+use std::fmt::Debug;
+use std::process::Abort;
+
+/// Asserts that both are equal. A failure names the test and both values.
+fn assert_equal<T: PartialEq + Debug + Drop>(rt: &impl Abort, found: T, wanted: T) {
+    assert_eq!(rt; found, wanted);
+}
+
+/// A run: its number, its ring, and the capacity that this is made with.
+#[derive(Clone, Copy, Debug, PartialEq, Drop)]
+pub struct Run {
+    number: usize,
+    ring: &'static str,
+    items: &'static str,
+    capacity: usize,
+}
+
+impl Run {
+    /// Makes the run before the first of a kind of items.
+    pub fn before(number: usize, items: &'static str) -> Run {
+        Run {
+            number,
+            ring: "",
+            items,
+            capacity: 0,
+        }
+    }
+
+    /// Makes the run after this.
+    pub fn next(self, ring: &'static str, capacity: usize) -> Run {
+        Run {
+            number: self.number.wrapping_add(1),
+            ring,
+            items: self.items,
+            capacity,
+        }
+    }
+}
+
+/// Makes the player of a run.
+fn begin<T: Clone + Drop, M: Maker<T>, R: Played<T>>(
+    ring: &mut R,
+    run: Run,
+    maker: M,
+    alloc: Global,
+) -> Player<M> {
+    let mut player = Player::new(maker, alloc, run.capacity, run.number);
+    calls::rotate(ring, &mut player);
+    player
+}
+
+/// Asserts that a run's digest is that of the same calls in Rust.
+fn assert_agrees<T: Clone + Drop, M: Maker<T>, R: Played<T>>(
+    rt: &impl Abort,
+    ring: &R,
+    player: &mut Player<M>,
+    run: Run,
+    block: usize,
+) {
+    player.note_ring(ring);
+    let (count, sum) = player.maker.alive();
+    player.note(count);
+    player.note(sum);
+    let first = run.number.wrapping_sub(1).wrapping_mul(BLOCKS);
+    let wanted = DIGESTS.get(first.wrapping_add(block)).copied();
+    let calls = block.wrapping_add(1).wrapping_mul(64);
+    let found = Some(player.digest());
+    assert_equal(rt, (run, calls, found), (run, calls, wanted));
+}
+
+/// A ring that plays runs.
+pub trait Replays<T: Clone + Drop>: Played<T> {
+    /// Plays a run that copies no item.
+    fn replay<M: Maker<T> + Drop>(&mut self, rt: &(impl Abort + AllocGlobal), maker: M, run: Run) {
+        let mut player = begin(self, run, maker, rt.alloc());
+        for block in 0..BLOCKS {
+            for _ in 0..64 {
+                calls::play(self, &mut player).expect(rt, "memory");
+            }
+            assert_agrees(rt, self, &mut player, run, block);
+        }
+    }
+}
+
+impl<T: Clone + Drop, const CAP: usize> Replays<T> for ConstGenericRingBuffer<T, CAP> {}
+
+impl<T: Clone + Drop> Replays<T> for AllocRingBuffer<T> {}
+
+impl<T: Clone + Drop> Replays<T> for GrowableAllocRingBuffer<T> {}
+
+/// A ring that plays runs of items that can be copied.
+pub trait ReplaysCopies<T: Plain>: PlayedCopies<T> {
+    /// Plays a run, of which every fourth call copies or compares items.
+    fn replay_copies<M: Maker<T> + Drop>(
+        &mut self,
+        rt: &(impl Abort + AllocGlobal),
+        maker: M,
+        run: Run,
+    ) {
+        let mut player = begin(self, run, maker, rt.alloc());
+        for block in 0..BLOCKS {
+            for call in 1..65u8 {
+                if call % 4 == 0 {
+                    self.play_copies(&mut player).expect(rt, "memory");
+                } else {
+                    calls::play(self, &mut player).expect(rt, "memory");
+                }
+            }
+            assert_agrees(rt, self, &mut player, run, block);
+        }
+    }
+}
+
+impl<T: Plain, const CAP: usize> ReplaysCopies<T> for ConstGenericRingBuffer<T, CAP> {}
+
+impl<T: Plain, const CAP: usize> ReplaysCopies<T> for CopyRingBuffer<T, CAP> {}
+
+impl<T: Plain> ReplaysCopies<T> for AllocRingBuffer<T> {}
+
+impl<T: Plain> ReplaysCopies<T> for GrowableAllocRingBuffer<T> {}
+
+/// A ring that plays runs of bytes.
+pub trait ReplaysBytes: PlayedBytes {
+    /// Plays a run, of which every fourth call copies or compares bytes, or reads or writes a stream.
+    fn replay_bytes(&mut self, rt: &(impl Abort + AllocGlobal), maker: Values, run: Run) {
+        let mut player = begin::<u8, Values, Self>(self, run, maker, rt.alloc());
+        for block in 0..BLOCKS {
+            for call in 1..65u8 {
+                if call % 4 != 0 {
+                    calls::play(self, &mut player).expect(rt, "memory");
+                } else if player.flip() {
+                    self.play_copies(&mut player).expect(rt, "memory");
+                } else {
+                    self.play_bytes(&mut player).expect(rt, "memory");
+                }
+            }
+            assert_agrees::<u8, Values, Self>(rt, self, &mut player, run, block);
+        }
+    }
+}
+
+impl<const CAP: usize> ReplaysBytes for ConstGenericRingBuffer<u8, CAP> {}
+
+impl<const CAP: usize> ReplaysBytes for CopyRingBuffer<u8, CAP> {}
+
+impl ReplaysBytes for AllocRingBuffer<u8> {}
+
+impl ReplaysBytes for GrowableAllocRingBuffer<u8> {}
