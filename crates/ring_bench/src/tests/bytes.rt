@@ -101,7 +101,14 @@ trait OfBytes: BufRead + Read + Write + RingBuffer<u8> + Drop {
         assert_equal(rt, io::copy(&mut from, &mut self).is_err(), true);
         assert_reads(rt, &mut self, 8, b"hello, r");
     }
+}
 
+impl<S: TakesCopies<u8>> OfBytes for FixedRing<u8, S> {}
+
+impl OfBytes for GrowableAllocRingBuffer<u8> {}
+
+/// A ring of bytes that drops its oldest.
+trait OfLastBytes: OfBytes {
     /// Writes to a log of five bytes in pieces, of which one is longer than the log.
     fn assert_keeps_the_last(mut self, rt: &impl Abort)
         requires { IsSome (Self.limit self) }
@@ -126,6 +133,4 @@ trait OfBytes: BufRead + Read + Write + RingBuffer<u8> + Drop {
     }
 }
 
-impl<S: TakesCopies<u8>> OfBytes for FixedRing<u8, S> {}
-
-impl OfBytes for GrowableAllocRingBuffer<u8> {}
+impl<S: TakesCopies<u8>> OfLastBytes for FixedRing<u8, S> {}
