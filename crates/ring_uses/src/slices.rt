@@ -32,30 +32,30 @@ pub fn bytes_in_growable(
     Ok(bytes)
 }
 
-/// Turns the items of a growable ring round.
-pub fn turn_round(ring: &mut GrowableAllocRingBuffer<u32>)
+/// Reverses the order of the items of a growable ring.
+pub fn reverse_growable(ring: &mut GrowableAllocRingBuffer<u32>)
     ensures { ring.new ≡ reverse ring.old }
 {
     ring.make_contiguous().reverse();
 }
 
-/// Turns the items of a heap ring round.
-pub fn turn_round_on_heap(ring: &mut AllocRingBuffer<u32>)
+/// Reverses the order of the items of a heap ring.
+pub fn reverse_on_heap(ring: &mut AllocRingBuffer<u32>)
     ensures items { ring.new.items ≡ reverse ring.old.items }
     ensures capacity { ring.new.capacity ≡ ring.old.capacity }
 {
     ring.make_contiguous().reverse();
 }
 
-/// Turns the items of a ring in an array of plain items round.
-pub fn turn_round_plain<const CAP: usize>(ring: &mut CopyRingBuffer<u32, CAP>)
+/// Reverses the order of the items of a ring in an array of plain items.
+pub fn reverse_plain<const CAP: usize>(ring: &mut CopyRingBuffer<u32, CAP>)
     ensures { ring.new.items ≡ reverse ring.old.items }
 {
     ring.make_contiguous().reverse();
 }
 
-/// Turns the items of any ring round whose slots lend them as a slice.
-pub fn turn_round_in_slots<S: LendsRows<u32>>(ring: &mut FixedRing<u32, S>)
+/// Reverses the order of the items of any ring whose slots lend them as a slice.
+pub fn reverse_in_slots<S: LendsRows<u32>>(ring: &mut FixedRing<u32, S>)
     ensures { ring.new.items ≡ reverse ring.old.items }
 {
     ring.make_contiguous().reverse();

@@ -1,9 +1,9 @@
 //! Loops over a ring's iterator and over its indexes. Each has an invariant of its own.
 
-ghost use Rattle.std.specs.Prelude.{◌≡◌, ◌<◌, ◌^◌, ◌≤◌, All, IfSome, IsNone, [], length, sum};
+ghost use Rattle.std.specs.Prelude.{◌≡◌, ◌<◌, ◌^◌, ◌≤◌, All, IfSome, IsNone, IsTrue, [], length, sum};
 ghost use Rattle.std.specs.List.{Any};
 
-use ringbuffer::{AllocRingBuffer, RingBuffer, RingBufferExt};
+use ringbuffer::{AllocRingBuffer, RingBuffer, RingBufferExt, RingBufferIterator};
 
 /// Adds up the costs.
 pub fn total_cost<R: RingBuffer<u64>>(costs: &R) -> u64
@@ -40,4 +40,17 @@ pub fn silence(samples: &mut AllocRingBuffer<u32>)
     for i in 0..samples.len() {
         samples[i] = 0;
     }
+}
+
+/// Tells whether every item is below `bound`.
+pub fn all_below<R: RingBuffer<u32>>(ring: &R, bound: u32) -> bool
+    ensures only { IsTrue result → All (λ x. x < bound) (R.contents ring.now) }
+    ensures whenever { All (λ x. x < bound) (R.contents ring.now) → IsTrue result }
+{
+    for x in RingBufferIterator::new(ring) {
+        if *x >= bound {
+            return false;
+        }
+    }
+    true
 }

@@ -3,6 +3,7 @@
 mod counted;
 mod floats;
 mod refused;
+mod summed;
 mod timed;
 
 use ringbuffer::{AllocRingBuffer, ConstGenericRingBuffer, GrowableAllocRingBuffer, RingBuffer};

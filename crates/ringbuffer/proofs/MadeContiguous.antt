@@ -1,11 +1,11 @@
 -- Items that lie side by side in the slots of a ring.
-use Rattle.ringbuffer.proofs.Words.{◌≡◌, ℕ, ◌+◌, ◌-◌, ◌<◌, ◌≤◌, List, ◌++◌, length, map, take, drop, Option, None, Some, inl, inr, refl, sym, ap, ◌∙◌, arith, length-append, length-drop, append_assoc, map-append, min, take_all, take-append-drop, turned, ◌%◌, IsFullStretch, IsLaidOut, replicate, nat_le, if◌then◌else◌, length_refill, refill, common_steps, drop-drop, drop-map, get_or_append_left, get_or-append_right, get_or-replicate, get_or_past, length-map, length-replicate, take-map, slice_get_cases, slice_get_past, Slots, HoldsStretch, refilled, after_rewrite, SlotsHold, items_from, LaysOut, view_from, IsSound, beside, straight_start, straightened}
+use Rattle.ringbuffer.proofs.Words.{◌≡◌, ℕ, ◌+◌, ◌-◌, ◌<◌, ◌≤◌, List, ◌++◌, length, map, take, drop, Option, None, Some, inl, inr, refl, sym, ap, ◌∙◌, arith, length-append, length-drop, append_assoc, map-append, min, take_all, take-append-drop, rotated, ◌%◌, IsFullStretch, IsLaidOut, replicate, nat_le, if◌then◌else◌, length_refill, refill, common_steps, drop-drop, drop-map, get_or_append_left, get_or-append_right, get_or-replicate, get_or_past, length-map, length-replicate, take-map, slice_get_cases, slice_get_past, Slots, HoldsStretch, refilled, after_rewrite, SlotsHold, items_from, LaysOut, view_from, IsSound, beside, contiguous_start, made_contiguous}
 use Rattle.ringbuffer.proofs.Sound.{IsSound-after}
 use Rattle.ringbuffer.proofs.LaysOut.{LaysOut-items}
 use Rattle.ring_slots.specs.Slots.{IsEmptyStretch, brought_first, lowered}
 use Rattle.ring_slots.proofs.Filled.{get_or-map_some}
 use Rattle.ringbuffer.proofs.Copies.{empty_behind}
-use Rattle.ringbuffer.proofs.Rotations.{length-turned}
+use Rattle.ringbuffer.proofs.Rotations.{length-rotated}
 use Rattle.ringbuffer.proofs.Stretches.{first_held, first_stretch, second_held, second_stretch}
 use Rattle.ringbuffer.proofs.SlotsHold.{SlotsHold-same, wrap}
 
@@ -44,8 +44,8 @@ module _ {X : Type 0} (size start : ℕ) (xs : List X) (fit : start + length xs 
       rw (first, beside-stretch, last, middle, sym (length_refill n xs ys refl)) refl
 
 -- items that reach no further than the last slot lie side by side
-pub straight_is : {X : Type 0} (slots : List (Option X)) (start : ℕ) (xs : List X) → start < length slots → start + length xs ≤ length slots → SlotsHold slots start xs → slots ≡ beside (length slots) start xs
-straight_is slots start xs within fit lie = SlotsHold-same slots start within (beside (length slots) start xs) xs lie (SlotsHold-beside (length slots) start xs fit within) (length-beside (length slots) start xs fit)
+pub contiguous_is : {X : Type 0} (slots : List (Option X)) (start : ℕ) (xs : List X) → start < length slots → start + length xs ≤ length slots → SlotsHold slots start xs → slots ≡ beside (length slots) start xs
+contiguous_is slots start xs within fit lie = SlotsHold-same slots start within (beside (length slots) start xs) xs lie (SlotsHold-beside (length slots) start xs fit within) (length-beside (length slots) start xs fit)
 
 -- a ring whose items go on at the first slot, of which those in the last slots are moved down behind the others
 module _ {X : Type 0} (s : Slots X) (start : ℕ) (laid_out : IsLaidOut s start) (len first : ℕ) (counted : len ≡ length (items_from s.slots start)) (ends : first + start ≡ length s.slots) (more : first < len) where
@@ -66,22 +66,22 @@ module _ {X : Type 0} (s : Slots X) (start : ℕ) (laid_out : IsLaidOut s start)
       let found : len - first ≡ (start + len) % size = elim (wrap start len size laid_out.start_within (omega arith)) [ inl a ↦ let none = a.0 in absurd (omega arith) | inr a ↦ sym (a.1 ∙ omega arith) ] in
       (omega arith, empty_behind s start laid_out (len - first) len (start - (len - first)) counted (λ _. found) (omega arith) (omega arith))
 
-  pub lowered_straight : lowered s.slots start (len - first) ≡ beside (length s.slots) 0 (turned first items)
-  lowered_straight =
+  pub lowered_contiguous : lowered s.slots start (len - first) ≡ beside (length s.slots) 0 (rotated first items)
+  lowered_contiguous =
       let fit = laid_out.fit in let size = length s.slots in
       let low : take (len - first) s.slots ≡ map Some (drop first items) = second_held s start laid_out len first counted least in
       let high : drop start s.slots ≡ map Some (take first items) = sym (take_all first (drop start s.slots) (omega (arith, length-drop start s.slots))) ∙ first_held s start laid_out len first counted least in
-      let long : length (turned first items) ≡ len = length-turned first items (omega arith) ∙ sym counted in
-      let left : start - (len - first) ≡ size - (0 + length (turned first items)) = omega arith in
-      rw (low, high, left) (sym (append_assoc (map Some (drop first items)) (map Some (take first items)) _) ∙ ap (λ l. l ++ replicate (size - (0 + length (turned first items))) None) (sym (map-append Some (drop first items) (take first items))))
+      let long : length (rotated first items) ≡ len = length-rotated first items (omega arith) ∙ sym counted in
+      let left : start - (len - first) ≡ size - (0 + length (rotated first items)) = omega arith in
+      rw (low, high, left) (sym (append_assoc (map Some (drop first items)) (map Some (take first items)) _) ∙ ap (λ l. l ++ replicate (size - (0 + length (rotated first items))) None) (sym (map-append Some (drop first items) (take first items))))
 
   -- the others are full slots, too
   pub first_full : IsFullStretch s.slots 0 (len - first)
   first_full = second_stretch s start laid_out len first counted least
 
   -- where there is room for all between, they lie side by side once those in the last slots are brought to the first
-  pub brought_straight : len ≤ start → brought_first s.slots start (len - first) ≡ beside (length s.slots) 0 items
-  brought_straight room =
+  pub brought_contiguous : len ≤ start → brought_first s.slots start (len - first) ≡ beside (length s.slots) 0 items
+  brought_contiguous room =
       let fit = laid_out.fit in let size = length s.slots in
       let low : take (len - first) s.slots ≡ map Some (drop first items) = second_held s start laid_out len first counted least in
       let high : drop start s.slots ≡ map Some (take first items) = sym (take_all first (drop start s.slots) (omega (arith, length-drop start s.slots))) ∙ first_held s start laid_out len first counted least in
@@ -89,22 +89,22 @@ module _ {X : Type 0} (s : Slots X) (start : ℕ) (laid_out : IsLaidOut s start)
       rw (low, high, left) (sym (append_assoc (map Some (take first items)) (map Some (drop first items)) _) ∙ ap (λ l. l ++ replicate (size - (0 + length items)) None) (sym (map-append Some (take first items) (drop first items)) ∙ ap (λ l. map Some l) (take-append-drop first items)))
 
 -- the items begin with one of the slots, and end with the last at most
-pub straight_fits : (start len size : ℕ) → start < size → len ≤ size → let at = if nat_le (start + len) size then start else 0 in (at < size) × (at + len ≤ size)
-straight_fits start len size within low = (grind (arith, common_steps), grind (arith, common_steps))
+pub contiguous_fits : (start len size : ℕ) → start < size → len ≤ size → let at = if nat_le (start + len) size then start else 0 in (at < size) × (at + len ≤ size)
+contiguous_fits start len size within low = (grind (arith, common_steps), grind (arith, common_steps))
 
 -- a ring whose items were written side by side shows them
 module _ {X : Type 0} {limit : ℕ → ℕ} (s : Slots X) (start len : ℕ) (sound : IsSound limit s start len) (ys : List X) where
   abbrev pub next : ℕ
-  next = straight_start (length s.slots) start len
+  next = contiguous_start (length s.slots) start len
 
-  pub rewritten : LaysOut s (straightened s start len ys) next (after_rewrite (view_from s start) ys)
+  pub rewritten : LaysOut s (made_contiguous s start len ys) next (after_rewrite (view_from s start) ys)
   rewritten =
       let size = length s.slots in let enough = sound.laid_out.fit in
       let shown = refill len (items_from s.slots start) ys in let long = length_refill len (items_from s.slots start) ys sound.counted in
-      let (within, ends) = straight_fits start len size sound.laid_out.start_within (omega (arith, sound.counted)) in let fit : next + length shown ≤ size = omega (arith, long, ends) in
-      rw (sym sound.counted) (LaysOut-items s start sound.laid_out (straightened s start len ys) next shown (length-beside size next shown fit) refl within (omega arith) (SlotsHold-beside size next shown fit within))
+      let (within, ends) = contiguous_fits start len size sound.laid_out.start_within (omega (arith, sound.counted)) in let fit : next + length shown ≤ size = omega (arith, long, ends) in
+      rw (sym sound.counted) (LaysOut-items s start sound.laid_out (made_contiguous s start len ys) next shown (length-beside size next shown fit) refl within (omega arith) (SlotsHold-beside size next shown fit within))
 
-  pub rewritten_sound : IsSound limit (straightened s start len ys) next len
+  pub rewritten_sound : IsSound limit (made_contiguous s start len ys) next len
   rewritten_sound =
       let items = items_from s.slots start in
       IsSound-after sound rewritten (sound.counted ∙ length_refill (length items) items ys refl) sound.within

@@ -4,7 +4,7 @@ use Rattle.ringbuffer.proofs.LaysOut.{LaysOut-then, LaysOut-put, past_empty, sam
 
 -- the first of some items is taken
 module _ {X : Type 0} {s taken : Slots X} {start next place len : ℕ} (laid_out : IsLaidOut s start) (counted : len ≡ length (items_from s.slots start)) (some : 0 < len)
-    (found : place ≡ (start + len) % length s.slots) (turned : next ≡ (start + 1) % length s.slots) (after : LaysOut s taken next (after_take (view_from s start))) where
+    (found : place ≡ (start + len) % length s.slots) (rotated : next ≡ (start + 1) % length s.slots) (after : LaysOut s taken next (after_take (view_from s start))) where
   count : length (items_from taken.slots next) ≡ len - 1
   count = ap (λ (v : View X). length v.items) after.shows ∙ length-drop 1 (items_from s.slots start) ∙ ap (λ n. n - 1) (sym counted)
 
@@ -13,7 +13,7 @@ module _ {X : Type 0} {s taken : Slots X} {start next place len : ℕ} (laid_out
 
   -- counted from the next start, the place after the last has not moved
   found_again : place ≡ (next + length (items_from taken.slots next)) % length taken.slots
-  found_again = rw (after.same_size, count, turned) (found ∙ same_place s start laid_out len some (rw counted laid_out.fit))
+  found_again = rw (after.same_size, count, rotated) (found ∙ same_place s start laid_out len some (rw counted laid_out.fit))
 
   pub over_empty : IsEmptyAt taken place
   over_empty = past_empty taken next after.laid_out place (length (items_from taken.slots next)) (omega arith) room found_again

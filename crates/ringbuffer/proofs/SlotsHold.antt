@@ -61,9 +61,9 @@ module _ {X : Type 0} (slots : List (Option X)) (start : ℕ) (within : start < 
   pub SlotsHold-take : (xs : List X) → SlotsHold slots start xs → length xs ≤ length slots → SlotsHold (set slots start None) ((start + 1) % length slots) (drop 1 xs)
   SlotsHold-take xs lie fit k low =
       let low' : k < length slots = rw (length-set slots start None) at low in
-      let turned = ap (λ place. get_or (set slots start None) place None) (count_on start 1 k (suc k) (length slots) (omega arith)) in
+      let rotated = ap (λ place. get_or (set slots start None) place None) (count_on start 1 k (suc k) (length slots) (omega arith)) in
       let held = lie (suc k) in let round = wrap start (suc k) (length slots) within low' in
-      rw (length-set slots start None) (turned ∙ grind (arith, held, round, get_or-set_other, get_or-set_same, slice_get-drop 1 k xs, slice_get_past))
+      rw (length-set slots start None) (rotated ∙ grind (arith, held, round, get_or-set_other, get_or-set_same, slice_get-drop 1 k xs, slice_get_past))
 
 -- rows of one size that hold the same items from one start are equal
 pub SlotsHold-same : {X : Type 0} (slots : List (Option X)) (start : ℕ) → start < length slots → (others : List (Option X)) (xs : List X) → SlotsHold slots start xs → SlotsHold others start xs → length others ≡ length slots → slots ≡ others

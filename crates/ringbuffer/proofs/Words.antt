@@ -9,9 +9,9 @@ pub use Rattle.ringbuffer.specs.Layout.{AreFull, Empties, IsLaidOut, IsSound, La
 unfoldable pub use Rattle.ringbuffer.specs.Layout.{items_from}
 pub use Rattle.ringbuffer.specs.Somes.{somes}
 pub use Rattle.ringbuffer.specs.Sources.{Gives}
-pub use Rattle.ringbuffer.specs.View.{View, after_clear, after_cut, after_extend, after_extend_from_slice, after_insert, after_keep_newest, after_pop, after_push, after_push_front, after_put, after_put_first, after_puts, after_remove, after_remove_range, after_rewrite, after_rotate, after_swap, after_take, after_takes, after_truncate, after_turn_left, after_turn_right, after_write, after_writes, turned}
+pub use Rattle.ringbuffer.specs.View.{View, after_clear, after_cut, after_extend, after_extend_from_slice, after_insert, after_keep_newest, after_pop, after_push, after_push_front, after_put, after_put_first, after_puts, after_remove, after_remove_range, after_rewrite, after_rotate, after_swap, after_take, after_takes, after_truncate, after_firsts_to_back, after_lasts_to_front, after_write, after_writes, rotated}
 pub use Rattle.ringbuffer.specs.declared.fixed.Span.{Span}
-pub use Rattle.ringbuffer.specs.contiguous.Straight.{beside, straight_start, straightened}
+pub use Rattle.ringbuffer.specs.contiguous.Contiguous.{beside, contiguous_start, made_contiguous}
 pub use Rattle.ring_slots.specs.Slots.{HoldsStretch, IsEmptyAt, IsFullAt, IsFullStretch, Slots, changed, refilled, slot_at}
 pub use Rattle.ringbuffer.specs.Conversion.{ClonesMeet, HoldsAll}
 pub use Rattle.std.proofs.Common.{All, Bool, Bor, Err, IfOk, IfSome, IsOk, IsSome, IsUtf8, List, MatchOption, None, Ok, OnOk, Option, Result, Some, [], add-one, ap, append-nil, append_assoc, arith, chars, drop, ext_get_or, false, get_or, get_or-set_other, get_or-set_same, if◌then◌else◌, inl, inr, is_ok, length, length-append, length-drop, length-set, length-take, length-take-le, map, nat_eq, of_calls, refl, replicate, rules, subst, suc, sym, take, take-append-drop, true, zero, ℕ, ◌%◌, ◌&&◌, ◌*◌, ◌++◌, ◌+◌, ◌-◌, ◌/◌, ◌<◌, ◌^◌, ◌∙◌, ◌∷◌, ◌≡◌, ◌≢◌, ◌≤◌, ◌⊎◌}

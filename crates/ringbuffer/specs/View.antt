@@ -80,24 +80,24 @@ module _ {X : Type 0} where
   after_write v i x = record v { items = slice_set v.items i x; changes = v.changes + 1 }
 
   -- a list from item n on, and the first n items behind
-  abbrev pub turned : ℕ → List X → List X
-  turned n xs = drop n xs ++ take n xs
+  abbrev pub rotated : ℕ → List X → List X
+  rotated n xs = drop n xs ++ take n xs
 
   -- the first n items moved behind the others, by two changes each
-  abbrev pub after_turn_left : ℕ → View X → View X
-  after_turn_left n v = record v { items = turned n v.items; changes = v.changes + 2 * n }
+  abbrev pub after_firsts_to_back : ℕ → View X → View X
+  after_firsts_to_back n v = record v { items = rotated n v.items; changes = v.changes + 2 * n }
 
   -- the last n items moved before the others, by two changes each
-  abbrev pub after_turn_right : ℕ → View X → View X
-  after_turn_right n v = record v { items = turned (length v.items - n) v.items; changes = v.changes + 2 * n }
+  abbrev pub after_lasts_to_front : ℕ → View X → View X
+  after_lasts_to_front n v = record v { items = rotated (length v.items - n) v.items; changes = v.changes + 2 * n }
 
   -- items written from an index on, each by one change
   abbrev pub after_writes : ℕ → List X → View X → View X
   after_writes i xs v = record v { items = take i v.items ++ (xs ++ drop (i + length xs) v.items); changes = v.changes + length xs }
 
-  -- the items turned by moving the fewer of those before and those behind
+  -- the items rotated by moving the fewer of those before and those behind
   abbrev pub after_rotate : ℕ → View X → View X
-  after_rotate n v = record v { items = turned n v.items; changes = v.changes + 2 * min n (length v.items - n) }
+  after_rotate n v = record v { items = rotated n v.items; changes = v.changes + 2 * min n (length v.items - n) }
 
   -- the item at an index taken, by one change, and one for each of the fewer items before and behind, which close up
   abbrev pub after_remove : ℕ → View X → View X

@@ -1,1 +1,1 @@
-pub mod Straight
+pub mod Contiguous

@@ -7,8 +7,8 @@ use ring_slots::LendsRows;
 
 impl<T: Drop, S: LendsRows<T>> FixedRing<T, S> {
     ghost use Rattle.ringbuffer.specs.Layout.{IsLaidOut, view_from};
-    ghost use Rattle.ringbuffer.specs.contiguous.Straight.{beside, straight_start};
-    ghost use Rattle.ringbuffer.specs.View.{after_rewrite, turned};
+    ghost use Rattle.ringbuffer.specs.contiguous.Contiguous.{beside, contiguous_start};
+    ghost use Rattle.ringbuffer.specs.View.{after_rewrite, rotated};
     ghost use Rattle.ringbuffer.specs.contracts.fixed.FixedRing.{the_row};
 
     /// Lends the items in one slice, oldest first, for writing. Where some go on at the first slot, they are moved first,
@@ -27,18 +27,18 @@ impl<T: Drop, S: LendsRows<T>> FixedRing<T, S> {
             .after(span.len)
             .after(span.len)
             .after(span.len);
-        let start = Self::straighten(&mut self.slots, span);
+        let start = Self::move_contiguous(&mut self.slots, span);
         self.span.start = start;
         self.slots.slice_mut(start, span.len, changes)
     }
 
     // Moves the items side by side, where they go on at the first slot. Returns their next start. Where the free slots are
     // at least as many as the items in the last slots, each item moves once.
-    fn straighten(slots: &mut S, span: Span) -> usize
+    fn move_contiguous(slots: &mut S, span: Span) -> usize
         requires laid_out { IsLaidOut (S.seen slots.old) span.start }
         requires len { span.len ≡ length (view_from (S.seen slots.old) span.start).items }
-        ensures start { result ≡ straight_start (length (S.seen slots.old).slots) span.start span.len }
-        ensures straight { (S.seen slots.new).slots
+        ensures start { result ≡ contiguous_start (length (S.seen slots.old).slots) span.start span.len }
+        ensures contiguous { (S.seen slots.new).slots
             ≡ beside (length (S.seen slots.old).slots) result (view_from (S.seen slots.old) span.start).items }
         ensures counted { (S.seen slots.new).changes ≤ (S.seen slots.old).changes + 3 * span.len }
         ensures capacity { (S.seen slots.new).capacity ≡ (S.seen slots.old).capacity }
@@ -48,7 +48,7 @@ impl<T: Drop, S: LendsRows<T>> FixedRing<T, S> {
             slots.bring_first(span.start, span.len - first);
             return 0;
         }
-        let (moved, start) = Self::gather(slots, span);
+        let (moved, start) = Self::close_gap(slots, span);
         let changes = slots.changes().after(span.len);
         slots
             .slice_mut(start, span.len, changes)
@@ -58,13 +58,13 @@ impl<T: Drop, S: LendsRows<T>> FixedRing<T, S> {
 
     // Moves the items from the front that lie in the last slots down behind the last item, so that all lie side by side.
     // Returns how many it moved, and the next start.
-    fn gather(slots: &mut S, span: Span) -> (usize, usize)
+    fn close_gap(slots: &mut S, span: Span) -> (usize, usize)
         requires laid_out { IsLaidOut (S.seen slots.old) span.start }
         requires len { span.len ≡ length (view_from (S.seen slots.old) span.start).items }
-        ensures start { result.1 ≡ straight_start (length (S.seen slots.old).slots) span.start span.len }
+        ensures start { result.1 ≡ contiguous_start (length (S.seen slots.old).slots) span.start span.len }
         ensures moved { result.0 ≤ span.len }
-        ensures straight { (S.seen slots.new).slots ≡ beside (length (S.seen slots.old).slots) result.1
-            (turned result.0 (view_from (S.seen slots.old) span.start).items) }
+        ensures contiguous { (S.seen slots.new).slots ≡ beside (length (S.seen slots.old).slots) result.1
+            (rotated result.0 (view_from (S.seen slots.old) span.start).items) }
         ensures counted { (S.seen slots.new).changes ≡ (S.seen slots.old).changes + 2 * result.0 }
         ensures capacity { (S.seen slots.new).capacity ≡ (S.seen slots.old).capacity }
     {

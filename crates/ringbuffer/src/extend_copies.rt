@@ -9,17 +9,6 @@ use ring_slots::{ArraySlots, CopySlots, HeapSlots, RingSlots};
 // Fewer items go one at a time into slots that are written over.
 const FEW_IN: usize = 16;
 
-impl<T: Copy + Drop, S: TakesCopies<T>> FixedRing<T, S> {
-    /// Pushes copies of a slice's items in order, as `extend` would: the oldest items give way. Items of the slice that
-    /// later ones would overwrite are passed over. Takes O(n) in those that are put.
-    #[inline]
-    pub fn extend_from_slice(&mut self, items: &[T])
-        ensures { self.new ≡ after_extend_from_slice (S.limit self.old.capacity) self.old items.now }
-    {
-        self.extend_by_copies(items);
-    }
-}
-
 /// Slots that take in copies of many items at once.
 pub trait TakesCopies<T: Copy + Drop>: RingSlots<T> {
     ghost use Rattle.std.specs.Prelude.{◌≡◌, true};
@@ -79,9 +68,10 @@ impl<T: Copy + Drop, const CAP: usize> TakesCopies<T> for CopySlots<T, CAP> {
 }
 
 impl<T: Copy + Drop, S: TakesCopies<T>> FixedRing<T, S> {
-    // Pushes copies of the items of a slice that the limit leaves.
+    /// Pushes copies of a slice's items in order, as `extend` would: the oldest items give way. Items of the slice that
+    /// later ones would overwrite are passed over. Takes O(n) in those that are put.
     #[inline]
-    pub(crate) fn extend_by_copies(&mut self, items: &[T])
+    pub fn extend_from_slice(&mut self, items: &[T])
         ensures { self.new ≡ after_extend_from_slice (S.limit self.old.capacity) self.old items.now }
     {
         let capacity = self.slots.limit();
@@ -129,21 +119,21 @@ impl<T: Copy + Drop, S: TakesCopies<T>> FixedRing<T, S> {
     {
         let span = self.span;
         let (first, second) = items.split_at(items.len().min(self.slots.size() - span.start));
-        let start = Self::replace_straight(&mut self.slots, span, first);
+        let start = Self::replace_contiguous(&mut self.slots, span, first);
         let span = Span {
             start,
             len: span.len,
         };
-        self.span.start = Self::replace_straight(&mut self.slots, span, second);
+        self.span.start = Self::replace_contiguous(&mut self.slots, span, second);
     }
 
     // Puts copies of items in the place of as many oldest ones, which lie side by side. Returns the next start.
     #[inline]
-    fn replace_straight(slots: &mut S, span: Span, items: &[T]) -> usize
+    fn replace_contiguous(slots: &mut S, span: Span, items: &[T]) -> usize
         requires laid_out { IsLaidOut (S.seen slots.old) span.start }
         requires len { span.len ≡ length (view_from (S.seen slots.old) span.start).items }
         requires full { 0 < length items.now → span.len ≡ length (S.seen slots.old).slots }
-        requires straight { span.start + length items.now ≤ length (S.seen slots.old).slots }
+        requires contiguous { span.start + length items.now ≤ length (S.seen slots.old).slots }
         ensures start { result ≡ (span.start + length items.now) % length (S.seen slots.old).slots }
         ensures after { LaysOut (S.seen slots.old) (S.seen slots.new) result
             (after_puts items.now (after_takes (length items.now) (view_from (S.seen slots.old) span.start))) }
@@ -192,7 +182,7 @@ impl<T: Copy + Drop, S: TakesCopies<T>> FixedRing<T, S> {
         requires room { span.len + length items.now ≤ length (S.seen slots.old).slots }
         requires place { 0 < length items.now
             → place ≡ (span.start + span.len) % length (S.seen slots.old).slots }
-        requires straight { place + length items.now ≤ length (S.seen slots.old).slots }
+        requires contiguous { place + length items.now ≤ length (S.seen slots.old).slots }
         ensures { LaysOut (S.seen slots.old) (S.seen slots.new) span.start
             (after_puts items.now (view_from (S.seen slots.old) span.start)) }
     {

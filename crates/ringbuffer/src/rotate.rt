@@ -1,6 +1,6 @@
 //! Rotations of the items of a ring of a fixed capacity.
 ghost use Rattle.std.specs.Prelude.{◌≡◌, ◌-◌, ◌<◌, ◌≤◌, Some, length, slice_get};
-ghost use Rattle.ringbuffer.specs.View.{after_pop, after_put_first, after_rotate, after_turn_left, after_turn_right};
+ghost use Rattle.ringbuffer.specs.View.{after_pop, after_put_first, after_rotate, after_firsts_to_back, after_lasts_to_front};
 ghost use Rattle.ringbuffer.specs.Layout.{IsLaidOut, LaysOut, view_from};
 
 use crate::fixed::{FixedRing, Span};
@@ -14,9 +14,9 @@ impl<T: Drop, S: RingSlots<T>> FixedRing<T, S> {
     {
         let others = self.span.len - count;
         if count <= others {
-            self.turn_left(count);
+            self.rotate_firsts(count);
         } else {
-            self.turn_right(others);
+            self.rotate_lasts(others);
         }
     }
 
@@ -30,18 +30,18 @@ impl<T: Drop, S: RingSlots<T>> FixedRing<T, S> {
     }
 
     // Moves the first items behind the others, as many as `count` says.
-    fn turn_left(&mut self, count: usize)
+    fn rotate_firsts(&mut self, count: usize)
         requires { count ≤ length self.old.items }
-        ensures { self.new ≡ after_turn_left count self.old }
+        ensures { self.new ≡ after_firsts_to_back count self.old }
     {
         let span = self.span;
         self.span.start = Self::firsts_to_back(&mut self.slots, span, count);
     }
 
     // Moves the last items before the others, as many as `count` says.
-    fn turn_right(&mut self, count: usize)
+    fn rotate_lasts(&mut self, count: usize)
         requires { count ≤ length self.old.items }
-        ensures { self.new ≡ after_turn_right count self.old }
+        ensures { self.new ≡ after_lasts_to_front count self.old }
     {
         let span = self.span;
         self.span.start = Self::lasts_to_front(&mut self.slots, span, count);
@@ -53,7 +53,7 @@ impl<T: Drop, S: RingSlots<T>> FixedRing<T, S> {
         requires len { span.len ≡ length (view_from (S.seen slots.old) span.start).items }
         requires some { count ≤ span.len }
         ensures { LaysOut (S.seen slots.old) (S.seen slots.new) result
-            (after_turn_left count (view_from (S.seen slots.old) span.start)) }
+            (after_firsts_to_back count (view_from (S.seen slots.old) span.start)) }
     {
         let Span { start, len } = span;
         let mut start = start;
@@ -76,7 +76,7 @@ impl<T: Drop, S: RingSlots<T>> FixedRing<T, S> {
         requires len { span.len ≡ length (view_from (S.seen slots.old) span.start).items }
         requires some { count ≤ span.len }
         ensures { LaysOut (S.seen slots.old) (S.seen slots.new) result
-            (after_turn_right count (view_from (S.seen slots.old) span.start)) }
+            (after_lasts_to_front count (view_from (S.seen slots.old) span.start)) }
     {
         let Span { start, len } = span;
         let mut start = start;
