@@ -46,6 +46,11 @@ module _ {X : Type 0} where
     pub fit : length (items_from s.slots start) ≤ length s.slots
     pub layout : SlotsHold s.slots start (items_from s.slots start)
 
+  -- the items lie in these slots where the span says
+  pub record IsSpanOf (span : Span) (s : Slots X) : Type 0 where
+    pub laid_out : IsLaidOut s span.start
+    pub len : span.len ≡ length (view_from s span.start).items
+
   -- the items lie in these slots where the span says, and one can be pushed onto them up to a capacity
   pub record CanPush (s : Slots X) (span : Span) (capacity : ℕ) : Type 0 where
     pub laid_out : IsLaidOut s span.start

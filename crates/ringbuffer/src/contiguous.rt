@@ -6,7 +6,7 @@ use crate::fixed::{FixedRing, Span};
 use ring_slots::LendsRows;
 
 impl<T: Drop, S: LendsRows<T>> FixedRing<T, S> {
-    ghost use Rattle.ringbuffer.specs.Layout.{IsLaidOut, view_from};
+    ghost use Rattle.ringbuffer.specs.Layout.{IsSpanOf, view_from};
     ghost use Rattle.ringbuffer.specs.contiguous.Contiguous.{beside, contiguous_start};
     ghost use Rattle.ringbuffer.specs.View.{after_rewrite, rotated};
     ghost use Rattle.ringbuffer.specs.contracts.fixed.FixedRing.{the_row};
@@ -35,8 +35,7 @@ impl<T: Drop, S: LendsRows<T>> FixedRing<T, S> {
     // Moves the items side by side, where they go on at the first slot. Returns their next start. Where the free slots are
     // at least as many as the items in the last slots, each item moves once.
     fn move_contiguous(slots: &mut S, span: Span) -> usize
-        requires laid_out { IsLaidOut (S.seen slots.old) span.start }
-        requires len { span.len ≡ length (view_from (S.seen slots.old) span.start).items }
+        requires span { IsSpanOf span (S.seen slots.old) }
         ensures start { result ≡ contiguous_start (length (S.seen slots.old).slots) span.start span.len }
         ensures contiguous { (S.seen slots.new).slots
             ≡ beside (length (S.seen slots.old).slots) result (view_from (S.seen slots.old) span.start).items }
@@ -59,8 +58,7 @@ impl<T: Drop, S: LendsRows<T>> FixedRing<T, S> {
     // Moves the items from the front that lie in the last slots down behind the last item, so that all lie side by side.
     // Returns how many it moved, and the next start.
     fn close_gap(slots: &mut S, span: Span) -> (usize, usize)
-        requires laid_out { IsLaidOut (S.seen slots.old) span.start }
-        requires len { span.len ≡ length (view_from (S.seen slots.old) span.start).items }
+        requires span { IsSpanOf span (S.seen slots.old) }
         ensures start { result.1 ≡ contiguous_start (length (S.seen slots.old).slots) span.start span.len }
         ensures moved { result.0 ≤ span.len }
         ensures contiguous { (S.seen slots.new).slots ≡ beside (length (S.seen slots.old).slots) result.1

@@ -1,7 +1,7 @@
 //! The calls of a ring of a fixed capacity at its two ends.
 ghost use Rattle.std.specs.Prelude.{◌++◌, option_to_list, ◌≡◌, ◌+◌, ◌-◌, ◌%◌, ◌<◌, ◌≤◌, ◌∷◌, length, None, Some, slice_get, ◌↔◌, IfErr, IsErr, OnOk};
 ghost use Rattle.ringbuffer.specs.View.{after_cut, after_clear, after_pop, after_push_front, after_put, after_put_first, after_take, after_takes, after_truncate, after_keep_newest};
-ghost use Rattle.ringbuffer.specs.Layout.{IsLaidOut, LaysApart, LaysOut, view_from, AreFull, Empties};
+ghost use Rattle.ringbuffer.specs.Layout.{AreFull, Empties, IsLaidOut, IsSpanOf, LaysApart, LaysOut, view_from};
 
 use crate::fixed::{FixedRing, Span};
 use ring_core::{DoubleEndedRing, RingBuffer};
@@ -140,8 +140,7 @@ impl<T: Drop, S: RingSlots<T>> FixedRing<T, S> {
 
     // Drops all items of a ring, which begins at the first slot then.
     pub(crate) fn empty_slots(slots: &mut S, span: Span)
-        requires laid_out { IsLaidOut (S.seen slots.old) span.start }
-        requires len { span.len ≡ length (view_from (S.seen slots.old) span.start).items }
+        requires span { IsSpanOf span (S.seen slots.old) }
         ensures { LaysOut (S.seen slots.old) (S.seen slots.new) 0
             (after_clear (view_from (S.seen slots.old) span.start)) }
     {

@@ -3,7 +3,7 @@ ghost use Rattle.std.specs.Prelude.{◌≡◌, ◌+◌, ◌-◌, ◌%◌, ◌^�
 ghost use Rattle.std.specs.Iterator.{Drains, ExtendsWithItems, IsFinite, IsFiniteIterable};
 ghost use Rattle.ringbuffer.specs.View.{after_put, after_take, after_extend};
 ghost use Rattle.ringbuffer.specs.Sources.{Gives};
-ghost use Rattle.ringbuffer.specs.Layout.{after_pushes, CanPush, IsLaidOut, LaysOut, view_from};
+ghost use Rattle.ringbuffer.specs.Layout.{after_pushes, CanPush, IsSpanOf, LaysOut, view_from};
 ghost use Rattle.ring_core.specs.Contents.{ChangesSlots, keep_last};
 ghost use Rattle.ring_core.specs.Extension.{Extends};
 
@@ -204,8 +204,7 @@ impl<T: Drop, S: RingSlots<T>> FixedRing<T, S> {
     // Pushes an item, where the place after the last is known, and whether the first gives way.
     #[inline]
     pub(crate) fn push_at(slots: &mut S, span: Span, place: usize, item: T, full: bool)
-        requires laid_out { IsLaidOut (S.seen slots.old) span.start }
-        requires len { span.len ≡ length (view_from (S.seen slots.old) span.start).items }
+        requires span { IsSpanOf span (S.seen slots.old) }
         requires some { full ≡ true → 0 < span.len }
         requires room { full ≡ false → span.len < length (S.seen slots.old).slots }
         requires place { place ≡ (span.start + span.len) % length (S.seen slots.old).slots }

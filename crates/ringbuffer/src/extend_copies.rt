@@ -1,6 +1,6 @@
 //! Copies of a slice's items put into a ring of a fixed capacity.
 ghost use Rattle.std.specs.Prelude.{◌≡◌, ◌+◌, ◌%◌, ◌<◌, ◌≤◌, ℕ, length, min};
-ghost use Rattle.ringbuffer.specs.Layout.{IsLaidOut, LaysOut, view_from};
+ghost use Rattle.ringbuffer.specs.Layout.{IsSpanOf, LaysOut, view_from};
 ghost use Rattle.ringbuffer.specs.View.{after_extend, after_extend_from_slice, after_puts, after_takes};
 
 use crate::fixed::{FixedRing, Span};
@@ -130,8 +130,7 @@ impl<T: Copy + Drop, S: TakesCopies<T>> FixedRing<T, S> {
     // Puts copies of items in the place of as many oldest ones, which lie side by side. Returns the next start.
     #[inline]
     fn replace_contiguous(slots: &mut S, span: Span, items: &[T]) -> usize
-        requires laid_out { IsLaidOut (S.seen slots.old) span.start }
-        requires len { span.len ≡ length (view_from (S.seen slots.old) span.start).items }
+        requires span { IsSpanOf span (S.seen slots.old) }
         requires full { 0 < length items.now → span.len ≡ length (S.seen slots.old).slots }
         requires contiguous { span.start + length items.now ≤ length (S.seen slots.old).slots }
         ensures start { result ≡ (span.start + length items.now) % length (S.seen slots.old).slots }
@@ -161,8 +160,7 @@ impl<T: Copy + Drop, S: TakesCopies<T>> FixedRing<T, S> {
 
     // Puts copies of items behind the last, in two stretches of slots: up to the last slot, and on from the first.
     fn put_round(slots: &mut S, span: Span, items: &[T])
-        requires laid_out { IsLaidOut (S.seen slots.old) span.start }
-        requires len { span.len ≡ length (view_from (S.seen slots.old) span.start).items }
+        requires span { IsSpanOf span (S.seen slots.old) }
         requires room { span.len + length items.now ≤ length (S.seen slots.old).slots }
         ensures { LaysOut (S.seen slots.old) (S.seen slots.new) span.start
             (after_puts items.now (view_from (S.seen slots.old) span.start)) }
@@ -177,8 +175,7 @@ impl<T: Copy + Drop, S: TakesCopies<T>> FixedRing<T, S> {
 
     // Puts copies of items behind the last, side by side from a place on.
     fn put_copies(slots: &mut S, span: Span, place: usize, items: &[T])
-        requires laid_out { IsLaidOut (S.seen slots.old) span.start }
-        requires len { span.len ≡ length (view_from (S.seen slots.old) span.start).items }
+        requires span { IsSpanOf span (S.seen slots.old) }
         requires room { span.len + length items.now ≤ length (S.seen slots.old).slots }
         requires place { 0 < length items.now
             → place ≡ (span.start + span.len) % length (S.seen slots.old).slots }

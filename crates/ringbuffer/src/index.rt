@@ -3,7 +3,7 @@ ghost use Rattle.std.specs.Prelude.{◌↔◌, IfErr, IsErr, OnOk, ◌≡◌, �
 ghost use Rattle.ring_slots.specs.Slots.{passed_down, passed_up};
 ghost use Rattle.ringbuffer.specs.View.{after_cut, after_insert, after_remove, after_remove_range, after_swap, after_writes};
 ghost use Rattle.std.specs.Range.Bound.{end_index, start_index};
-ghost use Rattle.ringbuffer.specs.Layout.{IsLaidOut, LaysOut, Moves, slot_after, view_from};
+ghost use Rattle.ringbuffer.specs.Layout.{IsSpanOf, LaysOut, Moves, slot_after, view_from};
 
 use crate::fixed::{FixedRing, Span};
 use ring_core::{RingBuffer, range_within};
@@ -96,8 +96,7 @@ impl<T: Drop, S: RingSlots<T>> FixedRing<T, S> {
     // Drops the items from an index up to another, and moves those before up, the last of them first. Returns the next
     // start.
     fn cut_from_front(slots: &mut S, span: Span, from: usize, to: usize) -> usize
-        requires laid_out { IsLaidOut (S.seen slots.old) span.start }
-        requires len { span.len ≡ length (view_from (S.seen slots.old) span.start).items }
+        requires span { IsSpanOf span (S.seen slots.old) }
         requires order { from < to }
         requires within { to ≤ span.len }
         ensures { LaysOut (S.seen slots.old) (S.seen slots.new) result
@@ -114,8 +113,7 @@ impl<T: Drop, S: RingSlots<T>> FixedRing<T, S> {
 
     // Drops the items from an index up to another, and moves those behind down, the first of them first.
     fn cut_from_back(slots: &mut S, span: Span, from: usize, to: usize)
-        requires laid_out { IsLaidOut (S.seen slots.old) span.start }
-        requires len { span.len ≡ length (view_from (S.seen slots.old) span.start).items }
+        requires span { IsSpanOf span (S.seen slots.old) }
         requires order { from < to }
         requires within { to ≤ span.len }
         ensures { LaysOut (S.seen slots.old) (S.seen slots.new) span.start

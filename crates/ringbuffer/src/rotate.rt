@@ -1,7 +1,7 @@
 //! Rotations of the items of a ring of a fixed capacity.
 ghost use Rattle.std.specs.Prelude.{◌≡◌, ◌-◌, ◌<◌, ◌≤◌, Some, length, slice_get};
 ghost use Rattle.ringbuffer.specs.View.{after_pop, after_put_first, after_rotate, after_firsts_to_back, after_lasts_to_front};
-ghost use Rattle.ringbuffer.specs.Layout.{IsLaidOut, LaysOut, view_from};
+ghost use Rattle.ringbuffer.specs.Layout.{IsSpanOf, LaysOut, view_from};
 
 use crate::fixed::{FixedRing, Span};
 use ring_slots::RingSlots;
@@ -49,8 +49,7 @@ impl<T: Drop, S: RingSlots<T>> FixedRing<T, S> {
 
     // Moves the first items behind the others, one by one, as many as `count` says. Returns the next start.
     fn firsts_to_back(slots: &mut S, span: Span, count: usize) -> usize
-        requires laid_out { IsLaidOut (S.seen slots.old) span.start }
-        requires len { span.len ≡ length (view_from (S.seen slots.old) span.start).items }
+        requires span { IsSpanOf span (S.seen slots.old) }
         requires some { count ≤ span.len }
         ensures { LaysOut (S.seen slots.old) (S.seen slots.new) result
             (after_firsts_to_back count (view_from (S.seen slots.old) span.start)) }
@@ -72,8 +71,7 @@ impl<T: Drop, S: RingSlots<T>> FixedRing<T, S> {
 
     // Moves the last items before the others, one by one, as many as `count` says. Returns the next start.
     fn lasts_to_front(slots: &mut S, span: Span, count: usize) -> usize
-        requires laid_out { IsLaidOut (S.seen slots.old) span.start }
-        requires len { span.len ≡ length (view_from (S.seen slots.old) span.start).items }
+        requires span { IsSpanOf span (S.seen slots.old) }
         requires some { count ≤ span.len }
         ensures { LaysOut (S.seen slots.old) (S.seen slots.new) result
             (after_lasts_to_front count (view_from (S.seen slots.old) span.start)) }
@@ -89,8 +87,7 @@ impl<T: Drop, S: RingSlots<T>> FixedRing<T, S> {
     // Moves the last item before the first, and returns the next start.
     #[inline]
     fn last_to_first(slots: &mut S, span: Span) -> usize
-        requires laid_out { IsLaidOut (S.seen slots.old) span.start }
-        requires len { span.len ≡ length (view_from (S.seen slots.old) span.start).items }
+        requires span { IsSpanOf span (S.seen slots.old) }
         requires some { 0 < span.len }
         ensures { (x : T)
             × (slice_get (view_from (S.seen slots.old) span.start).items (span.len - 1) ≡ Some x)

@@ -2,7 +2,7 @@
 ghost use Rattle.std.specs.Prelude.{◌≡◌, ◌+◌, ◌-◌, ◌%◌, ◌<◌, length, None, Some, slice_get};
 ghost use Rattle.ring_core.specs.Contents.{overwritten};
 ghost use Rattle.ringbuffer.specs.View.{after_pop, after_push, after_put, after_put_first, after_take};
-ghost use Rattle.ringbuffer.specs.Layout.{CanPush, IsLaidOut, LaysOut, view_from};
+ghost use Rattle.ringbuffer.specs.Layout.{CanPush, IsLaidOut, IsSpanOf, LaysOut, view_from};
 
 use crate::fixed::{FixedRing, Span};
 use ring_slots::RingSlots;
@@ -39,8 +39,7 @@ impl<T: Drop, S: RingSlots<T>> FixedRing<T, S> {
     // Puts an item after the last, at the place that follows it.
     #[inline]
     pub(crate) fn put_at(slots: &mut S, span: Span, place: usize, item: T)
-        requires laid_out { IsLaidOut (S.seen slots.old) span.start }
-        requires len { span.len ≡ length (view_from (S.seen slots.old) span.start).items }
+        requires span { IsSpanOf span (S.seen slots.old) }
         requires room { span.len < length (S.seen slots.old).slots }
         requires place { place ≡ (span.start + span.len) % length (S.seen slots.old).slots }
         ensures { LaysOut (S.seen slots.old) (S.seen slots.new) span.start
@@ -52,8 +51,7 @@ impl<T: Drop, S: RingSlots<T>> FixedRing<T, S> {
     // Puts an item after the last once the first has given way. Returns the next start and the item that was first.
     #[inline]
     pub(crate) fn put_over(slots: &mut S, span: Span, item: T) -> (usize, T)
-        requires laid_out { IsLaidOut (S.seen slots.old) span.start }
-        requires len { span.len ≡ length (view_from (S.seen slots.old) span.start).items }
+        requires span { IsSpanOf span (S.seen slots.old) }
         requires some { 0 < span.len }
         ensures value { slice_get (view_from (S.seen slots.old) span.start).items 0
             ≡ Some result.1 }
@@ -69,8 +67,7 @@ impl<T: Drop, S: RingSlots<T>> FixedRing<T, S> {
     // Puts an item before the first once the last has given way. Returns the next start and the item that was last.
     #[inline]
     pub(crate) fn put_under(slots: &mut S, span: Span, item: T) -> (usize, T)
-        requires laid_out { IsLaidOut (S.seen slots.old) span.start }
-        requires len { span.len ≡ length (view_from (S.seen slots.old) span.start).items }
+        requires span { IsSpanOf span (S.seen slots.old) }
         requires some { 0 < span.len }
         ensures value { slice_get (view_from (S.seen slots.old) span.start).items (span.len - 1)
             ≡ Some result.1 }
@@ -85,8 +82,7 @@ impl<T: Drop, S: RingSlots<T>> FixedRing<T, S> {
     // one.
     #[inline(always)]
     pub(crate) fn take_last(slots: &mut S, span: Span) -> T
-        requires laid_out { IsLaidOut (S.seen slots.old) span.start }
-        requires len { span.len ≡ length (view_from (S.seen slots.old) span.start).items }
+        requires span { IsSpanOf span (S.seen slots.old) }
         requires some { 0 < span.len }
         ensures value { slice_get (view_from (S.seen slots.old) span.start).items (span.len - 1)
             ≡ Some result }

@@ -8,51 +8,45 @@ loop-moved-init g c =
     subst (λ n. LaysApart old (g.S.RingSlots.seen c.drop_items.new.slots) start n (to - from) (after_cut from to 0 (view_from old start))) {x = from} {y = from - 0} (omega arith) c.drop_items.ensures.apart
 
 pub move_item-requires-clause-start : goal.move_item-requires-clause-start
-move_item-requires-clause-start g c = rw c.loop-moved.invariant.same_size c.requires.laid_out.start_within
+move_item-requires-clause-start g c = rw c.loop-moved.invariant.same_size c.requires.span.laid_out.start_within
 
 pub move_item-requires-clause-from : goal.move_item-requires-clause-from
-move_item-requires-clause-from g c =
-    let v = view_from (g.S.RingSlots.seen c.args.slots.now) c.args.span.start in let from = c.args.from in let to = c.args.to in let n = c.loop-moved.moved in
-    let r = c.requires in let fit = r.laid_out.fit in let long = cut_fits from to n v (omega arith) (omega (arith, r.len)) in let apart = c.loop-moved.invariant in let same = apart.same_size in
-    omega (arith, same, long, r.len, c.loop-moved-test.true)
+move_item-requires-clause-from g c = let fit = c.requires.span.laid_out.fit in omega (arith, c.loop-moved.invariant.same_size, c.requires.span.len, c.requires.within, c.loop-moved-test.true)
 
 pub move_item-requires-clause-to : goal.move_item-requires-clause-to
-move_item-requires-clause-to g c =
-    let v = view_from (g.S.RingSlots.seen c.args.slots.now) c.args.span.start in let from = c.args.from in let to = c.args.to in let n = c.loop-moved.moved in
-    let r = c.requires in let fit = r.laid_out.fit in let long = cut_fits from to n v (omega arith) (omega (arith, r.len)) in let apart = c.loop-moved.invariant in let same = apart.same_size in
-    omega (arith, same, long, r.len, c.loop-moved-test.true)
+move_item-requires-clause-to g c = let fit = c.requires.span.laid_out.fit in omega (arith, c.loop-moved.invariant.same_size, c.requires.span.len, c.requires.within, c.loop-moved-test.true)
 
 pub move_item-requires-clause-full : goal.move_item-requires-clause-full
 move_item-requires-clause-full g c =
     let v = view_from (g.S.RingSlots.seen c.args.slots.now) c.args.span.start in let from = c.args.from in let to = c.args.to in let n = c.loop-moved.moved in
-    let r = c.requires in let fit = r.laid_out.fit in let long = cut_fits from to n v (omega arith) (omega (arith, r.len)) in let apart = c.loop-moved.invariant in let same = apart.same_size in
-    (last_of_front _ _ c.args.span.start (from - n) (to - from) _ (omega (arith, long)) (omega arith) apart (from - 1 - n) (omega (arith, c.loop-moved-test.true)) (omega (arith, long, r.len))).0
+    let r = c.requires in let fit = r.span.laid_out.fit in let long = cut_fits from to n v (omega arith) (omega (arith, r.span.len)) in let apart = c.loop-moved.invariant in let same = apart.same_size in
+    (last_of_front _ _ c.args.span.start (from - n) (to - from) _ (omega (arith, long)) (omega arith) apart (from - 1 - n) (omega (arith, c.loop-moved-test.true)) (omega (arith, long, r.span.len))).0
 
 pub move_item-requires-clause-empty : goal.move_item-requires-clause-empty
 move_item-requires-clause-empty g c =
     let v = view_from (g.S.RingSlots.seen c.args.slots.now) c.args.span.start in let from = c.args.from in let to = c.args.to in let n = c.loop-moved.moved in
-    let r = c.requires in let fit = r.laid_out.fit in let long = cut_fits from to n v (omega arith) (omega (arith, r.len)) in let apart = c.loop-moved.invariant in let same = apart.same_size in
-    (last_of_front _ _ c.args.span.start (from - n) (to - from) _ (omega (arith, long)) (omega arith) apart (from - 1 - n) (omega (arith, c.loop-moved-test.true)) (omega (arith, long, r.len))).1
+    let r = c.requires in let fit = r.span.laid_out.fit in let long = cut_fits from to n v (omega arith) (omega (arith, r.span.len)) in let apart = c.loop-moved.invariant in let same = apart.same_size in
+    (last_of_front _ _ c.args.span.start (from - n) (to - from) _ (omega (arith, long)) (omega arith) apart (from - 1 - n) (omega (arith, c.loop-moved-test.true)) (omega (arith, long, r.span.len))).1
 
 -- One more item is on the other side.
 pub loop-moved-preserved : goal.loop-moved-preserved
 loop-moved-preserved g c =
     let v = view_from (g.S.RingSlots.seen c.args.slots.now) c.args.span.start in let from = c.args.from in let to = c.args.to in let n = c.loop-moved.moved in
-    let r = c.requires in let fit = r.laid_out.fit in let long = cut_fits from to n v (omega arith) (omega (arith, r.len)) in let apart = c.loop-moved.invariant in let same = apart.same_size in
-    moved_up _ _ c.args.span.start (from - n) (to - from) _ (omega (arith, long)) (omega arith) apart _ (from - 1 - n) (omega (arith, c.loop-moved-test.true)) (omega (arith, long, r.len)) c.move_item.ensures _ _ (omega (arith, c.loop-moved-test.true)) (cut_more from to n v)
+    let r = c.requires in let fit = r.span.laid_out.fit in let long = cut_fits from to n v (omega arith) (omega (arith, r.span.len)) in let apart = c.loop-moved.invariant in let same = apart.same_size in
+    moved_up _ _ c.args.span.start (from - n) (to - from) _ (omega (arith, long)) (omega arith) apart _ (from - 1 - n) (omega (arith, c.loop-moved-test.true)) (omega (arith, long, r.span.len)) c.move_item.ensures _ _ (omega (arith, c.loop-moved-test.true)) (cut_more from to n v)
 
 pub place-requires-clause-start : goal.place-requires-clause-start
-place-requires-clause-start g c = rw c.loop-moved.invariant.same_size c.requires.laid_out.start_within
+place-requires-clause-start g c = rw c.loop-moved.invariant.same_size c.requires.span.laid_out.start_within
 
 pub place-requires-clause-count : goal.place-requires-clause-count
-place-requires-clause-count g c = let fit = c.requires.laid_out.fit in omega (arith, c.loop-moved.invariant.same_size, c.requires.len, c.requires.within)
+place-requires-clause-count g c = let fit = c.requires.span.laid_out.fit in omega (arith, c.loop-moved.invariant.same_size, c.requires.span.len, c.requires.within)
 
 -- All of them are.
 pub returns : goal.returns
 returns g c =
     let v = view_from (g.S.RingSlots.seen c.args.slots.now) c.args.span.start in let from = c.args.from in let to = c.args.to in let n = c.loop-moved.moved in
-    let r = c.requires in let fit = r.laid_out.fit in let long = cut_fits from to n v (omega arith) (omega (arith, r.len)) in let apart = c.loop-moved.invariant in let same = apart.same_size in
-    let all = all_behind _ _ c.args.span.start (from - n) (to - from) _ r.laid_out (omega (arith, long)) refl apart (omega (arith, c.loop-moved-test.false)) in
+    let r = c.requires in let fit = r.span.laid_out.fit in let long = cut_fits from to n v (omega arith) (omega (arith, r.span.len)) in let apart = c.loop-moved.invariant in let same = apart.same_size in
+    let all = all_behind _ _ c.args.span.start (from - n) (to - from) _ r.span.laid_out (omega (arith, long)) refl apart (omega (arith, c.loop-moved-test.false)) in
     let next = c.place.ensures ∙ ap (λ k. (c.args.span.start + (to - from)) % k) same in
     let whole = ap (λ k. after_cut from to k v) {x = n} {y = from} (omega (arith, c.loop-moved-test.false, c.loop-moved.auto.moved-end)) in
     rw (next, sym whole) all

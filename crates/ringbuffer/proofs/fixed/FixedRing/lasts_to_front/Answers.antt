@@ -6,13 +6,13 @@ use Rattle.ringbuffer.proofs.fixed.FixedRing.lasts_to_front.Goals as goal
 pub loop-init : goal.loop-init
 loop-init g c =
     let s = g.S.RingSlots.seen c.args.slots.now in let start = c.args.span.start in
-    record { lays_out = rw (sym (after_lasts_to_front-none (view_from s start))) at (LaysOut-none s start c.requires.laid_out) }
+    record { lays_out = rw (sym (after_lasts_to_front-none (view_from s start))) at (LaysOut-none s start c.requires.span.laid_out) }
 
 -- One more item goes from the back to the front.
 pub loop-preserved : goal.loop-preserved
 loop-preserved g c =
     let so_far = c.loop.invariant in let (x, last, step) = c.last_to_first-start.ensures in
     let v = view_from (g.S.RingSlots.seen c.args.slots.now) c.args.span.start in let n = c.loop.counter in
-    let low : n < length v.items = omega (arith, c.loop-test.true, c.requires.some, c.requires.len) in
-    let is : slice_get (rotated (length v.items - n) v.items) (length v.items - 1) ≡ Some x = rw (ap (λ (w : View _). w.items) so_far.lays_out.shows, c.requires.len) at last in
+    let low : n < length v.items = omega (arith, c.loop-test.true, c.requires.some, c.requires.span.len) in
+    let is : slice_get (rotated (length v.items - n) v.items) (length v.items - 1) ≡ Some x = rw (ap (λ (w : View _). w.items) so_far.lays_out.shows, c.requires.span.len) at last in
     record { lays_out = rw (after_lasts_to_front-more n v x low is) at (LaysOut-then (λ w. after_put_first (after_pop w) x) so_far.lays_out step) }

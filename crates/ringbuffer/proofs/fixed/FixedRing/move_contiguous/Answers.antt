@@ -6,34 +6,34 @@ use Rattle.ringbuffer.proofs.fixed.FixedRing.move_contiguous.Goals as goal
 
 pub bring_first-requires-clause-last : goal.bring_first-requires-clause-last
 bring_first-requires-clause-last g c =
-    let s = g.S.RingSlots.seen c.args.slots.now in let start = c.args.span.start in let len = c.args.span.len in let within = c.requires.laid_out.start_within in
-    last_full s start c.requires.laid_out len (c.size.result - start) c.requires.len (omega (arith, c.size.ensures.value)) c.if-first-span.true
+    let s = g.S.RingSlots.seen c.args.slots.now in let start = c.args.span.start in let len = c.args.span.len in let within = c.requires.span.laid_out.start_within in
+    last_full s start c.requires.span.laid_out len (c.size.result - start) c.requires.span.len (omega (arith, c.size.ensures.value)) c.if-first-span.true
 
 pub bring_first-requires-clause-first : goal.bring_first-requires-clause-first
 bring_first-requires-clause-first g c =
-    let s = g.S.RingSlots.seen c.args.slots.now in let start = c.args.span.start in let len = c.args.span.len in let within = c.requires.laid_out.start_within in
-    first_full s start c.requires.laid_out len (c.size.result - start) c.requires.len (omega (arith, c.size.ensures.value)) c.if-first-span.true
+    let s = g.S.RingSlots.seen c.args.slots.now in let start = c.args.span.start in let len = c.args.span.len in let within = c.requires.span.laid_out.start_within in
+    first_full s start c.requires.span.laid_out len (c.size.result - start) c.requires.span.len (omega (arith, c.size.ensures.value)) c.if-first-span.true
 
 pub bring_first-requires-clause-empty : goal.bring_first-requires-clause-empty
 bring_first-requires-clause-empty g c =
-    let s = g.S.RingSlots.seen c.args.slots.now in let start = c.args.span.start in let len = c.args.span.len in let within = c.requires.laid_out.start_within in
-    between_empty s start c.requires.laid_out len (c.size.result - start) c.requires.len (omega (arith, c.size.ensures.value)) c.if-first-span.true
+    let s = g.S.RingSlots.seen c.args.slots.now in let start = c.args.span.start in let len = c.args.span.len in let within = c.requires.span.laid_out.start_within in
+    between_empty s start c.requires.span.laid_out len (c.size.result - start) c.requires.span.len (omega (arith, c.size.ensures.value)) c.if-first-span.true
 
 -- Each item moved once.
 pub returns-then-span-clause-contiguous : goal.returns-then-span-clause-contiguous
 returns-then-span-clause-contiguous g c =
-    let s = g.S.RingSlots.seen c.args.slots.now in let start = c.args.span.start in let len = c.args.span.len in let within = c.requires.laid_out.start_within in
-    ap (λ (s : Slots _). s.slots) c.bring_first.ensures ∙ brought_contiguous s start c.requires.laid_out len (c.size.result - start) c.requires.len (omega (arith, c.size.ensures.value)) c.if-first-span.true c.if-span.true
+    let s = g.S.RingSlots.seen c.args.slots.now in let start = c.args.span.start in let len = c.args.span.len in let within = c.requires.span.laid_out.start_within in
+    ap (λ (s : Slots _). s.slots) c.bring_first.ensures ∙ brought_contiguous s start c.requires.span.laid_out len (c.size.result - start) c.requires.span.len (omega (arith, c.size.ensures.value)) c.if-first-span.true c.if-span.true
 
 -- The items that were rotated are rotated back.
 pub returns-clause-contiguous : goal.returns-clause-contiguous
 returns-clause-contiguous g c =
     let s = g.S.RingSlots.seen c.args.slots.now in let start = c.args.span.start in let len = c.args.span.len in let size = length s.slots in let items = items_from s.slots start in
     let after = c.close_gap-moved.ensures in let n = c.close_gap-moved.result.0 in let next = c.close_gap-moved.result.1 in let xs = rotated n items in
-    let low : n ≤ length items = omega (arith, after.moved, c.requires.len) in
-    let long = length-rotated n items low in let enough = c.requires.laid_out.fit in
-    let fit : next + length xs ≤ size = rw after.start (omega (arith, long, (contiguous_fits start len size c.requires.laid_out.start_within (omega (arith, c.requires.len))).1, c.requires.len)) in
-    let counted : c.args.span.len ≡ length xs = omega (arith, c.requires.len, long) in
+    let low : n ≤ length items = omega (arith, after.moved, c.requires.span.len) in
+    let long = length-rotated n items low in let enough = c.requires.span.laid_out.fit in
+    let fit : next + length xs ≤ size = rw after.start (omega (arith, long, (contiguous_fits start len size c.requires.span.laid_out.start_within (omega (arith, c.requires.span.len))).1, c.requires.span.len)) in
+    let counted : c.args.span.len ≡ length xs = omega (arith, c.requires.span.len, long) in
     let held = stretch_is _ next _ _ xs c.slice_mut.ensures.value (rw (after.contiguous, counted) (beside-stretch size next xs fit)) in
     let back : c.rotate_right.new.self ≡ items = c.rotate_right.ensures.after ∙ rotated_back n items _ low held in
     let seen = g.met.S.LendsRows.sees_row c.close_gap-moved.new.slots next c.args.span.len c.after-changes.result.count c.rotate_right.new.self in

@@ -3,4 +3,4 @@ use Rattle.ringbuffer.proofs.fixed.FixedRing.put_at.Goals as goal
 
 pub returns : goal.returns
 returns g c =
-    LaysOut-put _ _ c.requires.laid_out _ _ _ _ c.requires.len c.requires.room c.requires.place c.put.ensures
+    LaysOut-put _ _ c.requires.span.laid_out _ _ _ _ c.requires.span.len c.requires.room c.requires.place c.put.ensures

@@ -16,11 +16,11 @@ put_copies-requires-2-clause-place g c =
     omega (arith, c.min.ensures, c.size.ensures.value, parts.front_len, parts.back_len) in
     rw size (round span.start span.len c.place_after-end.result _ _ c.place_after-end.ensures ends)
 
-pub put_copies-requires-2-clause-len : goal.put_copies-requires-2-clause-len
-put_copies-requires-2-clause-len g c =
+pub put_copies-requires-2-clause-span : goal.put_copies-requires-2-clause-span
+put_copies-requires-2-clause-span g c =
     let items = items_from (g.S.RingSlots.seen c.args.slots.now).slots c.args.span.start in
     let now : items_from (g.S.RingSlots.seen c.put_copies.new.slots).slots c.args.span.start ≡ items ++ c.split_at.result.0.now = ap (λ (w : View _). w.items) c.put_copies.ensures.shows in
-    rw now (omega (arith, c.requires.len, length-append items c.split_at.result.0.now))
+    record { laid_out = c.put_copies.ensures.laid_out; len = rw now (omega (arith, c.requires.span.len, length-append items c.split_at.result.0.now)) }
 
 -- The items are put in two stretches.
 pub returns : goal.returns

@@ -5,7 +5,7 @@ use Rattle.ringbuffer.proofs.fixed.FixedRing.put_under.Goals as goal
 
 -- Once the last item is taken, there is room before the first.
 pub put_before-requires-clause-room : goal.put_before-requires-clause-room
-put_before-requires-clause-room g c = room_left _ _ c.requires.laid_out _ c.take_last-old.ensures.after (omega (arith, c.requires.len, c.requires.some))
+put_before-requires-clause-room g c = room_left _ _ c.requires.span.laid_out _ c.take_last-old.ensures.after (omega (arith, c.requires.span.len, c.requires.some))
 
 pub returns-clause-after : goal.returns-clause-after
 returns-clause-after g c = LaysOut-then (λ v. after_put_first v c.args.item) c.take_last-old.ensures.after c.put_before.ensures

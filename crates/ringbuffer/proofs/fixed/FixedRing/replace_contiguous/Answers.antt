@@ -12,7 +12,7 @@ discard-requires g c =
     let s = g.S.RingSlots.seen c.args.slots.now in let start = c.args.span.start in let items = c.args.items.now in let k = c.loop-k.k in let low = c.loop-k-test.true in
     let short = length-take k items in let room : start + length (take k items) ≤ length s.slots = omega (arith, short, c.requires.contiguous) in
     rw (c.loop-k.invariant, filled-behind s.slots start (take k items) room (start + k) (omega (arith, short)))
-    (full_ahead s start c.requires.laid_out k (omega (arith, low, c.requires.len, c.requires.full, c.requires.contiguous)) (omega (arith, low, c.requires.contiguous)))
+    (full_ahead s start c.requires.span.laid_out k (omega (arith, low, c.requires.span.len, c.requires.full, c.requires.contiguous)) (omega (arith, low, c.requires.contiguous)))
 
 pub loop-k-preserved : goal.loop-k-preserved
 loop-k-preserved g c =
@@ -28,4 +28,4 @@ returns g c =
     let all : c.loop-k.k ≡ length items = omega (arith, c.loop-k-test.false, c.loop-k.auto) in
     let same = rw (all, take_all (length items) items (omega arith)) at c.loop-k.invariant in
     let found = c.place.ensures ∙ ap (λ (v : Slots _). (c.args.span.start + length items) % length v.slots) same ∙ ap (λ m. (c.args.span.start + length items) % m) (length-filled s.slots c.args.span.start items c.requires.contiguous) in
-    record { start = found; after = LaysOut-replaced s c.args.span.start c.requires.laid_out items (rw c.requires.len at c.requires.full) c.requires.contiguous (g.S.RingSlots.seen c.loop-k.slots) c.place.result found same }
+    record { start = found; after = LaysOut-replaced s c.args.span.start c.requires.span.laid_out items (rw c.requires.span.len at c.requires.full) c.requires.contiguous (g.S.RingSlots.seen c.loop-k.slots) c.place.result found same }
