@@ -9,8 +9,10 @@
 
 mod making;
 mod own;
+mod own_calls;
 mod pipes;
 mod rings;
+mod sliding;
 mod wide;
 mod windows;
 mod work;
@@ -19,12 +21,13 @@ use making::{make_arrays, make_growables, make_heaps};
 use pipes::on_heap_pipe;
 use ringbuffer::ConstGenericRingBuffer;
 use rings::{on_fixed, on_growable, on_heap};
+use sliding::Series;
 use std::alloc::Global;
 use wide::copy_in_wide;
 use windows::{
     on_array_window, on_growable_window, on_heap_least, on_heap_product, on_heap_window,
 };
-use work::{Series, Work};
+use work::Work;
 
 /// Work on an array ring. The capacity is 7, 1000, 1024 or 65536, of rings that are made and dropped 8 or 1024.
 #[unsafe(no_mangle)]

@@ -2,121 +2,16 @@
 ghost use Rattle.std.specs.Prelude.{◌<◌};
 
 use crate::own::Own;
+use crate::own_calls::{
+    clone, copy_in, equal, exchange, of_slice, push_first, refill_room, straighten, sum_of,
+    to_vec_copied, undo,
+};
 use crate::work::{
-    EXTENSION, Series, Work, contains, extend, fill, get, push, push_dequeue, push_dequeue_owned,
-    push_one, push_one_within, push_owned, push_within, reextend, refill, refill_owned, to_vec,
-    walk,
+    EXTENSION, Work, contains, extend, fill, get, push, push_dequeue, push_dequeue_owned, push_one,
+    push_one_within, push_owned, push_within, reextend, refill, refill_owned, to_vec, walk,
 };
 use ringbuffer::{AllocRingBuffer, GrowableAllocRingBuffer, RingBuffer};
 use std::alloc::{AllocError, Global};
-
-// A clone, of which one item is read and added to `sum`.
-#[inline(never)]
-fn clone<R: Own + Drop>(ring: &R, sum: u64) -> u64 {
-    let Ok(copy) = ring.clone() else {
-        return 0;
-    };
-    copy.get(sum as usize)
-        .map_or(0, |item| sum.wrapping_add(*item))
-}
-
-// The sum of the items, added to `sum`.
-#[inline(never)]
-fn sum_of<R: Own>(ring: &R, sum: u64) -> u64 {
-    ring.sum(sum)
-}
-
-// Whether two rings hold equal items, as a number added to `sum`.
-#[inline(never)]
-fn equal<R: Own>(ring: &R, other: &R, sum: u64) -> u64 {
-    if ring == other {
-        sum.wrapping_add(1)
-    } else {
-        sum
-    }
-}
-
-// A ring of the items of a slice, of which one item is read and added to `sum`.
-#[inline(never)]
-fn of_slice<R: Own + Drop>(alloc: Global, ring: &R, items: &[u64], sum: u64) -> u64 {
-    let Ok(copy) = ring.of_slice(alloc, items) else {
-        return 0;
-    };
-    copy.get(sum as usize)
-        .map_or(0, |item| sum.wrapping_add(*item))
-}
-
-// Takes out the newest item and pushes a number in its place, for each number below `items`. Returns the sum of what
-// came out.
-#[inline(never)]
-fn undo<R: Own>(ring: &mut R, items: usize) -> u64 {
-    let mut sum = 0u64;
-    for number in 0..items {
-        if let Some(item) = ring.pop_back() {
-            sum = sum.wrapping_add(item);
-        }
-        let _ = ring.push(number as u64);
-    }
-    sum
-}
-
-// Puts each number below `items` first.
-#[inline(never)]
-fn push_first<R: Own>(ring: &mut R, items: usize) {
-    for number in 0..items {
-        ring.push_first(number as u64);
-    }
-}
-
-// Empties the ring, and puts as many numbers as `capacity` where there is room, from `round` on.
-#[inline(never)]
-fn refill_room<R: Own>(ring: &mut R, capacity: usize, round: u64) {
-    ring.clear();
-    for number in 0..capacity {
-        ring.push_into_room(round.wrapping_add(number as u64));
-    }
-}
-
-// Takes out an item at a random index and puts one in at another, for each number below `items`. Returns the sum of
-// what came out.
-#[inline(never)]
-fn exchange<R: Own>(ring: &mut R, capacity: usize, items: usize) -> u64
-    requires { 0 < capacity }
-{
-    let mut sum = 0u64;
-    let mut random = 0u64;
-    for _ in 0..items {
-        random = Series::RANDOM.after(random);
-        let from = (random >> 33) as usize % capacity;
-        random = Series::RANDOM.after(random);
-        let to = (random >> 33) as usize % capacity;
-        sum = sum.wrapping_add(ring.exchange(from, to, random));
-    }
-    sum
-}
-
-// A vector of copies of the items, of which the first is added to `sum`.
-#[inline(never)]
-fn to_vec_copied<R: Own>(alloc: Global, ring: &R, sum: u64) -> u64 {
-    match ring.copies(alloc) {
-        Ok(items) => items.first().map_or(0, |item| sum.wrapping_add(*item)),
-        Err(_) => 0,
-    }
-}
-
-// Empties the ring, and pushes copies of the items of a slice.
-#[inline(never)]
-fn copy_in<R: Own>(ring: &mut R, items: &[u64]) {
-    ring.clear();
-    ring.extend_by(items);
-}
-
-// Pushes copies of half as many items as the ring holds, makes it lie in one slice, and returns the first of its items.
-#[inline(never)]
-fn straighten<R: Own>(ring: &mut R, half: &[u64]) -> u64 {
-    ring.extend_by(half);
-    ring.straighten()
-}
 
 /// Work on a heap ring.
 pub fn on_heap(alloc: Global, work: Work, capacity: usize, items: usize) -> Result<u64, AllocError>

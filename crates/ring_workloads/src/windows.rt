@@ -1,7 +1,7 @@
 //! The work on a window over each type of ring.
 ghost use Rattle.std.specs.Prelude.{◌<◌};
 
-use crate::work::{Series, slide, slide_least, slide_product, slide_within};
+use crate::sliding::{Series, slide, slide_least, slide_product, slide_within};
 use ringbuffer::{AllocRingBuffer, ConstGenericRingBuffer, GrowableAllocRingBuffer, RingBuffer};
 use std::alloc::{AllocError, Global};
 use window::{AllocWindowFold, AllocWindowMin, WindowSum};
