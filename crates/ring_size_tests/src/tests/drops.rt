@@ -1,6 +1,7 @@
 //! Many items that leave at once: each is dropped exactly once, at once and in order.
 
 use super::assert_equal;
+use Leaving::{Clear, KeepNewest, RemoveRange, Truncate};
 use ring_test_support::counted::{Counted, Supply};
 use ring_test_support::on_each_of_any;
 use ringbuffer::DoubleEndedRing;
@@ -8,6 +9,36 @@ use std::process::Abort;
 
 /// How many items a ring holds.
 const MANY: usize = 100;
+
+/// A call that drops items.
+#[derive(Clone, Copy, Drop)]
+enum Leaving {
+    Clear,
+    KeepNewest(usize),
+    Truncate(usize),
+    /// Drops the items from the first index up to the second.
+    RemoveRange(usize, usize),
+}
+
+impl Leaving {
+    /// Makes the call.
+    fn apply<'a, R: DoubleEndedRing<Counted<'a>>>(self, ring: &mut R) {
+        match self {
+            Clear => ring.clear(),
+            KeepNewest(len) => ring.keep_newest(len),
+            Truncate(len) => ring.truncate(len),
+            RemoveRange(from, to) => ring.remove_range(from..to),
+        }
+    }
+}
+
+/// Calls, and the places from the first up to the second whose items they drop.
+const CALLS: &[(Leaving, usize, usize)] = &[
+    (Clear, 0, MANY),
+    (KeepNewest(30), 0, 70),
+    (Truncate(30), 30, MANY),
+    (RemoveRange(20, 80), 20, 80),
+];
 
 /// Pushes many items onto a ring, the first of which lies in the middle of its slots.
 fn push_many<'a, R: DoubleEndedRing<Counted<'a>>>(
@@ -35,77 +66,27 @@ fn assert_dropped(rt: &impl Abort, supply: &Supply, from: usize, to: usize) {
     }
 }
 
-fn assert_clear<'a, R: DoubleEndedRing<Counted<'a>> + Drop>(
+/// Asserts which items a call drops from a ring of many, and that what stays is dropped with the ring.
+fn assert_drops<'a, R: DoubleEndedRing<Counted<'a>> + Drop>(
     rt: &impl Abort,
     mut ring: R,
     supply: &'a Supply,
+    call: Leaving,
+    from: usize,
+    to: usize,
 ) {
     push_many(rt, &mut ring, supply);
-    ring.clear();
-    assert_dropped(rt, supply, 0, MANY);
-    drop(ring);
-    assert_equal(rt, supply.first_fault(0), None);
-}
-
-#[test]
-fn a_clear_drops_many_items(rt: HostRuntime) {
-    let supply = Supply::new(rt.alloc(), 140).expect(&rt, "memory");
-    on_each_of_any!(&rt, 100, assert_clear, &supply);
-}
-
-fn assert_keep_newest<'a, R: DoubleEndedRing<Counted<'a>> + Drop>(
-    rt: &impl Abort,
-    mut ring: R,
-    supply: &'a Supply,
-) {
-    push_many(rt, &mut ring, supply);
-    ring.keep_newest(30);
-    assert_dropped(rt, supply, 0, 70);
+    call.apply(&mut ring);
+    assert_dropped(rt, supply, from, to);
     assert!(rt; supply.is_in_order());
     drop(ring);
     assert_equal(rt, supply.first_fault(0), None);
 }
 
 #[test]
-fn the_oldest_of_many_items_are_dropped(rt: HostRuntime) {
+fn many_items_that_leave_are_dropped_once(rt: HostRuntime) {
     let supply = Supply::new(rt.alloc(), 140).expect(&rt, "memory");
-    on_each_of_any!(&rt, 100, assert_keep_newest, &supply);
-}
-
-fn assert_truncate<'a, R: DoubleEndedRing<Counted<'a>> + Drop>(
-    rt: &impl Abort,
-    mut ring: R,
-    supply: &'a Supply,
-) {
-    push_many(rt, &mut ring, supply);
-    ring.truncate(30);
-    assert_dropped(rt, supply, 30, MANY);
-    assert!(rt; supply.is_in_order());
-    drop(ring);
-    assert_equal(rt, supply.first_fault(0), None);
-}
-
-#[test]
-fn the_newest_of_many_items_are_dropped(rt: HostRuntime) {
-    let supply = Supply::new(rt.alloc(), 140).expect(&rt, "memory");
-    on_each_of_any!(&rt, 100, assert_truncate, &supply);
-}
-
-fn assert_remove_range<'a, R: DoubleEndedRing<Counted<'a>> + Drop>(
-    rt: &impl Abort,
-    mut ring: R,
-    supply: &'a Supply,
-) {
-    push_many(rt, &mut ring, supply);
-    ring.remove_range(20..80);
-    assert_dropped(rt, supply, 20, 80);
-    assert!(rt; supply.is_in_order());
-    drop(ring);
-    assert_equal(rt, supply.first_fault(0), None);
-}
-
-#[test]
-fn a_range_of_many_items_is_dropped(rt: HostRuntime) {
-    let supply = Supply::new(rt.alloc(), 140).expect(&rt, "memory");
-    on_each_of_any!(&rt, 100, assert_remove_range, &supply);
+    for (call, from, to) in CALLS {
+        on_each_of_any!(&rt, 100, assert_drops, &supply, *call, *from, *to);
+    }
 }
