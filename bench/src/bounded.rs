@@ -168,7 +168,7 @@ fn copy_in_wide(capacity: usize, items: usize) -> u64 {
 }
 
 #[inline(never)]
-fn straighten(ring: &mut VecDeque<u64>, half: &[u64]) -> u64 {
+fn extend_and_make_contiguous(ring: &mut VecDeque<u64>, half: &[u64]) -> u64 {
     ring.drain(..half.len());
     ring.extend(half);
     ring.make_contiguous()[0]
@@ -280,9 +280,9 @@ pub fn deque(work: Work, capacity: usize, items: usize) -> u64 {
             let source: Vec<u64> = ring.iter().copied().collect();
             (0..rounds).for_each(|_| copy_in(black_box(&mut ring), &source));
         }
-        Work::Straighten => {
+        Work::MakeContiguous => {
             let half: Vec<u64> = ring.iter().take(capacity / 2).copied().collect();
-            (0..rounds).for_each(|_| sum = sum.wrapping_add(straighten(&mut ring, &half)));
+            (0..rounds).for_each(|_| sum = sum.wrapping_add(extend_and_make_contiguous(&mut ring, &half)));
         }
         Work::PushOwned | Work::PushDequeueOwned | Work::RefillOwned | Work::TryRefill | Work::Make => {
             unreachable!("not of a deque")

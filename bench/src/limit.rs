@@ -111,9 +111,9 @@ fn copy_in_wide(capacity: usize, items: usize) -> u64 {
     slots[capacity - 1][0]
 }
 
-/// Puts a half in place of the first one, and turns the slice by it.
+/// Puts a half in place of the first one, and rotates the slice by it.
 #[inline(never)]
-fn straighten(slots: &mut [u64], half: &[u64]) -> u64 {
+fn extend_and_make_contiguous(slots: &mut [u64], half: &[u64]) -> u64 {
     slots[..half.len()].copy_from_slice(half);
     slots.rotate_left(half.len());
     slots[0]
@@ -176,9 +176,9 @@ pub fn slices(work: Work, capacity: usize, items: usize) -> u64 {
             let source = ring.slots[..capacity].to_vec();
             (0..rounds).for_each(|_| copy_in(black_box(&mut ring.slots[..capacity]), &source));
         }
-        Work::Straighten => {
+        Work::MakeContiguous => {
             let half = ring.slots[..capacity / 2].to_vec();
-            (0..rounds).for_each(|_| sum = sum.wrapping_add(straighten(&mut ring.slots[..capacity], &half)));
+            (0..rounds).for_each(|_| sum = sum.wrapping_add(extend_and_make_contiguous(&mut ring.slots[..capacity], &half)));
         }
         _ => unreachable!("no such limit"),
     }

@@ -81,7 +81,7 @@ impl Contender {
             Work::TryRefill => TRIES.contains(&name),
             Work::CopyIn => COPIES.contains(&name),
             Work::CopyInWide => WIDE.contains(&name),
-            Work::Straighten => SLICES.contains(&name),
+            Work::MakeContiguous => SLICES.contains(&name),
             Work::ToVecCopied => SLICES.contains(&name) || RIVALS.contains(&name),
             Work::Stream => capacity == pipe::CAPACITY && STREAMS.contains(&name),
             // An array of many items doesn't fit the stack.

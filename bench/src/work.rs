@@ -9,7 +9,7 @@ pub type Wide = [u64; 8];
 const CAPACITIES: [usize; 4] = [7, 1000, 1024, 65536];
 
 /// The capacities at which items move to lie in one slice: powers of two up to far beyond the cache.
-const STRAIGHTENED: [usize; 4] = [1 << 10, 1 << 16, 1 << 20, 1 << 23];
+const CONTIGUOUS: [usize; 4] = [1 << 10, 1 << 16, 1 << 20, 1 << 23];
 
 /// Those at which rings are made and dropped.
 const MADE: [usize; 3] = [8, 1024, 1 << 20];
@@ -52,7 +52,7 @@ pub enum Work {
     TryRefill,
     Exchange,
     CopyIn,
-    Straighten,
+    MakeContiguous,
     Stream,
     ToVecCopied,
     Make,
@@ -90,7 +90,7 @@ impl Work {
         Work::TryRefill,
         Work::Exchange,
         Work::CopyIn,
-        Work::Straighten,
+        Work::MakeContiguous,
         Work::Stream,
         Work::ToVecCopied,
         Work::Make,
@@ -100,7 +100,7 @@ impl Work {
     /// The capacities that it is measured at.
     pub fn capacities(self) -> &'static [usize] {
         match self {
-            Work::Straighten => &STRAIGHTENED,
+            Work::MakeContiguous => &CONTIGUOUS,
             Work::Exchange => &EXCHANGED,
             Work::Make => &MADE,
             Work::CopyInWide => &WIDE,
@@ -139,7 +139,7 @@ impl Work {
             Work::TryRefill => "clear and refill by try_push",
             Work::Exchange => "remove and insert at random",
             Work::CopyIn => "clear and extend by a slice",
-            Work::Straighten => "extend by half and make contiguous",
+            Work::MakeContiguous => "extend by half and make contiguous",
             Work::Stream => "bytes read and written",
             Work::ToVecCopied => "to_vec_copied",
             Work::Make => "make, push one and drop",

@@ -1,13 +1,19 @@
--- What callers conclude from the calls' contracts: of a search over a walk, of a fill and of a clone.
+-- What callers conclude from the calls' contracts: of a call that succeeds, of a search over a walk, of a fill and of a clone.
 use Rattle.std.proofs.Common.{◌≡◌, ℕ, List, [], ◌∷◌, Bool, true, false, length, Option, None, Some, MatchOption, All, replicate, refl, ap, ◌∙◌, Bor}
 use Rattle.std.specs.Cmp.Lexicographic.{pointwise}
 use Rattle.std.specs.Fn.{Called, CalledAt, Mut}
 use Rattle.std.specs.Iterator.{YieldsFirstBy, YieldsThen}
 use Rattle.std.specs.List.{AllZip, FoldsTo, find, position}
 use Rattle.std.specs.Option.{option_map}
+use Rattle.std.specs.Prelude.{Err, IsOk, Ok, OnOk, Result, is_ok}
 use Rattle.std.proofs.lemmas.Iterator.Consumers.{YieldsList-from_first}
 use Rattle.std.proofs.lemmas.Iterator.Search.{find_from_yields_List, position_from_yields_List}
 use Rattle.std.proofs.lemmas.List.Elements.{All-head, All-tail}
+
+-- what holds on Ok holds where the result is Ok
+pub held_on_ok : {X E P : Type 0} (r : Result X E) → IsOk r → OnOk r P → P
+held_on_ok (Ok x) ok holds = holds
+held_on_ok {X} {E} (Err e) ok holds = absurd (let no : is_ok {T = X} {E = E} (Err e) ≡ true = ok in cc)
 
 -- a walk that gives the items of a list, in order
 module _ {S T F : Type 0} {to_come : S → List T} {s : S} {all : List T} (test : T → Bool) (u : S) (f : F) where

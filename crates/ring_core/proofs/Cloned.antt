@@ -47,7 +47,8 @@ equal_clones_out IsClone items old new (Ok n) (ys, clones, is, long) same =
     let all : ys ≡ take (length ys) items = same_from_all_zip IsClone (take (length ys) items) ys clones same in
     rw long (is ∙ ap (λ l. l ++ drop (length ys) old) all)
 
--- All that are more than a limit may be passed over.
-pub past_limit_over : {A : Type 0} (limit : Option ℕ) (capacity : ℕ) (items : List A) → IsSome limit → IfSome limit (λ n. capacity ≡ n) → IsOver limit items (length items - capacity)
-past_limit_over None capacity items some is = absurd (false≢true some)
-past_limit_over (Some n) capacity items some is = omega (arith, is)
+-- A limit leaves of the newest that fit what it leaves of all.
+pub keep_last-fitting : {A : Type 0} (limit : Option ℕ) (capacity : ℕ) (xs ys newest : List A) → IsSome limit → IfSome limit (λ n. capacity ≡ n)
+    → newest ≡ drop (length ys - capacity) ys → keep_last limit (xs ++ newest) ≡ keep_last limit (xs ++ ys)
+keep_last-fitting None capacity xs ys newest some is fits = absurd (false≢true some)
+keep_last-fitting (Some n) capacity xs ys newest some is fits = rw fits (keep_last-newest (Some n) (length ys - capacity) xs ys (omega (arith, is)))

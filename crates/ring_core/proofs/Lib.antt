@@ -14,9 +14,9 @@ pub mod Mapped
 pub mod MovedItems
 pub mod Reading
 pub mod RetainedItems
+pub mod Rotated
 pub mod RunParts
 pub mod SourceEnds
-pub mod Turned
 pub mod Walks
 mod Words
 pub mod WorkedRuns

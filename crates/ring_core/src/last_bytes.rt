@@ -10,6 +10,9 @@ use std::io::{Result, Write};
 use std::marker::Model;
 use std::snapshot::Snapshot;
 
+// Fewer bytes than these are pushed one at a time.
+const FEW: usize = 16;
+
 /// A writer that takes all bytes and keeps the newest, as many as the limit of its ring: the last bytes of a stream.
 ///
 /// A contract sees what the ring held at first and all bytes written since as one list, `written`, and the limit. The
@@ -101,5 +104,9 @@ fn push_newest<R: RingBuffer<u8>>(ring: &mut R, bytes: &[u8])
     ensures limit { R.limit ring.new ≡ R.limit ring.old }
 {
     let (_, newest) = bytes.split_at(bytes.len().saturating_sub(ring.capacity()));
-    let _ = ring.extend(newest.iter().copied());
+    if newest.len() < FEW {
+        let _ = ring.extend(newest.iter().copied());
+    } else {
+        let _ = ring.extend_from_slice(newest);
+    }
 }

@@ -62,6 +62,15 @@ pub fn bring<T: Item, R: Measured<T>>(ring: &mut R, items: &[T], times: u32) -> 
     ring.len() as u64
 }
 
+// The trait's call, which generic code has.
+#[inline(never)]
+pub fn bring_clones<T: Item, R: Measured<T>>(ring: &mut R, items: &[T], times: u32) -> u64 {
+    for _ in 0..times {
+        let _ = ring.extend_from_slice(items);
+    }
+    ring.len() as u64
+}
+
 #[inline(never)]
 pub fn copy<T: Item, R: Measured<T>>(ring: &R, output: &mut [T], times: u32) -> u64 {
     let mut sum = 0u64;

@@ -1,8 +1,8 @@
 //! The calls of every ring, each in a loop of its own.
 
 use crate::blocks::{
-    bring, bring_contiguous, clear_extend, copy, drain_extend, extend, extend_more, fill,
-    keep_newest_in, remove_range_extend, take_in, truncate_in,
+    bring, bring_clones, bring_contiguous, clear_extend, copy, drain_extend, extend, extend_more,
+    fill, keep_newest_in, remove_range_extend, take_in, truncate_in,
 };
 use crate::case::Case;
 use crate::item::Item;
@@ -43,6 +43,7 @@ pub fn repeat<T: Item, R: Measured<T> + Drop>(
         "extend_more" => extend_more(ring, items, times),
         "drain_extend" => drain_extend(ring, items, times),
         "in" => bring(ring, items, times),
+        "clones_in" => bring_clones(ring, items, times),
         "in_contiguous" => bring_contiguous(ring, items, times),
         "copy" => copy(ring, output, times),
         "take_in" => take_in(ring, items, output, times),

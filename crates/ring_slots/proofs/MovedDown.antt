@@ -7,7 +7,7 @@ use Rattle.std.specs.Mem.Slots.{IsMoved, SameFilledBeside, SameItemsOutside, Sam
 use Rattle.std.specs.Mem.Slots.Ownership.{Filled, SameOutside}
 use Rattle.std.specs.Prelude.{◌-◌, min, max}
 use Rattle.core.specs.declared.slots.Slots.{Slots as Row}
-use Rattle.ring_slots.specs.Slots.{brought_first, lowered}
+use Rattle.ring_slots.specs.Slots.{brought_first, moved_down}
 use Rattle.ring_slots.specs.block.Row.{HoldsRow}
 use Rattle.ring_slots.proofs.Filled.{get_or-map_some}
 use Rattle.ring_slots.proofs.SlotsInMemory.{stretch_long}
@@ -31,24 +31,24 @@ module _ {X : Type 0} (old new : List (Option X)) (before after : Row X) (size f
   abbrev gap : List (Option X)
   gap = replicate (from - to) None
 
-  length-lowered : length (lowered old from to) ≡ size
-  length-lowered = grind (arith, common_steps)
+  length-moved_down : length (moved_down old from to) ≡ size
+  length-moved_down = grind (arith, common_steps)
 
-  read_early : (i : ℕ) → i < to → get_or (lowered old from to) i None ≡ get_or old i None
+  read_early : (i : ℕ) → i < to → get_or (moved_down old from to) i None ≡ get_or old i None
   read_early i low = grind (arith, common_steps)
 
-  read_moved : (i : ℕ) → to ≤ i → i < to + count → get_or (lowered old from to) i None ≡ get_or old (from + (i - to)) None
+  read_moved : (i : ℕ) → to ≤ i → i < to + count → get_or (moved_down old from to) i None ≡ get_or old (from + (i - to)) None
   read_moved i late low = grind (arith, common_steps)
 
-  read_behind : (i : ℕ) → to + count ≤ i → get_or (lowered old from to) i None ≡ None
+  read_behind : (i : ℕ) → to + count ≤ i → get_or (moved_down old from to) i None ≡ None
   read_behind i late = grind (arith, common_steps)
 
   module _ (full : Filled (slots_filled before) from (from + count)) (moved : IsMoved before after from to count) (items : SameItemsOutside before after to (to + count))
       (filled' : Filled (slots_filled after) to (to + count)) (outside : SameOutside false (slots_filled before) (slots_filled after) (min from to) (max from to + count)) (places : SamePlaces before after) where
-    pub moved_down : new ≡ lowered old from to
-    moved_down =
+    pub is_moved_down : new ≡ moved_down old from to
+    is_moved_down =
         let long = has.size in let long' = had.size in let same_count = places.count in
-        ext_get_or None new (lowered old from to) (omega (arith, length-lowered)) (λ i low.
+        ext_get_or None new (moved_down old from to) (omega (arith, length-moved_down)) (λ i low.
         let k : ℕ = i - to in let held = λ (early : i < to + count). has.held i early in let was = had.held i (omega arith) in let was' = had.held (from + k) in
         grind (arith, held, has.behind i, was, was', outside i, items d i, moved k d, full (from + k), filled' i, read_early i, read_moved i, read_behind i, slice_get-get_or))
 

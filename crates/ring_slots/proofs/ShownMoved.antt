@@ -5,7 +5,7 @@ use Rattle.std.proofs.lemmas.Grind.{common_steps}
 use Rattle.std.proofs.lemmas.List.{append_assoc, drop-map, map-append, take-map, take_all}
 use Rattle.std.specs.List.{length_refill}
 use Rattle.std.specs.Prelude.{◌-◌}
-use Rattle.ring_slots.specs.Slots.{IsEmptyStretch, brought_first, lowered}
+use Rattle.ring_slots.specs.Slots.{IsEmptyStretch, brought_first, moved_down}
 use Rattle.ring_slots.specs.array.Lends.{rewritten}
 use Rattle.ring_slots.specs.copies.Shown.{shown}
 use Rattle.ring_slots.proofs.Shown.{cells-long, in_three, length-over, length-shown, shown-append, shown-filled, shown-front, stretch-marked, stretch-shown}
@@ -48,9 +48,9 @@ module _ {X : Type 0} where
     last-shown full = let held = stretch-shown fs xs from count same full in grind (arith, common_steps, held, length-shown fs xs same)
 
     -- the slots once the last items have moved down over empty ones
-    pub shown-lowered : (to : ℕ) → to ≤ from → IsFullStretch slots from count → IsEmptyStretch slots to (from - to)
-        → shown (take to emptied ++ (replicate count true ++ cut (to + count) emptied)) (take to xs ++ (take count (cut from xs) ++ cut (to + count) xs)) ≡ lowered slots from to
-    shown-lowered to order full empty =
+    pub shown-moved_down : (to : ℕ) → to ≤ from → IsFullStretch slots from count → IsEmptyStretch slots to (from - to)
+        → shown (take to emptied ++ (replicate count true ++ cut (to + count) emptied)) (take to xs ++ (take count (cut from xs) ++ cut (to + count) xs)) ≡ moved_down slots from to
+    shown-moved_down to order full empty =
         let ys = cut from xs in let n : length ys ≡ count = length-drop from xs in let long = length-shown fs xs same in
         let all : take count ys ≡ ys = take_all count ys (omega arith) in
         let front : take to (take from slots ++ replicate count None) ≡ take to slots = grind (arith, common_steps) in

@@ -38,8 +38,8 @@ module _ {X : Type 0} where
   filled slots from xs = take from slots ++ (map Some xs ++ drop (from + length xs) slots)
 
   -- the slots, with those from a place on moved down to another, and empty ones behind them
-  abbrev pub lowered : List (Option X) → ℕ → ℕ → List (Option X)
-  lowered slots from to = take to slots ++ (drop from slots ++ replicate (from - to) None)
+  abbrev pub moved_down : List (Option X) → ℕ → ℕ → List (Option X)
+  moved_down slots from to = take to slots ++ (drop from slots ++ replicate (from - to) None)
 
   -- the slots, with those from a place on brought to the first, the first `len` behind them, and empty ones behind all
   abbrev pub brought_first : List (Option X) → ℕ → ℕ → List (Option X)
@@ -74,8 +74,8 @@ module _ {X : Type 0} where
   passed_down item over had has = had ++ item ∷ [] ≡ over ∷ has
 
   -- the slots once the items from a place on have moved down to another, each by two changes
-  abbrev pub with_lowered : Slots X → ℕ → ℕ → Slots X
-  with_lowered s from to = record s { slots = lowered s.slots from to; changes = s.changes + 2 * (length s.slots - from) }
+  abbrev pub with_moved_down : Slots X → ℕ → ℕ → Slots X
+  with_moved_down s from to = record s { slots = moved_down s.slots from to; changes = s.changes + 2 * (length s.slots - from) }
 
   -- the slots once the items from a place on have gone to the first slots, and the first `len` behind them, each by two changes
   abbrev pub with_brought_first : Slots X → ℕ → ℕ → Slots X

@@ -56,7 +56,7 @@ unsafe impl<T> Sync for Deed<T> {}
 
 impl<T> Owner<T> {
     ghost use Rattle.ring_slots.specs.block.Block.{IsDeedOf, IsNewBlock};
-    ghost use Rattle.ring_slots.specs.block.Lends.{owner_lends_stretch, owner_lends, owner_with, owner_with_items, owner_with_lowered, owner_with_brought_first};
+    ghost use Rattle.ring_slots.specs.block.Lends.{owner_lends_stretch, owner_lends, owner_with, owner_with_items, owner_with_moved_down, owner_with_brought_first};
     ghost use Rattle.ring_slots.specs.block.Row.{HoldsRow};
 
     /// Allocates a block of `size` empty slots.
@@ -205,7 +205,7 @@ impl<T> Owner<T> {
         requires order { to ≤ from }
         requires full { IsFullStretch self.old.slots from (size - from) }
         requires empty { IsEmptyStretch self.old.slots to (from - to) }
-        ensures { self.new ≡ owner_with_lowered self.old from to }
+        ensures { self.new ≡ owner_with_moved_down self.old from to }
     {
         let count = size - from;
         let mut row = self.detach(ptr, size);

@@ -1,7 +1,7 @@
 //! What slots give that lend a row of their items as a slice for writing.
 ghost use Rattle.std.specs.Prelude.{◌≡◌, ◌+◌, ◌-◌, ◌<◌, ◌≤◌, ℕ, List, length};
 ghost use Rattle.std.specs.Borrow.{Array, Lends, sem};
-ghost use Rattle.ring_slots.specs.Slots.{HoldsStretch, IsEmptyStretch, IsFullStretch, with_brought_first, with_lowered, with_refilled};
+ghost use Rattle.ring_slots.specs.Slots.{HoldsStretch, IsEmptyStretch, IsFullStretch, with_brought_first, with_moved_down, with_refilled};
 
 use crate::change_count::ChangeCount;
 use crate::slots::RingSlots;
@@ -32,7 +32,7 @@ pub trait LendsRows<T>: RingSlots<T> {
         requires full { IsFullStretch (Self.seen self.old).slots from
             (length (Self.seen self.old).slots - from) }
         requires empty { IsEmptyStretch (Self.seen self.old).slots to (from - to) }
-        ensures { Self.seen self.new ≡ with_lowered (Self.seen self.old) from to };
+        ensures { Self.seen self.new ≡ with_moved_down (Self.seen self.old) from to };
 
     /// Moves the items of all slots from the place `from` on to the first slots, and those of the first `len` slots up
     /// behind them, each by two changes. The slots between must be empty, and at least as many as the items that go

@@ -1,6 +1,10 @@
 //! How each call of a list is done, and what comes of it.
 
-use crate::steps::{End, Outcome, Step};
+use crate::answers::{
+    answered, counted, found, put, said, searched, taken, unless_refused, written,
+};
+use crate::steps::{Outcome, Step};
+use crate::walks::{added, drained, lent, read};
 use ringbuffer::{DoubleEndedRing, RingBufferExt, binary_search, partition_point, retain};
 
 /// Does a call on the ring. Returns what came of it.
@@ -92,73 +96,6 @@ fn moved<R: DoubleEndedRing<i64>>(ring: &mut R, step: &Step) -> Outcome {
     Outcome::Agrees
 }
 
-fn unless_refused(is_done: bool) -> Outcome {
-    if is_done {
-        Outcome::Agrees
-    } else {
-        Outcome::Refused
-    }
-}
-
-fn taken(found: Option<i64>, wanted: Option<i64>) -> Outcome {
-    if found == wanted {
-        Outcome::Agrees
-    } else {
-        Outcome::Differs(0, found)
-    }
-}
-
-fn counted(found: usize, wanted: usize) -> Outcome {
-    if found == wanted {
-        Outcome::Agrees
-    } else {
-        Outcome::Counts(found)
-    }
-}
-
-fn said(found: bool, wanted: bool) -> Outcome {
-    if found == wanted {
-        Outcome::Agrees
-    } else {
-        Outcome::Says(found)
-    }
-}
-
-fn answered(found: Result<Option<i64>, i64>, wanted: Result<Option<i64>, i64>) -> Outcome {
-    if found == wanted {
-        Outcome::Agrees
-    } else {
-        Outcome::Answers(found)
-    }
-}
-
-fn put(found: Result<(), i64>, wanted: Result<(), i64>) -> Outcome {
-    match (found, wanted) {
-        (Ok(()), Ok(())) => Outcome::Agrees,
-        (Ok(()), Err(_)) => Outcome::Answers(Ok(None)),
-        (Err(back), Err(item)) if back == item => Outcome::Agrees,
-        (Err(back), _) => Outcome::Answers(Err(back)),
-    }
-}
-
-fn searched(found: Result<usize, usize>, wanted: Result<usize, usize>) -> Outcome {
-    if found == wanted {
-        Outcome::Agrees
-    } else {
-        Outcome::Finds(found)
-    }
-}
-
-fn written(place: Option<&mut i64>, item: i64) -> Outcome {
-    match place {
-        Some(place) => {
-            *place = item;
-            Outcome::Agrees
-        }
-        None => Outcome::NoItem,
-    }
-}
-
 fn begun<R: DoubleEndedRing<i64>>(ring: &mut R, start: usize) -> Outcome {
     ring.clear();
     for _ in 0..start {
@@ -218,77 +155,6 @@ fn parted<R: DoubleEndedRing<i64>>(ring: &R, bound: i64, wanted: usize) -> Outco
     counted(below, wanted)
 }
 
-fn read<R: DoubleEndedRing<i64>>(ring: &R, ends: &[End], items: &[i64]) -> Outcome {
-    let (mut walk, mut left) = (ring.iter(), ring.len());
-    for (i, end) in ends.iter().enumerate() {
-        if walk.size_hint() != (left, Some(left)) || walk.len() != left {
-            return Outcome::Counts(walk.len());
-        }
-        let found = match end {
-            End::Front => walk.next(),
-            End::Back => walk.next_back(),
-        };
-        if found != items.get(i) {
-            return Outcome::Differs(i, found.copied());
-        }
-        left = left.saturating_sub(1);
-    }
-    Outcome::Agrees
-}
-
-fn lent<R: DoubleEndedRing<i64>>(ring: &mut R, ends: &[End], items: &[i64]) -> Outcome {
-    let mut left = ring.len();
-    let mut walk = ring.iter_mut();
-    for (i, end) in ends.iter().enumerate() {
-        if walk.size_hint() != (left, Some(left)) {
-            return Outcome::Counts(walk.size_hint().0);
-        }
-        let found = match end {
-            End::Front => walk.next().copied(),
-            End::Back => walk.next_back().copied(),
-        };
-        if found != items.get(i).copied() {
-            return Outcome::Differs(i, found);
-        }
-        left = left.saturating_sub(1);
-    }
-    Outcome::Agrees
-}
-
-fn added<R: DoubleEndedRing<i64>>(ring: &mut R, additions: &[(End, i64)]) -> Outcome {
-    let mut walk = ring.iter_mut();
-    for (end, number) in additions {
-        let found = match end {
-            End::Front => walk.next(),
-            End::Back => walk.next_back(),
-        };
-        let Some(item) = found else {
-            return Outcome::NoItem;
-        };
-        *item = item.wrapping_add(*number);
-    }
-    Outcome::Agrees
-}
-
-fn drained<R: DoubleEndedRing<i64>>(ring: &mut R, ends: &[End], items: &[i64]) -> Outcome {
-    let mut left = ring.len();
-    let mut walk = ring.drain();
-    for (i, end) in ends.iter().enumerate() {
-        if walk.size_hint() != (left, Some(left)) || walk.len() != left {
-            return Outcome::Counts(walk.len());
-        }
-        let found = match end {
-            End::Front => walk.next(),
-            End::Back => walk.next_back(),
-        };
-        if found != items.get(i).copied() {
-            return Outcome::Differs(i, found);
-        }
-        left = left.saturating_sub(1);
-    }
-    Outcome::Agrees
-}
-
 fn pushed<R: DoubleEndedRing<i64>>(ring: &mut R, pushes: &[(i64, Option<i64>)]) -> Outcome {
     for (i, (item, back)) in pushes.iter().enumerate() {
         match ring.push(*item) {
@@ -330,16 +196,6 @@ fn is_pushed<R: DoubleEndedRing<i64>>(ring: &mut R, items: &[i64]) -> bool {
         }
     }
     true
-}
-
-// Agrees if what is read is what is wanted, and what is lent is what was read.
-fn found(read: Option<i64>, lent: Option<&mut i64>, wanted: Option<i64>) -> Outcome {
-    let lent = lent.copied();
-    if lent == read {
-        taken(read, wanted)
-    } else {
-        Outcome::LendsAnother(read, lent)
-    }
 }
 
 fn found_all<R: DoubleEndedRing<i64>>(ring: &mut R, first: usize, items: &[i64]) -> Outcome {

@@ -1,6 +1,7 @@
 //! What the tests of several crates share. No library stands on it.
 #![tactic(auto)]
 
+mod answers;
 mod calls;
 pub mod commands;
 pub mod counted;
@@ -8,3 +9,4 @@ pub mod drought;
 pub mod kinds;
 pub mod rings;
 pub mod steps;
+mod walks;

@@ -29,7 +29,7 @@ pub trait Own: DoubleEndedRing<u64> + Clone + PartialEq {
     fn copies(&self, alloc: Global) -> Result<Vec<u64>, AllocError>;
 
     // Makes the items lie in one slice, and returns the first of them. Of a ring without slices just the first.
-    fn straighten(&mut self) -> u64;
+    fn first_of_contiguous(&mut self) -> u64;
 }
 
 impl<const CAP: usize> Own for ConstGenericRingBuffer<u64, CAP> {
@@ -77,7 +77,7 @@ impl<const CAP: usize> Own for ConstGenericRingBuffer<u64, CAP> {
     }
 
     #[inline]
-    fn straighten(&mut self) -> u64 {
+    fn first_of_contiguous(&mut self) -> u64 {
         self.front().map_or(0, |item| *item)
     }
 }
@@ -126,7 +126,7 @@ impl Own for AllocRingBuffer<u64> {
     }
 
     #[inline]
-    fn straighten(&mut self) -> u64 {
+    fn first_of_contiguous(&mut self) -> u64 {
         self.make_contiguous().first().map_or(0, |item| *item)
     }
 }
@@ -176,7 +176,7 @@ impl Own for GrowableAllocRingBuffer<u64> {
     }
 
     #[inline]
-    fn straighten(&mut self) -> u64 {
+    fn first_of_contiguous(&mut self) -> u64 {
         self.make_contiguous().first().map_or(0, |item| *item)
     }
 }

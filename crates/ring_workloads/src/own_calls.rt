@@ -109,7 +109,7 @@ pub fn copy_in<R: Own>(ring: &mut R, items: &[u64]) {
 
 /// Pushes copies of half as many items as the ring holds, makes it lie in one slice, and returns the first of its items.
 #[inline(never)]
-pub fn straighten<R: Own>(ring: &mut R, half: &[u64]) -> u64 {
+pub fn extend_and_make_contiguous<R: Own>(ring: &mut R, half: &[u64]) -> u64 {
     ring.extend_by(half);
-    ring.straighten()
+    ring.first_of_contiguous()
 }

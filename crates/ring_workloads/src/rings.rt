@@ -3,8 +3,8 @@ ghost use Rattle.std.specs.Prelude.{◌<◌};
 
 use crate::own::Own;
 use crate::own_calls::{
-    clone, copy_in, equal, exchange, of_slice, push_first, refill_room, straighten, sum_of,
-    to_vec_copied, undo,
+    clone, copy_in, equal, exchange, extend_and_make_contiguous, of_slice, push_first, refill_room,
+    sum_of, to_vec_copied, undo,
 };
 use crate::work::{
     EXTENSION, Work, contains, extend, fill, get, push, push_dequeue, push_dequeue_owned, push_one,
@@ -200,12 +200,15 @@ fn on_full<R: Own + Drop>(
                 copy_in(ring, &source);
             }
         }
-        Work::Straighten => {
+        Work::MakeContiguous => {
             let Ok(source) = ring.to_vec(alloc) else {
                 return 0;
             };
             for _ in 0..rounds {
-                sum = sum.wrapping_add(straighten(ring, &source[..source.len() / 2]));
+                sum = sum.wrapping_add(extend_and_make_contiguous(
+                    ring,
+                    &source[..source.len() / 2],
+                ));
             }
         }
         _ => {

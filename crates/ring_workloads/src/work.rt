@@ -71,7 +71,7 @@ pub enum Work {
     /// A clear and then a slice of as many items as the capacity.
     CopyIn,
     /// A slice of half as many items as the capacity onto a full ring, which is then made to lie in one slice.
-    Straighten,
+    MakeContiguous,
     /// Bytes through a pipe by the traits of `std::io`, a block in and a block out at a time.
     Stream,
     /// Vectors made of a full ring, by copies.
@@ -115,7 +115,7 @@ impl Work {
             26 => Some(Work::TryRefill),
             27 => Some(Work::Exchange),
             28 => Some(Work::CopyIn),
-            29 => Some(Work::Straighten),
+            29 => Some(Work::MakeContiguous),
             30 => Some(Work::Stream),
             31 => Some(Work::ToVecCopied),
             32 => Some(Work::Make),

@@ -1,5 +1,5 @@
 -- What rings hold that were made of other collections.
-use Rattle.ringbuffer.proofs.Words.{◌≡◌, MatchResult, ℕ, suc, ◌-◌, ◌≤◌, All, Bor, IfOk, IsOk, IsSome, IsUtf8, OnOk, Result, Ok, Err, is_ok, true, chars, List, [], ◌∷◌, ◌++◌, length, map, Option, None, Some, refl, sym, ap, ◌∙◌, arith, Drains, AllZip, YieldsList, YieldsList-turn, YieldsThen, IfOk-weaker, keep_last, shown_drained, View, ClonesMeet}
+use Rattle.ringbuffer.proofs.Words.{◌≡◌, MatchResult, ℕ, suc, ◌-◌, ◌≤◌, All, Bor, IfOk, IsOk, IsSome, IsUtf8, Result, Ok, Err, is_ok, true, chars, List, [], ◌∷◌, ◌++◌, length, map, Option, None, Some, refl, sym, ap, ◌∙◌, arith, Drains, AllZip, YieldsList, YieldsList-turn, YieldsThen, IfOk-weaker, keep_last, shown_drained, View, ClonesMeet}
 use Rattle.std.proofs.lemmas.List.{map-id}
 use Rattle.std.proofs.lemmas.List.Elements.{All-head, All-tail}
 use Rattle.std.proofs.lemmas.Str.{encodes-chars, length-le-encodes}
@@ -51,11 +51,6 @@ pub length-somes : {A : Type 0} (options : List (Option A)) → All IsSome optio
 length-somes [] all = refl
 length-somes {A = A} (None ∷ os) all = let none : IsSome {T = A} None = All-head IsSome None os all in cc
 length-somes (Some x ∷ os) all = ap suc (length-somes os (All-tail IsSome (Some x) os all))
-
--- what holds on Ok holds where the result is Ok
-pub held_on_ok : {X E P : Type 0} (r : Result X E) → IsOk r → OnOk r P → P
-held_on_ok (Ok x) ok holds = holds
-held_on_ok {X} {E} (Err e) ok holds = absurd (let no : is_ok {T = X} {E = E} (Err e) ≡ true = ok in cc)
 
 -- a call that returns Ok with P, and always where Q is, returns Err only where Q isn't
 pub ok_or_not : {A E Q : Type 0} (P : A → Type 0) (r : Result A E) → IfOk r P → (Q → IsOk r) → MatchResult r P (λ _. ¬ Q)

@@ -4,7 +4,7 @@ use Rattle.std.proofs.lemmas.Option.{slice_get_within}
 use Rattle.ring_core.proofs.Items.{slice_get-append_left}
 use Rattle.ring_slots.specs.Slots.{filled, with_items}
 use Rattle.ring_slots.proofs.Filled.{filled-before, filled-behind, filled-in, length-filled}
-use Rattle.ringbuffer.proofs.SlotsHold.{count_on, straight_on, wrap}
+use Rattle.ringbuffer.proofs.SlotsHold.{count_on, contiguous_on, wrap}
 use Rattle.ringbuffer.proofs.LaysOut.{LaysOut-items, slice_get_some}
 
 -- one item more, behind those put into a stretch
@@ -52,28 +52,28 @@ module _ {X : Type 0} (s : Slots X) (start : ℕ) (laid_out : IsLaidOut s start)
   -- the slots behind the last item are empty
   pub empty_behind : (count : ℕ) → len ≡ length items → (0 < count → place ≡ (start + len) % length s.slots) → place + count ≤ length s.slots → len + count ≤ length s.slots
       → (k : ℕ) → k < count → get_or s.slots (place + k) None ≡ None
-  empty_behind count counted found straight room k low =
-      ap (λ p. get_or s.slots p None) (straight_on start len place (length s.slots) k (found (omega arith)) (omega arith))
+  empty_behind count counted found contiguous room k low =
+      ap (λ p. get_or s.slots p None) (contiguous_on start len place (length s.slots) k (found (omega arith)) (omega arith))
       ∙ laid_out.layout (len + k) (omega arith) ∙ slice_get_past items (len + k) (omega arith)
 
-  module _ (xs : List X) (room : len + length xs ≤ length s.slots) (found : 0 < length xs → place ≡ (start + len) % length s.slots) (straight : place + length xs ≤ length s.slots) where
+  module _ (xs : List X) (room : len + length xs ≤ length s.slots) (found : 0 < length xs → place ≡ (start + len) % length s.slots) (contiguous : place + length xs ≤ length s.slots) where
     -- items of which these are the new ones, and the others those that were, are what the ring shows
     module _ (shown : List X) (there : (j : ℕ) → j < length xs → slice_get shown (len + j) ≡ slice_get xs j) (elsewhere : (k : ℕ) → (k < len) ⊎ (len + length xs ≤ k) → slice_get shown k ≡ slice_get items k) where
       lie : SlotsHold (filled s.slots place xs) start shown
       lie k low =
-          let size = length s.slots in let within = laid_out.start_within in let low' : k < size = rw (length-filled s.slots place xs straight) at low in
+          let size = length s.slots in let within = laid_out.start_within in let low' : k < size = rw (length-filled s.slots place xs contiguous) at low in
           let held = laid_out.layout k low' in let q = (start + k) % size in
           let round = wrap start k size within (omega arith) in let round' = wrap start len size within (omega arith) in
-          rw (length-filled s.slots place xs straight) (grind (arith, round, round', held, found, filled-before s.slots place xs straight q, filled-in s.slots place xs straight q, filled-behind s.slots place xs straight q, there (k - len), elsewhere k))
+          rw (length-filled s.slots place xs contiguous) (grind (arith, round, round', held, found, filled-before s.slots place xs contiguous q, filled-in s.slots place xs contiguous q, filled-behind s.slots place xs contiguous q, there (k - len), elsewhere k))
 
       pub LaysOut-filled : (changes : ℕ) → length shown ≤ length s.slots → LaysOut s (record s { slots = filled s.slots place xs; changes = changes }) start (record { items = shown; changes = changes; capacity = s.capacity })
-      LaysOut-filled changes fit = LaysOut-items s start laid_out (record s { slots = filled s.slots place xs; changes = changes }) start shown (length-filled s.slots place xs straight) refl laid_out.start_within fit lie
+      LaysOut-filled changes fit = LaysOut-items s start laid_out (record s { slots = filled s.slots place xs; changes = changes }) start shown (length-filled s.slots place xs contiguous) refl laid_out.start_within fit lie
 
   -- items put behind the last
   pub LaysOut-puts : (xs : List X) → len ≡ length items → len + length xs ≤ length s.slots → (0 < length xs → place ≡ (start + len) % length s.slots) → place + length xs ≤ length s.slots
       → (new : Slots X) → new ≡ with_items s place xs → LaysOut s new start (after_puts xs (view_from s start))
-  LaysOut-puts xs counted room found straight new is =
-      rw is (LaysOut-filled xs room found straight (items ++ xs) (λ j low. grind (arith, common_steps, slice_get_cases)) (λ k other. grind (arith, common_steps, slice_get_cases)) (s.changes + length xs) (omega (arith, length-append items xs)))
+  LaysOut-puts xs counted room found contiguous new is =
+      rw is (LaysOut-filled xs room found contiguous (items ++ xs) (λ j low. grind (arith, common_steps, slice_get_cases)) (λ k other. grind (arith, common_steps, slice_get_cases)) (s.changes + length xs) (omega (arith, length-append items xs)))
 
 -- as many items of a list left out at its front as come behind it: those that stay
 read_over : {A : Type 0} (xs ys : List A) (k : ℕ) → (0 < length ys → length ys + k < length xs) → slice_get xs (length ys + k) ≡ slice_get (drop (length ys) xs ++ ys) k
@@ -86,30 +86,30 @@ module _ {X : Type 0} (s : Slots X) (start : ℕ) (laid_out : IsLaidOut s start)
 
   -- the slots from the start on are full, as far as the items go
   pub full_ahead : (k : ℕ) → k < length held → start + k < length s.slots → IsFullAt s (start + k)
-  full_ahead k low straight =
+  full_ahead k low contiguous =
       let fit = laid_out.fit in
-      rw (ap (λ p. get_or s.slots p None) (sym (mod-eq_of_lt straight)) ∙ laid_out.layout k (omega arith)) (slice_get_some held k low)
+      rw (ap (λ p. get_or s.slots p None) (sym (mod-eq_of_lt contiguous)) ∙ laid_out.layout k (omega arith)) (slice_get_some held k low)
 
-  module _ (xs : List X) (full : 0 < length xs → length held ≡ length s.slots) (straight : start + length xs ≤ length s.slots) where
+  module _ (xs : List X) (full : 0 < length xs → length held ≡ length s.slots) (contiguous : start + length xs ≤ length s.slots) where
     some_or_none : (length xs ≡ 0) ⊎ (length held ≡ length s.slots)
     some_or_none = elim (dec_lt 0 (length xs)) [ yes some ↦ inr (full some) | no none ↦ inl (omega arith) ]
 
     -- in a ring that fills its slots these items lie where the oldest lay, and are the newest
     lie_over : SlotsHold (filled s.slots start xs) ((start + length xs) % length s.slots) (drop (length xs) held ++ xs)
     lie_over k low =
-        let size = length s.slots in let n = length xs in let within = laid_out.start_within in let fit = laid_out.fit in let long = length-filled s.slots start xs straight in
+        let size = length s.slots in let n = length xs in let within = laid_out.start_within in let fit = laid_out.fit in let long = length-filled s.slots start xs contiguous in
         let low' : k < size = rw long at low in let there = count_on start n k (n + k) size refl in let cut = length-drop n held in
         rw (long, there) (elim (dec_lt (n + k) size) [
           | yes left ↦ let q = (start + (n + k)) % size in
               let outside : get_or (filled s.slots start xs) q None ≡ get_or s.slots q None = elim (wrap start (n + k) size within (omega arith)) [
-                | inl a ↦ filled-behind s.slots start xs straight q (omega (arith, a))
-                | inr a ↦ filled-before s.slots start xs straight q (omega (arith, a))
+                | inl a ↦ filled-behind s.slots start xs contiguous q (omega (arith, a))
+                | inr a ↦ filled-before s.slots start xs contiguous q (omega (arith, a))
               ] in
               outside ∙ laid_out.layout (n + k) left ∙ read_over held xs k (λ some. omega (arith, left, full some))
           | no round ↦ let j = n + k - size in
               let once : (start + (n + k)) % size ≡ start + j = ap (λ m. m % size) {x = start + (n + k)} {y = start + j + size} (omega arith) ∙ add-mod_right (start + j) size ∙ mod-eq_of_lt (omega arith) in
               let newest : slice_get xs (start + j - start) ≡ slice_get (drop n held ++ xs) k = grind (arith, cut, some_or_none, common_steps, slice_get_cases) in
-              rw once (filled-in s.slots start xs straight (start + j) (omega arith) (omega arith) ∙ newest)
+              rw once (filled-in s.slots start xs contiguous (start + j) (omega arith) (omega arith) ∙ newest)
         ])
 
     -- items put in the place of the oldest, by two changes each
@@ -119,4 +119,4 @@ module _ {X : Type 0} (s : Slots X) (start : ℕ) (laid_out : IsLaidOut s start)
         let fit = laid_out.fit in let n = length xs in let within = laid_out.start_within in
         let twice : s.changes + n + n ≡ s.changes + 2 * n = omega arith in
         rw (is, found, twice) (LaysOut-items s start laid_out (record s { slots = filled s.slots start xs; changes = s.changes + 2 * n }) ((start + n) % length s.slots) (drop n held ++ xs)
-        (length-filled s.slots start xs straight) refl (mod-lt (start + n) (omega arith)) (omega (arith, some_or_none, length-append (drop n held) xs, length-drop n held)) lie_over)
+        (length-filled s.slots start xs contiguous) refl (mod-lt (start + n) (omega arith)) (omega (arith, some_or_none, length-append (drop n held) xs, length-drop n held)) lie_over)

@@ -2,7 +2,7 @@
 use Rattle.ringbuffer.proofs.Words.{◌≡◌, ℕ, ◌+◌, ◌-◌, ◌<◌, ◌≤◌, List, ◌++◌, length, map, take, drop, Option, None, Some, inl, inr, refl, sym, ap, ◌∙◌, arith, length-append, length-drop, append_assoc, map-append, min, take_all, take-append-drop, rotated, ◌%◌, IsFullStretch, IsLaidOut, replicate, nat_le, if◌then◌else◌, length_refill, refill, common_steps, drop-drop, drop-map, get_or_append_left, get_or-append_right, get_or-replicate, get_or_past, length-map, length-replicate, take-map, slice_get_cases, slice_get_past, Slots, HoldsStretch, refilled, after_rewrite, SlotsHold, items_from, LaysOut, view_from, IsSound, beside, contiguous_start, made_contiguous}
 use Rattle.ringbuffer.proofs.Sound.{IsSound-after}
 use Rattle.ringbuffer.proofs.LaysOut.{LaysOut-items}
-use Rattle.ring_slots.specs.Slots.{IsEmptyStretch, brought_first, lowered}
+use Rattle.ring_slots.specs.Slots.{IsEmptyStretch, brought_first, moved_down}
 use Rattle.ring_slots.proofs.Filled.{get_or-map_some}
 use Rattle.ringbuffer.proofs.Copies.{empty_behind}
 use Rattle.ringbuffer.proofs.Rotations.{length-rotated}
@@ -66,8 +66,8 @@ module _ {X : Type 0} (s : Slots X) (start : ℕ) (laid_out : IsLaidOut s start)
       let found : len - first ≡ (start + len) % size = elim (wrap start len size laid_out.start_within (omega arith)) [ inl a ↦ let none = a.0 in absurd (omega arith) | inr a ↦ sym (a.1 ∙ omega arith) ] in
       (omega arith, empty_behind s start laid_out (len - first) len (start - (len - first)) counted (λ _. found) (omega arith) (omega arith))
 
-  pub lowered_contiguous : lowered s.slots start (len - first) ≡ beside (length s.slots) 0 (rotated first items)
-  lowered_contiguous =
+  pub moved_down_contiguous : moved_down s.slots start (len - first) ≡ beside (length s.slots) 0 (rotated first items)
+  moved_down_contiguous =
       let fit = laid_out.fit in let size = length s.slots in
       let low : take (len - first) s.slots ≡ map Some (drop first items) = second_held s start laid_out len first counted least in
       let high : drop start s.slots ≡ map Some (take first items) = sym (take_all first (drop start s.slots) (omega (arith, length-drop start s.slots))) ∙ first_held s start laid_out len first counted least in

@@ -103,15 +103,15 @@ in_three s start laid_out len before other first second counted least within low
     let shorter : first ≡ min first (length s.slots - start) = omega arith in
     let middle_within : first + (second - first) ≤ length (items_from s.slots start) = omega arith in
     let last_within : second + (len - second) ≤ length (items_from s.slots start) = omega arith in
-    let middle_straight : (start + first + (second - first) ≤ length s.slots) ⊎ (length s.slots ≤ start + first) = elim (dec_lt (length s.slots) (start + first + (second - first))) [ yes over ↦ inr (omega arith) | no under ↦ inl (omega arith) ] in
-    let last_straight : (start + second + (len - second) ≤ length s.slots) ⊎ (length s.slots ≤ start + second) = elim (dec_lt (length s.slots) (start + second + (len - second))) [ yes over ↦ inr (omega arith) | no under ↦ inl (omega arith) ] in
+    let middle_contiguous : (start + first + (second - first) ≤ length s.slots) ⊎ (length s.slots ≤ start + first) = elim (dec_lt (length s.slots) (start + first + (second - first))) [ yes over ↦ inr (omega arith) | no under ↦ inl (omega arith) ] in
+    let last_contiguous : (start + second + (len - second) ≤ length s.slots) ⊎ (length s.slots ≤ start + second) = elim (dec_lt (length s.slots) (start + second + (len - second))) [ yes over ↦ inr (omega arith) | no under ↦ inl (omega arith) ] in
     record {
       first_full = front_stretch s start laid_out first first (omega arith) shorter;
       first_held = front_held s start laid_out first first (omega arith) shorter;
-      middle_full = between_stretch s start laid_out first (second - first) middle_within middle_straight;
-      middle_held = between_held s start laid_out first (second - first) middle_within middle_straight;
-      last_full = between_stretch s start laid_out second (len - second) last_within last_straight;
-      last_held = between_held s start laid_out second (len - second) last_within last_straight;
+      middle_full = between_stretch s start laid_out first (second - first) middle_within middle_contiguous;
+      middle_held = between_held s start laid_out first (second - first) middle_within middle_contiguous;
+      last_full = between_stretch s start laid_out second (len - second) last_within last_contiguous;
+      last_held = between_held s start laid_out second (len - second) last_within last_contiguous;
     }
 
 -- Pairs are counted in the three parts.

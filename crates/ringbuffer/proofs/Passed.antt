@@ -5,7 +5,7 @@ use Rattle.std.proofs.lemmas.List.{drop-take, drop_at, take-append-le, take-take
 use Rattle.ringbuffer.proofs.Copies.{LaysOut-filled}
 use Rattle.ringbuffer.proofs.LaysOut.{LaysOut-then}
 use Rattle.ringbuffer.proofs.RepeatedSteps.{last_behind, view_is}
-use Rattle.ringbuffer.proofs.SlotsHold.{count_on, straight_on}
+use Rattle.ringbuffer.proofs.SlotsHold.{count_on, contiguous_on}
 use Rattle.ringbuffer.proofs.Stretches.{stretch_is, stretch_of}
 use Rattle.ring_slots.specs.Slots.{Passes, passed_down, passed_up, with_items}
 
@@ -19,7 +19,7 @@ module _ {X : Type 0} (s : Slots X) (start : ℕ) (laid_out : IsLaidOut s start)
   held_there =
       let enough = laid_out.fit in
       stretch_of s.slots place len (take len (drop i items)) (omega (arith, length-take len (drop i items), length-drop i items)) fit (λ k below.
-      ap (λ p. get_or s.slots p None) (straight_on start i place (length s.slots) k (is (omega arith)) (omega arith)) ∙ laid_out.layout (i + k) (omega arith) ∙ sym (slice_get-drop i k items) ∙ sym (slice_get-take len k (drop i items) below))
+      ap (λ p. get_or s.slots p None) (contiguous_on start i place (length s.slots) k (is (omega arith)) (omega arith)) ∙ laid_out.layout (i + k) (omega arith) ∙ sym (slice_get-drop i k items) ∙ sym (slice_get-take len k (drop i items) below))
 
   pub full_there : IsFullStretch s.slots place len
   full_there = (fit, (take len (drop i items), held_there))

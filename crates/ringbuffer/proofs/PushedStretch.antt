@@ -1,12 +1,12 @@
--- Pushes up to the last slot, or to the capacity: a stretch of places that goes straight on.
+-- Pushes up to the last slot, or to the capacity: a stretch of places that goes contiguous on.
 use Rattle.ringbuffer.proofs.Words.{◌≡◌, ℕ, ◌<◌, ◌≤◌, ◌+◌, ◌%◌, Bool, true, false, List, [], ◌∷◌, ◌++◌, if◌then◌else◌, refl, ap, sym, ◌∙◌, arith, length, length-append, mod-eq_of_lt, Slots, Span, View, after_put, after_take, after_extend, after_pushes, view_from, items_from, LaysOut}
 use Rattle.ringbuffer.proofs.LaysOut.{LaysOut-then}
-use Rattle.ringbuffer.proofs.SlotsHold.{straight_on, count_on}
+use Rattle.ringbuffer.proofs.SlotsHold.{contiguous_on, count_on}
 use Rattle.ringbuffer.proofs.RepeatedSteps.{after_extend-then, after_extend-fits, after_extend-full, after_puts-more, after_push-full}
 
--- The place after the last goes straight on.
-pub goes_straight : (full : Bool) (span : Span) (end i size : ℕ) → end ≡ (span.start + span.len) % size → end + i < size → let now = after_pushes full span i size in end + i ≡ (now.start + now.len) % size
-goes_straight full span end i size found low = grind (arith, straight_on span.start span.len end size i found low, count_on span.start i span.len (span.len + i) size)
+-- The place after the last goes contiguous on.
+pub stays_contiguous : (full : Bool) (span : Span) (end i size : ℕ) → end ≡ (span.start + span.len) % size → end + i < size → let now = after_pushes full span i size in end + i ≡ (now.start + now.len) % size
+stays_contiguous full span end i size found low = grind (arith, contiguous_on span.start span.len end size i found low, count_on span.start i span.len (span.len + i) size)
 
 -- No push leaves the start as it is.
 pub none_yet : (full : Bool) (span : Span) (size : ℕ) → span.start < size → (after_pushes full span 0 size).start ≡ span.start

@@ -18,9 +18,9 @@ same_count start j k size within low low' same = grind (arith, wrap start j size
 pub count_on : (start k j n size : ℕ) → k + j ≡ n → ((start + k) % size + j) % size ≡ (start + n) % size
 count_on start k j n size sum = mod-add-mod (start + k) size j ∙ ap (λ p. p % size) {x = start + k + j} {y = start + n} (omega arith)
 
--- a straight way on from the place after len items
-pub straight_on : (start len place size i : ℕ) → place ≡ (start + len) % size → place + i < size → place + i ≡ (start + (len + i)) % size
-straight_on start len place size i found low = sym (mod-eq_of_lt low) ∙ ap (λ p. (p + i) % size) found ∙ count_on start len i (len + i) size refl
+-- a contiguous way on from the place after len items
+pub contiguous_on : (start len place size i : ℕ) → place ≡ (start + len) % size → place + i < size → place + i ≡ (start + (len + i)) % size
+contiguous_on start len place size i found low = sym (mod-eq_of_lt low) ∙ ap (λ p. (p + i) % size) found ∙ count_on start len i (len + i) size refl
 
 module _ {X : Type 0} (slots : List (Option X)) (start : ℕ) (within : start < length slots) where
   -- what the slot at a place holds: as many places lead to it as lead on from it to the start, counted round

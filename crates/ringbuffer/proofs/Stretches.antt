@@ -2,7 +2,7 @@
 use Rattle.ringbuffer.proofs.Words.{◌≡◌, ℕ, ◌+◌, ◌-◌, ◌<◌, ◌≤◌, ◌%◌, ◌⊎◌, List, [], ◌∷◌, ◌++◌, length, map, take, drop, get_or, Option, None, Some, refl, sym, ap, ◌∙◌, arith, slice_get, min, mod-eq_of_lt, ext_get_or, get_or-take, get_or-drop, length-map, length-take, length-drop, take-append-drop, slice_get-drop, slice_get-take, Slots, HoldsStretch, IsFullStretch, items_from, IsLaidOut, somes}
 use Rattle.std.proofs.Math.Seq.{take-add}
 use Rattle.ring_slots.proofs.Filled.{get_or-map_some}
-use Rattle.ringbuffer.proofs.SlotsHold.{straight_on, wrap}
+use Rattle.ringbuffer.proofs.SlotsHold.{contiguous_on, wrap}
 
 module _ {X : Type 0} where
   -- items that are known one by one are a stretch
@@ -82,7 +82,7 @@ module _ {X : Type 0} (s : Slots X) (start : ℕ) (laid_out : IsLaidOut s start)
 
 -- items between two indices lie in one stretch where they don't go on at the first slot
 module _ {X : Type 0} (s : Slots X) (start : ℕ) (laid_out : IsLaidOut s start) (index n : ℕ)
-    (some : index + n ≤ length (items_from s.slots start)) (straight : (start + index + n ≤ length s.slots) ⊎ (length s.slots ≤ start + index)) where
+    (some : index + n ≤ length (items_from s.slots start)) (contiguous : (start + index + n ≤ length s.slots) ⊎ (length s.slots ≤ start + index)) where
   abbrev from : ℕ
   from = (start + index) % length s.slots
 
@@ -90,8 +90,8 @@ module _ {X : Type 0} (s : Slots X) (start : ℕ) (laid_out : IsLaidOut s start)
   reach =
       let within = laid_out.start_within in let fit = laid_out.fit in let size = length s.slots in
       let at = wrap start index size within (omega arith) in
-      let ends : from + n ≤ size = grind (arith, at, straight) in
-      (ends, λ k low. straight_on start index from size k refl (omega arith))
+      let ends : from + n ≤ size = grind (arith, at, contiguous) in
+      (ends, λ k low. contiguous_on start index from size k refl (omega arith))
 
   pub between_held : HoldsStretch s.slots from n (take n (drop index (items_from s.slots start)))
   between_held =

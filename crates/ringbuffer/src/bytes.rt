@@ -60,6 +60,11 @@ impl<S: RingSlots<u8>> BufRead for FixedRing<u8, S> {
         ensures rest { self.new.items ≡ drop amount self.old.items }
         ensures after { self.new ≡ after_keep_newest (length self.old.items - amount) self.old }
     {
+        // An array of Options lends one byte at a time.
+        if !S::goes_by_stretch() && amount == 1 {
+            let _ = self.take_first();
+            return;
+        }
         let kept = self.len().saturating_sub(amount);
         self.keep_newest(kept);
     }

@@ -2,7 +2,7 @@
 ghost use Rattle.std.specs.Prelude.{◌≡◌, ◌+◌, ◌-◌, ◌%◌, ◌^◌, ◌<◌, ◌≤◌, if◌then◌else◌, false, ◌++◌, IsOk, List, length, true, Some};
 ghost use Rattle.std.specs.Iterator.{Drains, ExtendsWithItems, IsFinite, IsFiniteIterable};
 ghost use Rattle.ringbuffer.specs.View.{after_put, after_take, after_extend};
-ghost use Rattle.ringbuffer.specs.Sources.{Gives};
+ghost use Rattle.ringbuffer.specs.Sources.{Gives, GivesAll};
 ghost use Rattle.ringbuffer.specs.Layout.{after_pushes, CanPush, IsSpanOf, LaysOut, view_from};
 ghost use Rattle.ring_core.specs.Contents.{ChangesSlots, keep_last};
 ghost use Rattle.ring_core.specs.Extension.{Extends};
@@ -32,9 +32,8 @@ impl<T: Drop, S: RingSlots<T>> FixedRing<T, S> {
         I::IntoIter: Drop,
         requires { IsFiniteIterable I.into_iter_gives I.IntoIter.can_next I.IntoIter.remaining
             items }
-        ensures { (it : I.IntoIter) × (xs : List T) × I.into_iter_gives items it
-            × Drains I.IntoIter.next_gives it xs
-            × (self.new ≡ after_extend (S.limit self.old.capacity) self.old xs) }
+        ensures { GivesAll I.into_iter_gives I.IntoIter.next_gives items
+            (λ xs. self.new ≡ after_extend (S.limit self.old.capacity) self.old xs) }
     {
         let capacity = self.slots.limit();
         let span = self.span;
@@ -55,12 +54,11 @@ impl<T: Drop, S: RingSlots<T>> FixedRing<T, S> {
         requires ends { IsFiniteIterable I.into_iter_gives I.IntoIter.can_next I.IntoIter.remaining
             items }
         requires can_push { CanPush (S.seen slots.old) span capacity }
-        ensures { (it : I.IntoIter) × (xs : List T) × I.into_iter_gives items it
-            × Drains I.IntoIter.next_gives it xs
-            × LaysOut (S.seen slots.old) (S.seen slots.new) result.start
+        ensures { GivesAll I.into_iter_gives I.IntoIter.next_gives items
+            (λ xs. LaysOut (S.seen slots.old) (S.seen slots.new) result.start
             (after_extend capacity (view_from (S.seen slots.old) span.start) xs)
             × (result.len
-            ≡ length (after_extend capacity (view_from (S.seen slots.old) span.start) xs).items) }
+            ≡ length (after_extend capacity (view_from (S.seen slots.old) span.start) xs).items)) }
     {
         let mut span = span;
         for item in items {
@@ -77,9 +75,8 @@ impl<T: Drop, S: RingSlots<T>> FixedRing<T, S> {
         I::IntoIter: Drop,
         requires { IsFiniteIterable I.into_iter_gives I.IntoIter.can_next I.IntoIter.remaining
             items }
-        ensures { (it : I.IntoIter) × (xs : List T) × I.into_iter_gives items it
-            × Drains I.IntoIter.next_gives it xs
-            × (result.0 ≡ after_extend (S.limit self.capacity) self xs) }
+        ensures { GivesAll I.into_iter_gives I.IntoIter.next_gives items
+            (λ xs. result.0 ≡ after_extend (S.limit self.capacity) self xs) }
     {
         let capacity = self.slots.limit();
         let span = self.span;
@@ -94,9 +91,8 @@ impl<T: Drop, S: RingSlots<T>> FixedRing<T, S> {
         I::IntoIter: Drop,
         requires { IsFiniteIterable I.into_iter_gives I.IntoIter.can_next I.IntoIter.remaining
             items }
-        ensures { (it : I.IntoIter) × (xs : List T) × I.into_iter_gives items it
-            × Drains I.IntoIter.next_gives it xs
-            × (self.new ≡ after_extend (S.limit self.old.capacity) self.old xs) }
+        ensures { GivesAll I.into_iter_gives I.IntoIter.next_gives items
+            (λ xs. self.new ≡ after_extend (S.limit self.old.capacity) self.old xs) }
     {
         let capacity = self.slots.limit();
         let span = self.span;
@@ -214,10 +210,9 @@ impl<T: Drop, S: RingSlots<T>> FixedRing<T, S> {
             else after_put (view_from (S.seen slots.old) span.start) item) }
     {
         if full {
-            let (start, old) = Self::take_from(slots, span.start);
+            let start = Self::drop_from(slots, span.start);
             let len = span.len - 1;
             Self::put_at(slots, Span { start, len }, place, item);
-            drop(old);
         } else {
             Self::put_at(slots, span, place, item);
         }

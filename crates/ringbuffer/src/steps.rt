@@ -120,4 +120,18 @@ impl<T: Drop, S: RingSlots<T>> FixedRing<T, S> {
         let next = slots.next(start);
         (next, slots.take(start))
     }
+
+    // Drops the first item, and returns the next start.
+    #[inline]
+    pub(crate) fn drop_from(slots: &mut S, start: usize) -> usize
+        requires laid_out { IsLaidOut (S.seen slots.old) start }
+        requires some { 0 < length (view_from (S.seen slots.old) start).items }
+        ensures next { result ≡ (start + 1) % length (S.seen slots.old).slots }
+        ensures after { LaysOut (S.seen slots.old) (S.seen slots.new) result
+            (after_take (view_from (S.seen slots.old) start)) }
+    {
+        let next = slots.next(start);
+        slots.discard(start);
+        next
+    }
 }

@@ -1,18 +1,19 @@
 -- How a queue changes as an item leaves and one comes.
-use Rattle.std.proofs.Common.{◌≡◌, ◌≢◌, ◌⊎◌, ℕ, zero, suc, ◌+◌, ◌-◌, ◌<◌, ◌≤◌, List, [], ◌∷◌, ◌++◌, length, take, drop, All, None, Some, inl, inr, refl, ap, sym, ◌∙◌, add-one, arith, length-append, length-drop, slice_get, slice_set}
+use Rattle.std.proofs.Common.{◌≡◌, ◌≢◌, ◌⊎◌, ℕ, zero, suc, ◌+◌, ◌-◌, ◌<◌, ◌≤◌, List, [], ◌∷◌, ◌++◌, length, take, drop, All, None, Some, inl, inr, refl, ap, sym, ◌∙◌, add-one, arith, length-append, length-drop, slice_get, slice_set, Bor, Option}
 use Rattle.std.proofs.lemmas.List.{drop-set-lt, set_comm, length-map, length-set, map-append, drop-append-le, drop-set-add, drop_all, set-append_left, take-append-le, take_all}
 use Rattle.std.proofs.lemmas.List.Elements.{All-cons, All-head, All-nil, All-push, All-tail, All-weaker}
 use Rattle.std.proofs.lemmas.Option.{slice_get_within, slice_get-map}
 use Rattle.std.proofs.Math.Seq.{set-append_seam}
-use Rattle.std.specs.Option.{option_map}
+use Rattle.std.specs.Option.{option_copied, option_map}
 use Rattle.std.specs.Cmp.{IsTotalOrder}
 use Rattle.std.specs.declared.cmp.Ordering.{Ordering}
 use Rattle.ringbuffer.proofs.Items.{slice_get-append_left, slice_get-at, slice_get-drop}
+use Rattle.ringbuffer.specs.Contents.{index_at}
 use Rattle.window.specs.MonotonicQueue.{IsPopped, HoldsMonotonicQueue, IsMonotonicQueue, IsRanked, LeadsTo, Reaches, Stops, item_on, items_on, next}
 use Rattle.window.specs.Least.{AtMost, IsBelow, IsFirstLeast, IsLeastFrom}
 use Rattle.window.specs.declared.monotonic_queue.Candidate.{Candidate}
 use Rattle.window.proofs.Mapped.{drop_written, map-set}
-use Rattle.window.proofs.Pushed.{newest_read}
+use Rattle.window.proofs.Pushed.{newest_read, read_is}
 use Rattle.window.proofs.Orders.{AtMost-below, AtMost-same, AtMost-trans, IsBelow-trans}
 
 -- By induction on the list: what holds of all items holds of that at a place.
@@ -371,6 +372,20 @@ module _ {T : Type 0} {cmp : T → T → Ordering} (o : IsTotalOrder cmp) where
                 },
               )
 
+
+  -- A turn of the walk knows the last place and the newest by what it reads there.
+  pub record Turn (all : List (Candidate T)) (first left compared most : ℕ) (x y : Candidate T) : Type 0 where
+    pub stops : AtMost cmp x.item y.item → Stops cmp all first left (compared + 1) (most + 1)
+    pub ends_at : left ≤ x.behind → IsBelow cmp y.item x.item → Stops cmp all first 0 (compared + 1) (most + 1)
+    pub goes : x.behind < left → IsBelow cmp y.item x.item → (0 < x.behind) × Reaches cmp all first (left - x.behind) (compared + 1) most
+
+  pub turn : (all : List (Candidate T)) (first left n compared most : ℕ) (so : Reaches cmp all first left compared most) → n ≡ length all → 0 < left
+      → (o p : Option (Bor (Candidate T))) (x y : Bor (Candidate T)) → option_copied o ≡ slice_get all (index_at (length all) (left - 1)) → o ≡ Some x → option_copied p ≡ slice_get all (index_at (length all) (n - 1)) → p ≡ Some y
+      → Turn all first left compared most x.now y.now
+  turn all first left n compared most so n_is more_left o p x y copied is copied' is' =
+      let s = seen all first left n compared most so n_is more_left in
+      rw (read_is all _ o x s.last copied is s.read, read_is all _ p y so.r copied' is' s.read_newest) (record { stops = s.stops; ends_at = s.ends_at; goes = s.goes })
+
   -- Where the newest is the least, it is the whole queue.
   pub joins_alone : (all : List (Candidate T)) (first left n compared most : ℕ) → n ≡ length all → Stops cmp all first left compared most → left ≡ 0
       → (r : Candidate T) × (slice_get all (n - 1) ≡ Some r) × HoldsMonotonicQueue cmp (slice_set all (n - 1) (record r { behind = n - left; ahead = 0 })) n compared (most + 1)
@@ -460,6 +475,9 @@ module _ {T : Type 0} {cmp : T → T → Ordering} (o : IsTotalOrder cmp) where
         let (r, there, behind, ahead, least, rest) = queue in
         let e : at + first ≡ at + 1 + d = omega (arith, first_is) in
         (r, rw e (sym (slice_get-drop (at + 1) d all) ∙ there))
+
+  pub first_within : (all : List (Candidate T)) (at first compared most : ℕ) → IsRanked cmp (drop (at + 1) all) first compared most → 0 < first → at + first < length all
+  first_within all at first compared most is some = let (y, there) = first_read all at first compared most is some in slice_get_within all (at + first) y there
 
   -- An item that isn't above the first ranked after it is the first itself.
   pub ranked_first : (all : List (Candidate T)) (at first compared compared' most most' : ℕ) (q : Candidate T) → slice_get all at ≡ Some q → IsRanked cmp (drop (at + 1) all) first compared most

@@ -59,3 +59,10 @@ pub read_is : {A : Type 0} (xs : List A) (i : ℕ) (o : Option (Bor A)) (x : Bor
 read_is xs i o x y copied is there =
     let both : Some x.now ≡ Some y = sym (read_here xs i o x (slice_get_within xs i y there) copied is) ∙ there in
     cc
+
+-- What is lent at a place below the length stands there, and is written back there.
+pub lent_here : {A : Type 0} (xs : List A) (i : ℕ) (x y : A) → i < length xs → slice_get xs i ≡ Some x → Some y ≡ slice_get xs (index_at (length xs) i) → (x ≡ y) × (index_at (length xs) i ≡ i)
+lent_here xs i x y below there lent =
+    let here = mod-eq_of_lt below in
+    let both : Some x ≡ Some y = sym there ∙ sym (rw here at lent) in
+    (cc, here)

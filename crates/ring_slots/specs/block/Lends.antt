@@ -1,7 +1,7 @@
 -- What the owner of slots ends as, where one of them changes or some are lent.
 use Rattle.std.specs.Prelude.{ℕ, List, Option, Some, slice_set}
 use Rattle.std.specs.Borrow.{Array, Lends, Fml, RattleType, MutBor}
-use Rattle.ring_slots.specs.Slots.{brought_first, filled, lowered, refilled}
+use Rattle.ring_slots.specs.Slots.{brought_first, filled, moved_down, refilled}
 use Rattle.ring_slots.specs.declared.block.Owner.{Owner}
 use Rattle.ring_slots.specs.contracts.block.Owner.{the_row}
 
@@ -14,8 +14,8 @@ abbrev pub owner_with_items : {X : Type 0} → Owner X → ℕ → List X → Ow
 owner_with_items s place xs = record s { slots = filled s.slots place xs }
 
 -- the slots with those from a place on moved down to another
-abbrev pub owner_with_lowered : {X : Type 0} → Owner X → ℕ → ℕ → Owner X
-owner_with_lowered s from to = record s { slots = lowered s.slots from to }
+abbrev pub owner_with_moved_down : {X : Type 0} → Owner X → ℕ → ℕ → Owner X
+owner_with_moved_down s from to = record s { slots = moved_down s.slots from to }
 
 -- the slots with those from a place on brought to the first, and the first `len` behind them
 abbrev pub owner_with_brought_first : {X : Type 0} → Owner X → ℕ → ℕ → Owner X

@@ -1,7 +1,8 @@
 //! Array rings made of other collections. Each function names its source, whose items keep their order.
 ghost use Rattle.std.specs.Prelude.{◌≡◌, ◌<◌, All, IfOk, IsOk, IsSome, List, [], chars, string_bytes};
-ghost use Rattle.std.specs.Iterator.{Drains, IsFiniteIterable};
+ghost use Rattle.std.specs.Iterator.{IsFiniteIterable};
 ghost use Rattle.ringbuffer.specs.Somes.{somes};
+ghost use Rattle.ringbuffer.specs.Sources.{GivesAll};
 ghost use Rattle.ringbuffer.specs.Conversion.{ClonesMeet, HoldsLast};
 
 use crate::array::ConstGenericRingBuffer;
@@ -19,8 +20,8 @@ impl<T: Drop, const CAP: usize> ConstGenericRingBuffer<T, CAP> {
         requires capacity { 0 < CAP }
         requires ends { IsFiniteIterable I.into_iter_gives I.IntoIter.can_next I.IntoIter.remaining
             items }
-        ensures { (it : I.IntoIter) × (xs : List T) × I.into_iter_gives items it
-            × Drains I.IntoIter.next_gives it xs × HoldsLast CAP xs result }
+        ensures { GivesAll I.into_iter_gives I.IntoIter.next_gives items
+            (λ xs. HoldsLast CAP xs result) }
     {
         let mut ring = Self::new();
         let _ = ring.extend(items);

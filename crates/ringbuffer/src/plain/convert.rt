@@ -1,7 +1,8 @@
 //! Rings of plain items made of other collections. Each function names its source, whose items keep their order.
 //! `filler` is an item that lies, unseen, where no item was put yet.
 ghost use Rattle.std.specs.Prelude.{◌≡◌, ◌<◌, List, chars, string_bytes};
-ghost use Rattle.std.specs.Iterator.{Drains, IsFiniteIterable};
+ghost use Rattle.std.specs.Iterator.{IsFiniteIterable};
+ghost use Rattle.ringbuffer.specs.Sources.{GivesAll};
 ghost use Rattle.ringbuffer.specs.Conversion.{HoldsLast};
 
 use crate::fixed::{FixedRing, Span};
@@ -19,8 +20,8 @@ impl<T: Copy + Drop, const CAP: usize> CopyRingBuffer<T, CAP> {
         requires capacity { 0 < CAP }
         requires ends { IsFiniteIterable I.into_iter_gives I.IntoIter.can_next I.IntoIter.remaining
             items }
-        ensures { (it : I.IntoIter) × (xs : List T) × I.into_iter_gives items it
-            × Drains I.IntoIter.next_gives it xs × HoldsLast CAP xs result }
+        ensures { GivesAll I.into_iter_gives I.IntoIter.next_gives items
+            (λ xs. HoldsLast CAP xs result) }
     {
         let mut ring = Self::new(filler);
         let _ = ring.extend(items);

@@ -1,5 +1,5 @@
 -- A command is run as a list's, and an extension as one by the vector of its numbers.
-use Rattle.std.proofs.Common.{[], ◌∷◌, arith, refl}
+use Rattle.std.proofs.Common.{[], ◌∷◌, arith, refl, rules}
 use Rattle.std.proofs.lemmas.Result.{err_from_is_err_and}
 use Rattle.ringbuffer.specs.declared.Reply.TheVariants.{Extended}
 use Rattle.ringrun_service.proofs.Extensions.{by_numbers, extended, extension_ended, extension_refused}
@@ -24,42 +24,38 @@ returns-in_err-end_line-in-Extension-clause-bad g c =
     let line = rw c.in-Extension.is at c.in_ok-read_line.ensures.line in
     rw (p.1, p.2, err.2) (extension_refused c.args.script.now c.read_line.new.self c.in-Extension.numbers c.in_ok-rest-in-Extension.rest.now pushed.0 line pushed.1 (omega (arith, pushed.2)) err.0)
 
-pub returns-in_err-push_reply-in-Extension-clause-rest : goal.returns-in_err-push_reply-in-Extension-clause-rest
-returns-in_err-push_reply-in-Extension-clause-rest g c =
+pub returns-in_err-push_reply-in-Extension : goal.returns-in_err-push_reply-in-Extension
+returns-in_err-push_reply-in-Extension g c =
     let pushed = c.in_ok-rest-in-Extension.ensures.pushed in let end = c.in_ok-end_line-in-Extension.ensures in
     let line = rw c.in-Extension.is at c.in_ok-read_line.ensures.line in
     let ended = extension_ended c.args.script.now c.read_line.new.self c.end_line.new.self c.in-Extension.numbers c.in_ok-rest-in-Extension.rest.now pushed.0 c.requires line pushed.1 (omega (arith, pushed.2)) end.text end.ok in
-    ended.0
+    record {
+      rest = ended.0;
+      limit = search rules;
+      run = search rules;
+      passed = (plain (by_numbers pushed.0) ∷ [], ended.1);
+      bad = search rules;
+      faults = search rules;
+      shorter = search rules;
+    }
 
-pub returns-in_err-push_reply-in-Extension-clause-passed : goal.returns-in_err-push_reply-in-Extension-clause-passed
-returns-in_err-push_reply-in-Extension-clause-passed g c =
-    let pushed = c.in_ok-rest-in-Extension.ensures.pushed in let end = c.in_ok-end_line-in-Extension.ensures in
-    let line = rw c.in-Extension.is at c.in_ok-read_line.ensures.line in
-    let ended = extension_ended c.args.script.now c.read_line.new.self c.end_line.new.self c.in-Extension.numbers c.in_ok-rest-in-Extension.rest.now pushed.0 c.requires line pushed.1 (omega (arith, pushed.2)) end.text end.ok in
-    (plain (by_numbers pushed.0) ∷ [], ended.1)
-
-pub returns-in_ok-push_reply-in-Extension-clause-rest : goal.returns-in_ok-push_reply-in-Extension-clause-rest
-returns-in_ok-push_reply-in-Extension-clause-rest g c =
-    let pushed = c.in_ok-rest-in-Extension.ensures.pushed in let end = c.in_ok-end_line-in-Extension.ensures in
-    let line = rw c.in-Extension.is at c.in_ok-read_line.ensures.line in
-    let ended = extension_ended c.args.script.now c.read_line.new.self c.end_line.new.self c.in-Extension.numbers c.in_ok-rest-in-Extension.rest.now pushed.0 c.requires line pushed.1 (omega (arith, pushed.2)) end.text end.ok in
-    ended.0
-
-pub returns-in_ok-push_reply-in-Extension-clause-passed : goal.returns-in_ok-push_reply-in-Extension-clause-passed
-returns-in_ok-push_reply-in-Extension-clause-passed g c =
-    let pushed = c.in_ok-rest-in-Extension.ensures.pushed in let end = c.in_ok-end_line-in-Extension.ensures in
-    let line = rw c.in-Extension.is at c.in_ok-read_line.ensures.line in
-    let ended = extension_ended c.args.script.now c.read_line.new.self c.end_line.new.self c.in-Extension.numbers c.in_ok-rest-in-Extension.rest.now pushed.0 c.requires line pushed.1 (omega (arith, pushed.2)) end.text end.ok in
-    (plain (by_numbers pushed.0) ∷ [], ended.1)
-
-pub returns-in_ok-push_reply-in-Extension-clause-run : goal.returns-in_ok-push_reply-in-Extension-clause-run
-returns-in_ok-push_reply-in-Extension-clause-run g c =
+pub returns-in_ok-push_reply-in-Extension : goal.returns-in_ok-push_reply-in-Extension
+returns-in_ok-push_reply-in-Extension g c =
     let limit = g.R.RingBuffer.limit c.args.ring.now in let l = g.R.RingBuffer.contents c.args.ring.now in
     let pushed = c.in_ok-rest-in-Extension.ensures.pushed in let end = c.in_ok-end_line-in-Extension.ensures in
     let line = rw c.in-Extension.is at c.in_ok-read_line.ensures.line in
-    let ended = extension_ended c.args.script.now c.read_line.new.self c.end_line.new.self c.in-Extension.numbers c.in_ok-rest-in-Extension.rest.now pushed.0 c.requires line pushed.1 (omega (arith, pushed.2)) end.text end.ok in (
-      plain (by_numbers pushed.0) ∷ [],
-      ended.1,
-      one_reply limit l (by_numbers pushed.0) Extended c.args.text.now.items _ refl c.in_ok-push_reply-in-Extension.ensures,
-      one_contents limit l _ (by_numbers pushed.0) (extended limit l _ pushed.0 (omega (arith, pushed.2)) pushed.3),
-    )
+    let ended = extension_ended c.args.script.now c.read_line.new.self c.end_line.new.self c.in-Extension.numbers c.in_ok-rest-in-Extension.rest.now pushed.0 c.requires line pushed.1 (omega (arith, pushed.2)) end.text end.ok in
+    record {
+      rest = ended.0;
+      limit = search rules;
+      run = (
+        plain (by_numbers pushed.0) ∷ [],
+        ended.1,
+        one_reply limit l (by_numbers pushed.0) Extended c.args.text.now.items _ refl c.in_ok-push_reply-in-Extension.ensures,
+        one_contents limit l _ (by_numbers pushed.0) (extended limit l _ pushed.0 (omega (arith, pushed.2)) pushed.3),
+      );
+      passed = (plain (by_numbers pushed.0) ∷ [], ended.1);
+      bad = search rules;
+      faults = search rules;
+      shorter = search rules;
+    }

@@ -1,4 +1,4 @@
-use Rattle.std.proofs.Common.{arith}
+use Rattle.std.proofs.Common.{arith, rules}
 use Rattle.std.proofs.lemmas.List.{length-set}
 use Rattle.window.proofs.MonotonicQueues.{ahead_linked, both_linked, joins_after, joins_alone, newest_linked, recounted_to}
 use Rattle.window.proofs.monotonic_queue.rank_newest.Goals as goal
@@ -19,38 +19,32 @@ set_behind_newest-requires-else-left-eq0 g c =
     let (r, last, read, fits, read_last, holds, items) = joins_after g.met.O.Order.total all c.args.first.now c.find_kept-left.result c.len-len.result _ _ e c.find_kept-left.ensures.stops c.if-left-eq0.false in
     rw (ahead_linked all last c.find_kept-left.result c.len-len.result _ _ _ c.if-left-eq0.false fits read_last c.set_ahead.ensures.contents, length-set) (omega (arith, e, fits))
 
-pub returns-then-left-eq0-clause-holds : goal.returns-then-left-eq0-clause-holds
-returns-then-left-eq0-clause-holds g c =
+pub returns-then-left-eq0 : goal.returns-then-left-eq0
+returns-then-left-eq0 g c =
     let all = g.R.RingBuffer.contents c.args.ring.now in
     let e = c.len-len.ensures.value in
     let (rs, q, is, held, one, none) = c.requires in
     let (r, read, holds, items) = joins_alone g.met.O.Order.total all c.args.first.now c.find_kept-left.result c.len-len.result _ _ e c.find_kept-left.ensures.stops c.if-left-eq0.true in
     let written = newest_linked all rs q r c.len-len.result _ all _ is e one none read read c.set_behind_newest.ensures.contents in
-    rw written (recounted_to g.met.O.Order.total holds (omega (arith, c.add_one.ensures)))
+    record {
+      holds = rw written (recounted_to g.met.O.Order.total holds (omega (arith, c.add_one.ensures)));
+      pushed = search rules;
+      rises = search rules;
+      items = rw written items;
+      limit = search rules;
+    }
 
-pub returns-then-left-eq0-clause-items : goal.returns-then-left-eq0-clause-items
-returns-then-left-eq0-clause-items g c =
-    let all = g.R.RingBuffer.contents c.args.ring.now in
-    let e = c.len-len.ensures.value in
-    let (rs, q, is, held, one, none) = c.requires in
-    let (r, read, holds, items) = joins_alone g.met.O.Order.total all c.args.first.now c.find_kept-left.result c.len-len.result _ _ e c.find_kept-left.ensures.stops c.if-left-eq0.true in
-    let written = newest_linked all rs q r c.len-len.result _ all _ is e one none read read c.set_behind_newest.ensures.contents in
-    rw written items
-
-pub returns-else-left-eq0-clause-holds : goal.returns-else-left-eq0-clause-holds
-returns-else-left-eq0-clause-holds g c =
-    let all = g.R.RingBuffer.contents c.args.ring.now in
-    let e = c.len-len.ensures.value in
-    let (rs, q, is, held, one, none) = c.requires in
-    let (r, last, read, fits, read_last, holds, items) = joins_after g.met.O.Order.total all c.args.first.now c.find_kept-left.result c.len-len.result _ _ e c.find_kept-left.ensures.stops c.if-left-eq0.false in
-    let written = both_linked all rs q r last c.find_kept-left.result c.len-len.result _ _ _ is e one none c.if-left-eq0.false fits read read_last c.set_ahead.ensures.contents c.set_behind_newest-else-left-eq0.ensures.contents in
-    rw written (recounted_to g.met.O.Order.total holds (omega (arith, c.add_one.ensures)))
-
-pub returns-else-left-eq0-clause-items : goal.returns-else-left-eq0-clause-items
-returns-else-left-eq0-clause-items g c =
+pub returns-else-left-eq0 : goal.returns-else-left-eq0
+returns-else-left-eq0 g c =
     let all = g.R.RingBuffer.contents c.args.ring.now in
     let e = c.len-len.ensures.value in
     let (rs, q, is, held, one, none) = c.requires in
     let (r, last, read, fits, read_last, holds, items) = joins_after g.met.O.Order.total all c.args.first.now c.find_kept-left.result c.len-len.result _ _ e c.find_kept-left.ensures.stops c.if-left-eq0.false in
     let written = both_linked all rs q r last c.find_kept-left.result c.len-len.result _ _ _ is e one none c.if-left-eq0.false fits read read_last c.set_ahead.ensures.contents c.set_behind_newest-else-left-eq0.ensures.contents in
-    rw written items
+    record {
+      holds = rw written (recounted_to g.met.O.Order.total holds (omega (arith, c.add_one.ensures)));
+      pushed = search rules;
+      rises = search rules;
+      items = rw written items;
+      limit = search rules;
+    }

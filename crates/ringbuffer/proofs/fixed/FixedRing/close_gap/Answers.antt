@@ -1,5 +1,5 @@
 use Rattle.ringbuffer.proofs.Words.{◌-◌, ◌∙◌, append-nil, ap, arith, Slots}
-use Rattle.ringbuffer.proofs.MadeContiguous.{between_empty, last_full, lowered_contiguous, contiguous_is}
+use Rattle.ringbuffer.proofs.MadeContiguous.{between_empty, last_full, moved_down_contiguous, contiguous_is}
 use Rattle.ringbuffer.proofs.fixed.FixedRing.close_gap.Goals as goal
 
 -- Items that reach no further than the last slot lie side by side already.
@@ -22,4 +22,4 @@ move_down-requires-clause-empty g c =
 pub returns-clause-contiguous : goal.returns-clause-contiguous
 returns-clause-contiguous g c =
     let s = g.S.RingSlots.seen c.args.slots.now in let start = c.args.span.start in let len = c.args.span.len in let within = c.requires.span.laid_out.start_within in
-    ap (λ (s : Slots _). s.slots) c.move_down.ensures ∙ lowered_contiguous s start c.requires.span.laid_out len (c.size.result - start) c.requires.span.len (omega (arith, c.size.ensures.value)) c.if-span-first.false
+    ap (λ (s : Slots _). s.slots) c.move_down.ensures ∙ moved_down_contiguous s start c.requires.span.laid_out len (c.size.result - start) c.requires.span.len (omega (arith, c.size.ensures.value)) c.if-span-first.false

@@ -1,7 +1,7 @@
 use Rattle.ringbuffer.proofs.Words.{◌≡◌, [], ◌∷◌, ◌++◌, refl, arith, length, length-append, nat_eq, all_zip_more, view_from}
 use Rattle.ringbuffer.proofs.LaysOut.{LaysOut-none}
 use Rattle.ringbuffer.proofs.RepeatedSteps.{after_extend-none}
-use Rattle.ringbuffer.proofs.PushedStretch.{goes_straight, long_then, none_yet, one_more}
+use Rattle.ringbuffer.proofs.PushedStretch.{stays_contiguous, long_then, none_yet, one_more}
 use Rattle.ringbuffer.proofs.fixed.FixedRing.push_clone_stretch.Goals as goal
 
 pub loop-i-init : goal.loop-i-init
@@ -13,7 +13,7 @@ loop-i-init g c =
 pub push_at-requires-clause-place : goal.push_at-requires-clause-place
 push_at-requires-clause-place g c =
     let size = c.loop-i.invariant.3.same_size in
-    rw (c.after_pushes-now.ensures, size) (goes_straight (nat_eq c.args.span.len c.args.capacity) c.args.span c.place_after-end.result c.loop-i.i _ c.place_after-end.ensures
+    rw (c.after_pushes-now.ensures, size) (stays_contiguous (nat_eq c.args.span.len c.args.capacity) c.args.span c.place_after-end.result c.loop-i.i _ c.place_after-end.ensures
     (omega (arith, c.pushes_to_end-free.ensures.end, c.min-count.ensures, c.loop-i-test.true)))
 
 -- One more clone is pushed.

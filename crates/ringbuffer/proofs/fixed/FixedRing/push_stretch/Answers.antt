@@ -2,7 +2,7 @@ use Rattle.ringbuffer.proofs.Words.{◌≡◌, true, nat_eq, [], ◌∷◌, ◌+
 use Rattle.ringbuffer.proofs.LaysOut.{LaysOut-none}
 use Rattle.ringbuffer.proofs.Sources.{Gives-none, Gives-one, Gives-then}
 use Rattle.ringbuffer.proofs.RepeatedSteps.{after_extend-none}
-use Rattle.ringbuffer.proofs.PushedStretch.{goes_straight, long_then, none_yet, one_more}
+use Rattle.ringbuffer.proofs.PushedStretch.{stays_contiguous, long_then, none_yet, one_more}
 use Rattle.ringbuffer.proofs.fixed.FixedRing.push_stretch.Goals as goal
 
 pub loop-i-init : goal.loop-i-init
@@ -20,7 +20,7 @@ after_pushes-now-requires-in-loop-i-clause-fits g c = λ no. omega (arith, c.pus
 pub push_at-requires-clause-place : goal.push_at-requires-clause-place
 push_at-requires-clause-place g c =
     let size = c.loop-i.invariant.3.same_size in
-    rw (c.after_pushes-now-in-loop-i.ensures, size) (goes_straight (nat_eq c.args.span.len c.args.capacity) c.args.span c.place_after-end.result c.loop-i.i _ c.place_after-end.ensures (omega (arith, c.pushes_to_end-count.ensures.end, c.loop-i-test.true)))
+    rw (c.after_pushes-now-in-loop-i.ensures, size) (stays_contiguous (nat_eq c.args.span.len c.args.capacity) c.args.span c.place_after-end.result c.loop-i.i _ c.place_after-end.ensures (omega (arith, c.pushes_to_end-count.ensures.end, c.loop-i-test.true)))
 
 -- One more item is pushed.
 pub loop-i-preserved : goal.loop-i-preserved

@@ -9,16 +9,13 @@ returns-then-index-behind-clause-after g c =
     let (xs, order, after) = c.pass_up.ensures in let took = c.take_first.ensures in
     after ∙ ap (after_writes 0 xs) took.after ∙ take_first_is i v c.pass_up.result xs c.requires c.in_ok-first.first (sym took.value ∙ c.in_ok-first.was) (rw (ap (λ (w : View _). w.items) took.after) at order) (omega (arith, len, c.if-index-behind.true))
 
-pub returns-clause-value : goal.returns-clause-value
-returns-clause-value g c =
+pub returns : goal.returns
+returns g c =
     let i = c.args.index in let v = c.args.self.now in
     let len : c.self.inside.span.len ≡ length v.items = c.self.invariant.counted ∙ ap (λ (w : View _). length w.items) c.self.view_is in
     let (xs, order, after) = c.pass_down.ensures in let took = c.pop_back.ensures in
-    sym (took_last i v c.pass_down.result xs c.requires c.in_ok-last.last (c.self.inside.span.len - 1 - i) (omega (arith, len)) (sym took.value ∙ c.in_ok-last.was) (rw (ap (λ (w : View _). w.items) took.after) at order))
-
-pub returns-clause-after : goal.returns-clause-after
-returns-clause-after g c =
-    let i = c.args.index in let v = c.args.self.now in
-    let len : c.self.inside.span.len ≡ length v.items = c.self.invariant.counted ∙ ap (λ (w : View _). length w.items) c.self.view_is in
-    let (xs, order, after) = c.pass_down.ensures in let took = c.pop_back.ensures in
-    after ∙ ap (after_writes i xs) took.after ∙ take_last_is i v c.pass_down.result xs c.requires c.in_ok-last.last (c.self.inside.span.len - 1 - i) (omega (arith, len)) (sym took.value ∙ c.in_ok-last.was) (rw (ap (λ (w : View _). w.items) took.after) at order) (omega (arith, len, c.if-index-behind.false))
+    let last = c.self.inside.span.len - 1 - i in let read = sym took.value ∙ c.in_ok-last.was in let shown = rw (ap (λ (w : View _). w.items) took.after) at order in
+    record {
+      value = sym (took_last i v c.pass_down.result xs c.requires c.in_ok-last.last last (omega (arith, len)) read shown);
+      after = after ∙ ap (after_writes i xs) took.after ∙ take_last_is i v c.pass_down.result xs c.requires c.in_ok-last.last last (omega (arith, len)) read shown (omega (arith, len, c.if-index-behind.false));
+    }

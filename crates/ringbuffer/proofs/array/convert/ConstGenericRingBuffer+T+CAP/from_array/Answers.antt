@@ -1,5 +1,6 @@
 use Rattle.ringbuffer.proofs.Words.{ap, arith, refl, View}
-use Rattle.ringbuffer.proofs.Conversions.{all_kept, held_on_ok, length-somes}
+use Rattle.ring_core.proofs.Callers.{held_on_ok}
+use Rattle.ringbuffer.proofs.Conversions.{all_kept, length-somes}
 use Rattle.ringbuffer.proofs.array.convert.ConstGenericRingBuffer+T+CAP.from_array.Goals as goal
 
 pub returns : goal.returns

@@ -1,0 +1,79 @@
+//! What comes of a walk from either end next to the items that a test wants.
+
+use crate::steps::{End, Outcome};
+use ringbuffer::{DoubleEndedRing, RingBufferExt};
+
+pub(crate) fn read<R: DoubleEndedRing<i64>>(ring: &R, ends: &[End], items: &[i64]) -> Outcome {
+    let (mut walk, mut left) = (ring.iter(), ring.len());
+    for (i, end) in ends.iter().enumerate() {
+        if walk.size_hint() != (left, Some(left)) || walk.len() != left {
+            return Outcome::Counts(walk.len());
+        }
+        let found = match end {
+            End::Front => walk.next(),
+            End::Back => walk.next_back(),
+        };
+        if found != items.get(i) {
+            return Outcome::Differs(i, found.copied());
+        }
+        left = left.saturating_sub(1);
+    }
+    Outcome::Agrees
+}
+
+pub(crate) fn lent<R: DoubleEndedRing<i64>>(ring: &mut R, ends: &[End], items: &[i64]) -> Outcome {
+    let mut left = ring.len();
+    let mut walk = ring.iter_mut();
+    for (i, end) in ends.iter().enumerate() {
+        if walk.size_hint() != (left, Some(left)) {
+            return Outcome::Counts(walk.size_hint().0);
+        }
+        let found = match end {
+            End::Front => walk.next().copied(),
+            End::Back => walk.next_back().copied(),
+        };
+        if found != items.get(i).copied() {
+            return Outcome::Differs(i, found);
+        }
+        left = left.saturating_sub(1);
+    }
+    Outcome::Agrees
+}
+
+pub(crate) fn added<R: DoubleEndedRing<i64>>(ring: &mut R, additions: &[(End, i64)]) -> Outcome {
+    let mut walk = ring.iter_mut();
+    for (end, number) in additions {
+        let found = match end {
+            End::Front => walk.next(),
+            End::Back => walk.next_back(),
+        };
+        let Some(item) = found else {
+            return Outcome::NoItem;
+        };
+        *item = item.wrapping_add(*number);
+    }
+    Outcome::Agrees
+}
+
+pub(crate) fn drained<R: DoubleEndedRing<i64>>(
+    ring: &mut R,
+    ends: &[End],
+    items: &[i64],
+) -> Outcome {
+    let mut left = ring.len();
+    let mut walk = ring.drain();
+    for (i, end) in ends.iter().enumerate() {
+        if walk.size_hint() != (left, Some(left)) || walk.len() != left {
+            return Outcome::Counts(walk.len());
+        }
+        let found = match end {
+            End::Front => walk.next(),
+            End::Back => walk.next_back(),
+        };
+        if found != items.get(i).copied() {
+            return Outcome::Differs(i, found);
+        }
+        left = left.saturating_sub(1);
+    }
+    Outcome::Agrees
+}
