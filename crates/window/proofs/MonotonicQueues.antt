@@ -372,7 +372,6 @@ module _ {T : Type 0} {cmp : T → T → Ordering} (o : IsTotalOrder cmp) where
                 },
               )
 
-
   -- A turn of the walk knows the last place and the newest by what it reads there.
   pub record Turn (all : List (Candidate T)) (first left compared most : ℕ) (x y : Candidate T) : Type 0 where
     pub stops : AtMost cmp x.item y.item → Stops cmp all first left (compared + 1) (most + 1)

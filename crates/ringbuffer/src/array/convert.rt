@@ -1,5 +1,5 @@
 //! Array rings made of other collections. Each function names its source, whose items keep their order.
-ghost use Rattle.std.specs.Prelude.{◌≡◌, ◌<◌, All, IfOk, IsOk, IsSome, List, [], chars, string_bytes};
+ghost use Rattle.std.specs.Prelude.{◌≡◌, ◌<◌, All, IfOk, IsOk, IsSome, [], chars, string_bytes};
 ghost use Rattle.std.specs.Iterator.{IsFiniteIterable};
 ghost use Rattle.ringbuffer.specs.Somes.{somes};
 ghost use Rattle.ringbuffer.specs.Sources.{GivesAll};

@@ -1,6 +1,6 @@
 //! Rings of plain items made of other collections. Each function names its source, whose items keep their order.
 //! `filler` is an item that lies, unseen, where no item was put yet.
-ghost use Rattle.std.specs.Prelude.{◌≡◌, ◌<◌, List, chars, string_bytes};
+ghost use Rattle.std.specs.Prelude.{◌≡◌, ◌<◌, chars, string_bytes};
 ghost use Rattle.std.specs.Iterator.{IsFiniteIterable};
 ghost use Rattle.ringbuffer.specs.Sources.{GivesAll};
 ghost use Rattle.ringbuffer.specs.Conversion.{HoldsLast};
