@@ -70,7 +70,7 @@ told b d small e = (λ h. grind (arith, nat_tests), λ h. (grind (arith, nat_tes
 grows_by : (n d p v : ℕ) → (n * 10 + d) * p ≤ v → n * (p * 10) ≤ v
 grows_by n d p v h = omega arith
 
--- each digit behind a number makes it ten times as large, at the least
+-- each digit after a number makes it ten times as large, at the least
 tenfold : (n : ℕ) (ds : List ℕ) → n * 10 ^ length ds ≤ digits_value_after 10 n ds
 tenfold n [] = omega arith
 tenfold n (d ∷ ds) = rw (pow-suc 10 (length ds)) (grows_by n (digit_value d) (10 ^ length ds) _ (tenfold (n * 10 + digit_value d) ds))
@@ -104,7 +104,7 @@ other_value (d ∷ ds) all h = by_cases (d == 48)
 all_parts : (k : ℕ) (ds : List ℕ) → list_all digit ds ≡ true → (list_all digit (take k ds) ≡ true) × (list_all digit (drop k ds) ≡ true)
 all_parts k ds h = both_true _ _ (sym (list_all-append digit (take k ds) (drop k ds)) ∙ ap (list_all digit) (take-append-drop k ds) ∙ h)
 
--- whether digits write a number below 10 ^ 19: there are no more than nineteen of them behind zeros
+-- whether digits write a number below 10 ^ 19: there are no more than nineteen of them after zeros
 small_value : (text : List ℕ) → list_all (λ d. d == 48) (take (length (digits_at text) - 19) (digits_at text)) ≡ true ⊎ length (digits_at text) ≤ 19 → digits_value 10 (digits_at text) < 10 ^ 19
 small_value text (inr few) = below_length (digits_at text) 19 (all_digits_at text) few
 small_value text (inl zeros) =

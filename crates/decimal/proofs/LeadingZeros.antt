@@ -160,7 +160,7 @@ spelled n word bytes h e b =
       within = omega (arith, place.within);
     }
 
--- ---- eights behind a number
+-- ---- eights after a number
 
 all_digits : (xs ys : List ℕ) → AllDigits 10 xs → AllDigits 10 ys → AllDigits 10 (xs ++ ys)
 all_digits [] ys h k = k

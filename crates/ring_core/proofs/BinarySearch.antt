@@ -38,7 +38,7 @@ module _ {A : Type 0} where
     pub passed : p x ≡ true → Halves p xs (middle + 1) high
     passed passes = record { below = λ parted k d from to. parted k middle d (omega arith) within (holds_at (λ y. p y ≡ true) xs middle x read passes d); above = at.above }
 
-    -- and one that fails, that none behind it does
+    -- and one that fails, that none after it does
     pub failed : p x ≡ false → Halves p xs low middle
     failed fails = record {
       below = at.below;

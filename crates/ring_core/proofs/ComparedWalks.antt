@@ -18,7 +18,7 @@ pointwise-after_equal eq (x ∷ xs) [] vs ws same = absurd same
 pointwise-after_equal eq (x ∷ xs) (y ∷ ys) vs ws same = ap (λ k. k && pointwise eq (map (λ z. z.now) xs ++ vs) (map (λ z. z.now) ys ++ ws)) same.0 ∙ pointwise-after_equal eq xs ys vs ws same.1
 
 module _ {S R A : Type 0} (left : S → List A) (other_left : R → List A) (eq : A → A → Bool) (r : Bool) where
-  -- the two answers behind the equal pairs
+  -- the two answers after the equal pairs
   ended_as : (s u : S) (t v : R) (o p : Option (Bor A)) → YieldsFirstRef left s o u → YieldsFirstRef other_left t p v
       → MatchOption o (MatchOption p (r ≡ true) (λ _. r ≡ false)) (λ x. (r ≡ false) × IfSome p (λ y. eq x.now y.now ≡ false))
       → r ≡ pointwise eq (left s) (other_left t)

@@ -1,7 +1,7 @@
 -- The items of a list by their places.
 use Rattle.ring_core.proofs.Words.{ℕ, zero, suc, ◌≡◌, ◌+◌, ◌-◌, ◌<◌, List, [], ◌∷◌, ◌++◌, length, take, drop, slice_get, Some, refl, ap, arith, zero-add, AllZip, option_to_list, take-nil}
 
--- The item behind a list.
+-- The item after a list.
 pub slice_get-at : {A : Type 0} (xs : List A) (y : A) (ys : List A) → slice_get (xs ++ y ∷ ys) (length xs) ≡ Some y
 slice_get-at [] y ys = refl
 slice_get-at (x ∷ xs) y ys = slice_get-at xs y ys
@@ -31,7 +31,7 @@ drop-append zero xs ys = let none : 0 - length xs ≡ 0 = omega arith in rw none
 drop-append (suc n) [] ys = let all : suc n - 0 ≡ suc n = omega arith in rw all refl
 drop-append (suc n) (x ∷ xs) ys = let rest : suc n - suc (length xs) ≡ n - length xs = omega arith in rw rest (drop-append n xs ys)
 
--- two pairs of lists, one behind the other
+-- two pairs of lists, one after the other
 pub AllZip-join : {A B : Type 0} (R : A → B → Type 0) (xs xs' : List A) (ys ys' : List B) → AllZip R xs ys → AllZip R xs' ys'
     → AllZip R (xs ++ xs') (ys ++ ys')
 AllZip-join R [] xs' [] ys' all more = more

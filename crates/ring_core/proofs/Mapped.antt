@@ -98,7 +98,7 @@ module _ {A : Type 0} (test : A → Bool) where
   behind_one x xs true is rest = let n = prefix_len test xs in subst (λ k. FirstFails (drop k (x ∷ xs))) {x = suc n} {y = 1 + n} (omega arith) rest
   behind_one x xs false is rest = is
 
-  -- the first item behind those that pass a test fails it
+  -- the first item after those that pass a test fails it
   pub first_fails : (xs : List A) → FirstFails (drop (prefix_len test xs) xs)
   first_fails [] = tt
   first_fails (x ∷ xs) = behind_one x xs (test x) refl (first_fails xs)

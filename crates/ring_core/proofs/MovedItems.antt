@@ -2,7 +2,7 @@
 use Rattle.ring_core.proofs.Words.{◌≡◌, ℕ, List, [], ◌∷◌, ◌++◌, length, drop, slice_get, Option, Some, IsSome, refl, ◌∙◌, append_assoc, length-append, arith, ChangesSlots, keep_last}
 use Rattle.ring_core.proofs.Limits.{keep_last-keep_last}
 
--- some of the source's items were moved behind the old ones, and the others stay; the count of changes went from a to b
+-- some of the source's items were moved after the old ones, and the others stay; the count of changes went from a to b
 pub record HasMoved {T : Type 0} (limit : Option ℕ) (old source now rest : List T) (a b : ℕ) : Type 0 where
   pub moved : List T
   pub parts : source ≡ moved ++ rest

@@ -1,4 +1,4 @@
--- What stands while the items of a ring are asked about in turn, and those picked come behind the others.
+-- What stands while the items of a ring are asked about in turn, and those picked come after the others.
 use Rattle.ring_core.proofs.Words.{◌≡◌, ℕ, ◌+◌, ◌<◌, ◌≤◌, Bool, true, false, List, [], ◌∷◌, ◌++◌, length, drop, slice_get, Option, None, Some, IsSome, refl, sym, ap, ◌∙◌, append-nil, append_assoc, arith, length-append, IsWithin, keep_last}
 use Rattle.std.specs.List.{items_where_true}
 use Rattle.std.specs.List.Retain.{IsFiltered, ReturnsInTurn}
@@ -47,7 +47,7 @@ module _ {A P : Type 0} (R : P → A → Bool → P → Type 0) where
   returns-push p q u (c ∷ bs) [] b x same told more = absurd told
   returns-push p q u (c ∷ bs) (y ∷ xs) b x same told more = (told.0, told.1, returns-push told.0 q u bs xs b x (omega arith) told.2 more)
 
-  -- of the items `old` the first ones were asked about, by a test that was p and is q, and those picked lie behind the others
+  -- of the items `old` the first ones were asked about, by a test that was p and is q, and those picked lie after the others
   pub record Picks (p : P) (old now : List A) (q : P) (turns : ℕ) : Type 0 where
     pub asked : List A
     pub rest : List A

@@ -26,7 +26,7 @@ module _ {A : Type 0} (xs : List A) (front back : ℕ) where
   pub length-to_come : length (to_come xs front back) ≡ min back (length xs) - front
   length-to_come = length-drop front (take back xs) ∙ ap (λ n. n - front) (length-take back xs)
 
-  -- what a position before the end names is the item to come that is so far behind the front
+  -- what a position before the end names is the item to come that is so far after the front
   pub slice_get-to_come : (i j : ℕ) (o : Option A) → front + i ≡ j → j < min back (length xs) → o ≡ slice_get xs (index_at (length xs) j)
       → o ≡ slice_get (to_come xs front back) i
   slice_get-to_come i j o at before read =
@@ -38,7 +38,7 @@ module _ {A : Type 0} (xs : List A) (front back : ℕ) where
       → MatchOption r ((to_come xs front back ≡ []) × (to_come xs (front + 1) back ≡ [])) (λ x. to_come xs front back ≡ x.now ∷ to_come xs (front + 1) back)
   to_come-next r before read = rw drop-drop at (first_read (to_come xs front back) r (slice_get-to_come 0 front (option_copied r) (omega arith) before read))
 
-  -- the last item to come, behind the others
+  -- the last item to come, after the others
   to_come-last : (last : ℕ) (o : Option A) → last + 1 ≡ min back (length xs) → front ≤ last → o ≡ slice_get xs (index_at (length xs) last)
       → to_come xs front back ≡ to_come xs front last ++ option_to_list o
   to_come-last last o ends before read =

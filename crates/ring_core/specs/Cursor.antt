@@ -10,7 +10,7 @@ abbrev pub stepped : {T RB : Type 0} → (RB → ℕ → T → RB) → RingBuffe
 stepped with_item c front back i w = record c { ring = record c.ring { now = with_item c.ring.now i w }; front = front; back = back }
 
 module _ (T RB : RattleType) (c : MutBor (RingBufferMutIterator T.Denot RB.Denot)) where
-  -- the first item to come is lent, and the cursor is behind it afterwards
+  -- the first item to come is lent, and the cursor is past it then
   abbrev pub lends_front : (RB.Denot → ℕ → T.Denot → RB.Denot) → Option (MutBor T.Denot) → Fml
   lends_front with_item r = LendsIf (the_row (record { mir = named 1; lft = [] }) T RB) T c r (stepped with_item c.now (c.now.front + 1) c.now.back c.now.front) c.now
 

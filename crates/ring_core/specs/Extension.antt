@@ -17,7 +17,7 @@ abbrev pub IsOver : {A : Type 0} → Option ℕ → List A → ℕ → Type 0
 IsOver None items over = over ≡ 0
 IsOver (Some limit) items over = over ≤ length items - limit
 
--- clones of a list's items, but for some first ones that are passed over, came behind the old ones: on Ok of all the others, on Err of the first of them
+-- clones of a list's items, but for some first ones that are passed over, came after the old ones: on Ok of all the others, on Err of the first of them
 abbrev pub ExtendsByClones : {A E : Type 0} → (A → A → Type 0) → Option ℕ → List A → List A → List A → Result (Unit {0}) E → Type 0
 ExtendsByClones {A} IsClone limit items old new r = (over : ℕ) × (ys : List A) × IsOver limit items over × AllZip IsClone (take (length ys) (drop over items)) ys
     × (new ≡ keep_last limit (old ++ ys)) × OnOk r (over + length ys ≡ length items)
@@ -27,6 +27,6 @@ abbrev pub ClonesOut : {A E : Type 0} → (A → A → Type 0) → List A → Li
 ClonesOut {A} IsClone items old new r = (ys : List A) × AllZip IsClone (take (length ys) items) ys
     × (new ≡ ys ++ drop (length ys) old) × IfOk r (λ n. n ≡ length ys)
 
--- a beginning of the source's items moved behind the old ones, the next one was refused, and the others stayed
+-- a beginning of the source's items moved after the old ones, the next one was refused, and the others stayed
 abbrev pub MovesPart : {A : Type 0} → List A → List A → List A → List A → A → Type 0
 MovesPart {A} old source new rest refused = (moved : List A) × (source ≡ moved ++ refused ∷ rest) × (new ≡ old ++ moved)

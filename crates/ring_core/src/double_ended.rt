@@ -76,7 +76,7 @@ pub trait DoubleEndedRing<T: Drop>: RingBuffer<T> {
         ensures changes { Counts Self.limit Self.contents Self.slot_changes self.old self.new 1 };
 
     /// Puts the item at an index, before the items from there on. At the length it is put last. Moves the fewer of the items
-    /// before and behind: O(n).
+    /// before and after: O(n).
     ///
     /// # Errors
     ///
@@ -93,7 +93,7 @@ pub trait DoubleEndedRing<T: Drop>: RingBuffer<T> {
         ensures changes { Counts Self.limit Self.contents Self.slot_changes self.old self.new
             (min index (length (Self.contents self.old) - index) + 1) };
 
-    /// Takes out the item at an index, or returns `None` from the length on. Moves the fewer of the items before and behind:
+    /// Takes out the item at an index, or returns `None` from the length on. Moves the fewer of the items before and after:
     /// O(n).
     fn remove(&mut self, index: usize) -> Option<T>
         ensures value { result ≡ slice_get (Self.contents self.old) index }
@@ -105,7 +105,7 @@ pub trait DoubleEndedRing<T: Drop>: RingBuffer<T> {
             (min index (length (Self.contents self.old) - 1 - index)) };
 
     /// Drops the items at the indexes in a range, as `2..5` or `3..`. A bound past the length is cut to it, and a range that
-    /// ends before it starts has no items. Moves the fewer of the items before and behind, each once: O(n).
+    /// ends before it starts has no items. Moves the fewer of the items before and after, each once: O(n).
     fn remove_range<X: RangeBounds<usize>>(&mut self, range: X)
         requires { X.has_bounds range }
         ensures rest { Self.contents self.new
@@ -123,7 +123,7 @@ pub trait DoubleEndedRing<T: Drop>: RingBuffer<T> {
         ensures limit { Self.limit self.new ≡ Self.limit self.old }
         ensures changes { Counts Self.limit Self.contents Self.slot_changes self.old self.new 2 };
 
-    /// Moves the oldest items behind the newest, as many as `count` says, or the others the other way: O(n) in the fewer.
+    /// Moves the oldest items after the newest, as many as `count` says, or the others the other way: O(n) in the fewer.
     fn rotate_left(&mut self, count: usize)
         requires { count ≤ length (Self.contents self.old) }
         ensures items { Self.contents self.new

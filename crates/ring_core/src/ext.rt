@@ -200,7 +200,7 @@ impl<T: Drop, R: RingBuffer<T>> RingBufferExt<T> for R {
 /// them. They are the library's own: the Rust crate has none like them.
 pub trait DoubleEndedRingExt<T: Drop>: DoubleEndedRing<T> {
     /// Takes out the items at the indexes in a range, as `2..5` or `3..`, in order, in new memory. A bound past the length
-    /// is cut to it, and a range that ends before it starts has no items. Moves the fewer of the items before and behind,
+    /// is cut to it, and a range that ends before it starts has no items. Moves the fewer of the items before and after,
     /// each twice: O(n).
     ///
     /// ```rust

@@ -62,7 +62,7 @@ impl Numerals {
     }
 }
 
-/// Returns a number of so many digits, behind a sign for one in four. The first digit of a long one is at most 8, so that
+/// Returns a number of so many digits, after a sign for one in four. The first digit of a long one is at most 8, so that
 /// it is in range.
 fn numeral(alloc: Global, random: &mut Random, digits: usize) -> Result<String, AllocError> {
     let mut text = String::new(alloc);

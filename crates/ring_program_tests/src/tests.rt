@@ -132,7 +132,7 @@ fn assert_ended_unread(rt: &impl Abort, arguments: &[&str], outcome: &Outcome, e
     assert_ended(rt, arguments, outcome, ending);
 }
 
-/// Returns each text as often as its number says, one behind the other.
+/// Returns each text as often as its number says, one after the other.
 fn repeated(rt: &(impl Abort + AllocGlobal), texts: &[(&str, usize)]) -> String {
     let mut all = String::new(rt.alloc());
     for (text, count) in texts {
@@ -253,7 +253,7 @@ fn names_a_line_that_is_no_command(rt: HostRuntime) {
     assert_eq!(rt; lines, 14);
 }
 
-/// Returns the texts one behind the other.
+/// Returns the texts one after the other.
 fn joined(rt: &(impl Abort + AllocGlobal), texts: &[&str]) -> String {
     let mut all = String::new(rt.alloc());
     for text in texts {
@@ -325,7 +325,7 @@ fn reads_and_prints_numbers_of_each_length(rt: HostRuntime) {
 
 #[test]
 fn reads_one_digit_before_each_byte_that_may_follow(rt: HostRuntime) {
-    // a line's numbers, and as they are printed: digits alone, in pairs and behind signs, one blank or several
+    // a line's numbers, and as they are printed: digits alone, in pairs and after signs, one blank or several
     let cases = [
         (" 0", " 0"),
         (" 9", " 9"),
@@ -616,7 +616,7 @@ fn is_refused_a_ring(rt: HostRuntime) {
     }
 }
 
-// With room for the input, refusals come one after the other, for the ring and the text. The line that is no command is behind
+// With room for the input, refusals come one after the other, for the ring and the text. The line that is no command is after
 // them all.
 #[test]
 fn names_a_line_behind_what_is_refused(rt: HostRuntime) {

@@ -52,7 +52,7 @@ module _ {X : Type 0} (old new : List (Option X)) (before after : Row X) (size f
         let k : ℕ = i - to in let held = λ (early : i < to + count). has.held i early in let was = had.held i (omega arith) in let was' = had.held (from + k) in
         grind (arith, held, has.behind i, was, was', outside i, items d i, moved k d, full (from + k), filled' i, read_early i, read_moved i, read_behind i, slice_get-get_or))
 
--- slots that hold a row in which the last items were moved to the first slots, and those of the first `len` slots up behind them, have them there
+-- slots that hold a row in which the last items were moved to the first slots, and those of the first `len` slots up after them, have them there
 module _ {X : Type 0} (old new : List (Option X)) (before between after : Row X) (size from len : ℕ) (d : X) (all : size ≡ length old) (some : from < size) (room : size - from + len ≤ from)
     (had : HoldsRow old before size) (has : HoldsRow new after (size - from + len)) (counts : slots_len before ≡ length (slots_items before))
     (counts' : slots_len between ≡ length (slots_items between)) (counts'' : slots_len after ≡ length (slots_items after)) where

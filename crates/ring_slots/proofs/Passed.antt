@@ -1,4 +1,4 @@
--- Full slots, once one more item is put before or behind theirs.
+-- Full slots, once one more item is put before or after theirs.
 use Rattle.ring_slots.proofs.Words.{◌≡◌, refl, sym, ap, ◌∙◌, List, [], ◌∷◌, ◌++◌, ℕ, ◌+◌, arith, length, length-append, map, take, cut, Option, Some, IsSome, HoldsStretch, IsFullStretch}
 use Rattle.std.proofs.lemmas.List.{map-append}
 use Rattle.ring_slots.proofs.SlotsInMemory.{stretch_long}

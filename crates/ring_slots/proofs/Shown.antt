@@ -158,7 +158,7 @@ pub all_marked : (n : ℕ) → replicate n true ++ cut n (replicate n false) ≡
 all_marked zero = refl
 all_marked (suc n) = ap (λ l. true ∷ l) (all_marked n)
 
--- a list is what comes before a stretch of it, the stretch, and what comes behind
+-- a list is what comes before a stretch of it, the stretch, and what comes after
 pub in_three : {A : Type 0} (xs : List A) (from n : ℕ) → xs ≡ take from xs ++ (take n (cut from xs) ++ cut (from + n) xs)
 in_three xs from n = sym (take-append-drop from xs) ∙ ap (λ l. take from xs ++ l) (sym (take-append-drop n (cut from xs)) ∙ rw (drop-drop n from xs) refl)
 

@@ -60,7 +60,7 @@ module _ {X : Type 0} where
         ∙ ap (λ k. shown (take to emptied ++ (replicate k true ++ cut (to + k) emptied)) (take to xs ++ (ys ++ cut (to + k) xs))) (sym n)
         ∙ shown-filled emptied xs to ys length-emptied ∙ rw (shown-emptied, front, none, last-shown full) refl
 
-    -- the slots once the last items have moved to the first, and the first ones behind them
+    -- the slots once the last items have moved to the first, and the first ones after them
     pub shown-brought : (len : ℕ) → count + len ≤ from → IsFullStretch slots from count → IsFullStretch slots 0 len → IsEmptyStretch slots len (from - len)
         → (between new : List X) → between ≡ take count xs ++ (take len xs ++ cut (count + len) xs) → new ≡ take count (cut from between) ++ cut (0 + count) between
         → shown (replicate (count + len) true ++ cut (0 + (count + len)) emptied) new ≡ brought_first slots from len

@@ -37,11 +37,11 @@ module _ {X : Type 0} where
   abbrev pub filled : List (Option X) → ℕ → List X → List (Option X)
   filled slots from xs = take from slots ++ (map Some xs ++ drop (from + length xs) slots)
 
-  -- the slots, with those from a place on moved down to another, and empty ones behind them
+  -- the slots, with those from a place on moved down to another, and empty ones after them
   abbrev pub moved_down : List (Option X) → ℕ → ℕ → List (Option X)
   moved_down slots from to = take to slots ++ (drop from slots ++ replicate (from - to) None)
 
-  -- the slots, with those from a place on brought to the first, the first `len` behind them, and empty ones behind all
+  -- the slots, with those from a place on brought to the first, the first `len` after them, and empty ones after all
   abbrev pub brought_first : List (Option X) → ℕ → ℕ → List (Option X)
   brought_first slots from len = drop from slots ++ (take len slots ++ replicate (from - len) None)
 
@@ -69,7 +69,7 @@ module _ {X : Type 0} where
   abbrev pub passed_up : X → X → List X → List X → Type 0
   passed_up item over had has = item ∷ had ≡ has ++ over ∷ []
 
-  -- an item went behind the others, and the first of them all is left over
+  -- an item went after the others, and the first of them all is left over
   abbrev pub passed_down : X → X → List X → List X → Type 0
   passed_down item over had has = had ++ item ∷ [] ≡ over ∷ has
 
@@ -77,6 +77,6 @@ module _ {X : Type 0} where
   abbrev pub with_moved_down : Slots X → ℕ → ℕ → Slots X
   with_moved_down s from to = record s { slots = moved_down s.slots from to; changes = s.changes + 2 * (length s.slots - from) }
 
-  -- the slots once the items from a place on have gone to the first slots, and the first `len` behind them, each by two changes
+  -- the slots once the items from a place on have gone to the first slots, and the first `len` after them, each by two changes
   abbrev pub with_brought_first : Slots X → ℕ → ℕ → Slots X
   with_brought_first s from len = record s { slots = brought_first s.slots from len; changes = s.changes + 2 * (length s.slots - from + len) }

@@ -57,7 +57,7 @@ impl<X, const N: usize> Cells<X, N> {
         pass_up(&mut xs[from..from + len], x)
     }
 
-    // Puts an element behind `len` of them from a place on, each of which moves one down, and returns the one that was
+    // Puts an element after `len` of them from a place on, each of which moves one down, and returns the one that was
     // first.
     #[inline]
     pub(crate) fn pass_down(&mut self, from: usize, len: usize, x: X) -> X

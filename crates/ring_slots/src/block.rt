@@ -214,7 +214,7 @@ impl<T> Owner<T> {
     }
 
     /// Moves the items of all slots from the place `from` on to the first slots, and those of the first `len` slots up
-    /// behind them. The slots between must be empty, and at least as many as the items that go first. `size` is the
+    /// after them. The slots between must be empty, and at least as many as the items that go first. `size` is the
     /// number of slots.
     #[inline]
     pub(crate) fn bring_first(&mut self, ptr: *mut T, size: usize, from: usize, len: usize)

@@ -35,7 +35,7 @@ pub trait LendsRows<T>: RingSlots<T> {
         ensures { Self.seen self.new ≡ with_moved_down (Self.seen self.old) from to };
 
     /// Moves the items of all slots from the place `from` on to the first slots, and those of the first `len` slots up
-    /// behind them, each by two changes. The slots between must be empty, and at least as many as the items that go
+    /// after them, each by two changes. The slots between must be empty, and at least as many as the items that go
     /// first. Takes O(n) in the items.
     fn bring_first(&mut self, from: usize, len: usize)
         requires some { from < length (Self.seen self.old).slots }

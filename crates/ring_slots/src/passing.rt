@@ -15,7 +15,7 @@ pub(crate) fn pass_up<X>(items: &mut [X], item: X) -> X
     mem::replace(&mut items[0], item)
 }
 
-// Puts an item behind some, each of which moves one place down, and returns the one that was first.
+// Puts an item after some, each of which moves one place down, and returns the one that was first.
 #[inline]
 pub(crate) fn pass_down<X>(items: &mut [X], item: X) -> X
     ensures { passed_down item result items.old items.new }

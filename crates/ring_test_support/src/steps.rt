@@ -58,7 +58,7 @@ pub enum Step {
     Holds(&'static [i64]),
     /// The ring is emptied, and its next item comes so many places after the first slot, counted round.
     Begin(usize),
-    /// The ring holds these items and no other, and an item that is pushed then comes behind them. It is emptied.
+    /// The ring holds these items and no other, and an item that is pushed then comes after them. It is emptied.
     Leaves(&'static [i64]),
     PushFront(i64, Result<Option<i64>, i64>),
     TryPush(i64, Result<(), i64>),

@@ -3,7 +3,7 @@ use Rattle.std.proofs.Common.{◌≡◌, ◌∙◌, ℕ, ◌+◌, ◌≤◌, Lis
 use Rattle.std.proofs.Math.Seq.{take-append-add, take-append_seam}
 use Rattle.std.proofs.lemmas.List.{length-take, take-append-drop}
 
--- Once some of the bytes on their way were sent behind those before, what was sent and what is still on its way is the
+-- Once some of the bytes on their way were sent after those before, what was sent and what is still on its way is the
 -- same as before.
 pub take-append-sent : (output now part tail : List ℕ) (s n : ℕ) → s ≤ length output → n ≤ length now
     → take (s + n) (take s output ++ ((take n now ++ part) ++ tail)) ++ drop n now ≡ take s output ++ now

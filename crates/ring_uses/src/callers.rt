@@ -53,7 +53,7 @@ pub fn push_then_replace<T: Drop, R: RingBuffer<T>>(ring: &mut R, x: T, y: T)
     }
 }
 
-/// Returns the item that stands `places` places behind the oldest, by a walk.
+/// Returns the item that stands `places` places after the oldest, by a walk.
 pub fn item_behind_oldest<R: RingBuffer<u32>>(ring: &R, places: usize) -> Option<u32>
     ensures { result ≡ slice_get (R.contents ring.now) places }
 {

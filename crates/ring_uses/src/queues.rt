@@ -70,7 +70,7 @@ pub fn put_urgent(queue: &mut AllocRingBuffer<u32>, job: u32) -> Result<(), u32>
     queue.insert(0, job)
 }
 
-/// Drops three jobs behind the first two.
+/// Drops three jobs after the first two.
 pub fn cancel_three(ring: &mut AllocRingBuffer<u32>)
     requires { 5 ≤ length ring.old.items }
     ensures { ring.new.items ≡ take 2 ring.old.items ++ drop 5 ring.old.items }

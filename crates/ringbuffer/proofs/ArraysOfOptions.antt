@@ -1,7 +1,7 @@
 -- What was pushed out of an array of options.
 use Rattle.ringbuffer.proofs.Words.{◌≡◌, ℕ, ◌+◌, ◌<◌, List, [], ◌∷◌, ◌++◌, drop, get_or, length, take, Option, None, Some, MatchOption, ap, ◌∙◌, refl, add-one, append-nil, append_assoc, arith, length-drop, get_or-drop, filter_map-append, take-suc, keep_last, keep_last-keep_last, somes}
 
--- one more place of an array of options: its item, if it holds one, came behind the others
+-- one more place of an array of options: its item, if it holds one, came after the others
 pub somes_turn : {A : Type 0} (limit : Option ℕ) (old now next : List A) (whole left : List (Option A)) (i : ℕ) (o : Option A)
     → now ≡ keep_last limit (old ++ somes (take i whole)) → drop i left ≡ drop i whole → i < length left → o ≡ get_or left i o
     → MatchOption o (next ≡ now) (λ x. next ≡ keep_last limit (now ++ x ∷ []))

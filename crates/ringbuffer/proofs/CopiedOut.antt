@@ -6,7 +6,7 @@ use Rattle.std.proofs.lemmas.List.{length-take}
 use Rattle.ring_core.proofs.Items.{slice_get-drop}
 use Rattle.std.proofs.lemmas.Option.{get_or_from_slice_get, slice_get_within}
 
--- item number n lands behind those before it
+-- item number n lands after those before it
 pub set-copied : {A : Type 0} (items output : List A) (n : ℕ) (x : A) → slice_get items n ≡ Some x → n < length output
     → set (take n items ++ drop n output) n x ≡ take (n + 1) items ++ drop (n + 1) output
 set-copied items output n x is room =

@@ -1,4 +1,4 @@
--- Items put at once into slots side by side, behind the last or in place of others.
+-- Items put at once into slots side by side, after the last or in place of others.
 use Rattle.ringbuffer.proofs.Words.{[], ◌∷◌, append-nil, slice_get-drop, suc, ◌≡◌, ℕ, ◌+◌, ◌-◌, ◌*◌, ◌%◌, ◌<◌, ◌≤◌, List, ◌++◌, drop, ext_get_or, get_or-set_other, get_or-set_same, length, length-drop, length-set, length-take, get_or, mod-eq_of_lt, mod-lt, set, slice_get-take, take, None, Option, Some, add-mod_right, ap, dec_lt, refl, sym, ◌∙◌, arith, length-append, common_steps, slice_get, slice_get_cases, slice_get_past, ◌⊎◌, inl, inr, Slots, IsFullAt, changed, after_puts, after_takes, view_from, SlotsHold, items_from, IsLaidOut, LaysOut}
 use Rattle.std.proofs.lemmas.Option.{slice_get_within}
 use Rattle.ring_core.proofs.Items.{slice_get-append_left}
@@ -7,7 +7,7 @@ use Rattle.ring_slots.proofs.Filled.{filled-before, filled-behind, filled-in, le
 use Rattle.ringbuffer.proofs.SlotsHold.{count_on, contiguous_on, wrap}
 use Rattle.ringbuffer.proofs.LaysOut.{LaysOut-items, slice_get_some}
 
--- one item more, behind those put into a stretch
+-- one item more, after those put into a stretch
 module _ {X : Type 0} (slots : List (Option X)) (from : ℕ) (xs : List X) (within : from + length xs ≤ length slots) (k : ℕ) (x : X) (is : slice_get xs k ≡ Some x) where
   few : length (take k xs) ≡ k
   few = omega (arith, length-take k xs, slice_get_within xs k x is)
@@ -49,7 +49,7 @@ module _ {X : Type 0} (s : Slots X) (start : ℕ) (laid_out : IsLaidOut s start)
   abbrev items : List X
   items = items_from s.slots start
 
-  -- the slots behind the last item are empty
+  -- the slots after the last item are empty
   pub empty_behind : (count : ℕ) → len ≡ length items → (0 < count → place ≡ (start + len) % length s.slots) → place + count ≤ length s.slots → len + count ≤ length s.slots
       → (k : ℕ) → k < count → get_or s.slots (place + k) None ≡ None
   empty_behind count counted found contiguous room k low =
@@ -69,13 +69,13 @@ module _ {X : Type 0} (s : Slots X) (start : ℕ) (laid_out : IsLaidOut s start)
       pub LaysOut-filled : (changes : ℕ) → length shown ≤ length s.slots → LaysOut s (record s { slots = filled s.slots place xs; changes = changes }) start (record { items = shown; changes = changes; capacity = s.capacity })
       LaysOut-filled changes fit = LaysOut-items s start laid_out (record s { slots = filled s.slots place xs; changes = changes }) start shown (length-filled s.slots place xs contiguous) refl laid_out.start_within fit lie
 
-  -- items put behind the last
+  -- items put after the last
   pub LaysOut-puts : (xs : List X) → len ≡ length items → len + length xs ≤ length s.slots → (0 < length xs → place ≡ (start + len) % length s.slots) → place + length xs ≤ length s.slots
       → (new : Slots X) → new ≡ with_items s place xs → LaysOut s new start (after_puts xs (view_from s start))
   LaysOut-puts xs counted room found contiguous new is =
       rw is (LaysOut-filled xs room found contiguous (items ++ xs) (λ j low. grind (arith, common_steps, slice_get_cases)) (λ k other. grind (arith, common_steps, slice_get_cases)) (s.changes + length xs) (omega (arith, length-append items xs)))
 
--- as many items of a list left out at its front as come behind it: those that stay
+-- as many items of a list left out at its front as come after it: those that stay
 read_over : {A : Type 0} (xs ys : List A) (k : ℕ) → (0 < length ys → length ys + k < length xs) → slice_get xs (length ys + k) ≡ slice_get (drop (length ys) xs ++ ys) k
 read_over xs [] k low = ap (slice_get xs) {x = 0 + k} {y = k} (omega arith) ∙ ap (λ zs. slice_get zs k) (sym (append-nil xs))
 read_over xs (y ∷ ys) k low = let n = suc (length ys) in sym (slice_get-append_left k (drop n xs) (y ∷ ys) (omega (arith, length-drop n xs, low (omega arith))) ∙ slice_get-drop n k xs)

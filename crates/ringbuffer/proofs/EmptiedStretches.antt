@@ -62,7 +62,7 @@ module _ {X : Type 0} (s : Slots X) (start : ℕ) (laid_out : IsLaidOut s start)
           let changes : s.changes + (length items - from) ≡ new.changes = omega (counted, all, arith) in
           rw changes (LaysOut-items s start laid_out new start (take from items) same_size same_capacity laid_out.start_within (let fit = laid_out.fit in omega (arith, length-take from items)) (kept all))
 
-      -- the items behind stay, where those from the first on are dropped
+      -- the items after them stay, where those from the first on are dropped
       behind : from ≡ 0 → SlotsHold new.slots ((start + to) % size) (drop to items)
       behind none j low =
           let low' : j < size = rw same_size at low in
@@ -80,7 +80,7 @@ module _ {X : Type 0} (s : Slots X) (start : ℕ) (laid_out : IsLaidOut s start)
           let starts = laid_out.start_within in
           rw changes (LaysOut-items s start laid_out new ((start + to) % size) (drop to items) same_size same_capacity (mod-lt (start + to) (omega arith)) (let fit = laid_out.fit in omega (arith, length-drop to items)) (behind none))
 
-      -- the others stay, with a gap between those before and those behind
+      -- the others stay, with a gap between those before and those after
       pub LaysApart-cut : LaysApart s new start from (to - from) (after_cut from to 0 (view_from s start))
       LaysApart-cut =
           let fit = laid_out.fit in let long = length-take from items in record {

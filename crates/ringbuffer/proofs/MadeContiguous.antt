@@ -47,7 +47,7 @@ module _ {X : Type 0} (size start : ℕ) (xs : List X) (fit : start + length xs 
 pub contiguous_is : {X : Type 0} (slots : List (Option X)) (start : ℕ) (xs : List X) → start < length slots → start + length xs ≤ length slots → SlotsHold slots start xs → slots ≡ beside (length slots) start xs
 contiguous_is slots start xs within fit lie = SlotsHold-same slots start within (beside (length slots) start xs) xs lie (SlotsHold-beside (length slots) start xs fit within) (length-beside (length slots) start xs fit)
 
--- a ring whose items go on at the first slot, of which those in the last slots are moved down behind the others
+-- a ring whose items go on at the first slot, of which those in the last slots are moved down after the others
 module _ {X : Type 0} (s : Slots X) (start : ℕ) (laid_out : IsLaidOut s start) (len first : ℕ) (counted : len ≡ length (items_from s.slots start)) (ends : first + start ≡ length s.slots) (more : first < len) where
   abbrev items : List X
   items = items_from s.slots start

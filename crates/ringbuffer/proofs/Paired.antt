@@ -17,13 +17,13 @@ module _ {X : Type 0} (cs : List (Option X)) (from n : ℕ) where
       subst (λ o. IsSome o) (sym (stretch_at cs from n k xs holds low)) (slice_get_some xs k (omega (arith, stretch_long cs from n xs holds fit)))
 
   module _ (full : IsFullStretch cs from n) (xs : List X) (holds : HoldsStretch cs from n xs) where
-    -- the next item, and those behind it
+    -- the next item, and those after it
     pub ahead : (k : ℕ) (x : X) → k < n → get_or cs (from + k) None ≡ Some x → drop k xs ≡ x ∷ drop (k + 1) xs
     ahead k x low is =
         let item : slice_get xs k ≡ Some x = sym (stretch_at cs from n k xs holds low) ∙ is in
         rw add-one (drop-cons xs k x (omega (arith, stretch_long cs from n xs holds full.0)) ∙ ap (λ y. y ∷ drop (suc k) xs) (get_or_from_slice_get xs k x x item))
 
-    -- none is left behind all
+    -- none is left after all
     pub none_left : drop n xs ≡ []
     none_left = rw (sym (stretch_long cs from n xs holds full.0)) (drop-length xs)
 
@@ -69,7 +69,7 @@ module _ {X : Type 0} (eq : X → X → Bool) where
     | inr apart ↦ let none = rw apart at long in absurd (omega (arith, none))
   ]
 
-  -- what lies behind the pairs doesn't count
+  -- what lies after the pairs doesn't count
   pub prefix_all : (n : ℕ) (xs ys : List X) → n ≡ min (length xs) (length ys) → common_prefix_len eq xs ys ≡ common_prefix_len eq (take n xs) (take n ys)
   prefix_all n xs ys is = elim (cases_lt (common_prefix_len eq (take n xs) (take n ys)) n) [
     | inl short ↦ prefix_short n xs ys (omega (arith, is)) (omega (arith, is)) short

@@ -6,7 +6,7 @@ pub view_is : {X : Type 0} {v w : View X} → v.items ≡ w.items → v.changes 
 view_is items changes capacity = λ i. record { items = items i; changes = changes i; capacity = capacity i }
 
 module _ {X : Type 0} where
-  -- the last item behind those before it makes all items
+  -- the last item after those before it makes all items
   pub last_behind : (xs : List X) → take (length xs - 1) xs ++ option_to_list (slice_get xs (length xs - 1)) ≡ xs
   last_behind xs = let last = length xs - 1 in sym (take-suc_get xs last) ∙ take_all (suc last) xs (omega arith)
 

@@ -79,11 +79,11 @@ module _ {X : Type 0} where
   abbrev pub after_write : View X → ℕ → X → View X
   after_write v i x = record v { items = slice_set v.items i x; changes = v.changes + 1 }
 
-  -- a list from item n on, and the first n items behind
+  -- a list from item n on, and the first n items after
   abbrev pub rotated : ℕ → List X → List X
   rotated n xs = drop n xs ++ take n xs
 
-  -- the first n items moved behind the others, by two changes each
+  -- the first n items moved after the others, by two changes each
   abbrev pub after_firsts_to_back : ℕ → View X → View X
   after_firsts_to_back n v = record v { items = rotated n v.items; changes = v.changes + 2 * n }
 
@@ -95,11 +95,11 @@ module _ {X : Type 0} where
   abbrev pub after_writes : ℕ → List X → View X → View X
   after_writes i xs v = record v { items = take i v.items ++ (xs ++ drop (i + length xs) v.items); changes = v.changes + length xs }
 
-  -- the items rotated by moving the fewer of those before and those behind
+  -- the items rotated by moving the fewer of those before and those after
   abbrev pub after_rotate : ℕ → View X → View X
   after_rotate n v = record v { items = rotated n v.items; changes = v.changes + 2 * min n (length v.items - n) }
 
-  -- the item at an index taken, by one change, and one for each of the fewer items before and behind, which close up
+  -- the item at an index taken, by one change, and one for each of the fewer items before and after, which close up
   abbrev pub after_remove : ℕ → View X → View X
   after_remove i v =
       record v { items = take i v.items ++ drop (i + 1) v.items; changes = v.changes + min i (length v.items - 1 - i) + 1 }
@@ -108,13 +108,13 @@ module _ {X : Type 0} where
   abbrev pub after_cut : (from to moved : ℕ) → View X → View X
   after_cut from to moved v = record v { items = take from v.items ++ drop to v.items; changes = v.changes + (to - from) + 2 * moved }
 
-  -- the items from an index up to another taken, if there are any, and the gap closed by the fewer of those before and behind
+  -- the items from an index up to another taken, if there are any, and the gap closed by the fewer of those before and after
   abbrev pub after_remove_range : (from to : ℕ) → View X → View X
   after_remove_range from to v =
       let end = min to (length v.items) in
       if nat_lt from end then after_cut from end (min from (length v.items - end)) v else v
 
-  -- an item put at an index, by one change, and one for each of the fewer items before and behind, which make way
+  -- an item put at an index, by one change, and one for each of the fewer items before and after, which make way
   abbrev pub after_insert : ℕ → X → View X → View X
   after_insert i x v =
       record v { items = take i v.items ++ x ∷ drop i v.items; changes = v.changes + min i (length v.items - i) + 1 }

@@ -104,7 +104,7 @@ impl<T: Clone + Drop, S: RingSlots<T>> FixedRing<T, S> {
         Self::put_clones(slots, len, second)
     }
 
-    // Puts clones behind the last item of a ring that begins at the first slot, side by side. Returns the length after
+    // Puts clones after the last item of a ring that begins at the first slot, side by side. Returns the length after
     // them. Where a clone is refused, those before it stay.
     #[inline]
     fn put_clones(slots: &mut S, len: usize, items: &[T]) -> (usize, Result<(), AllocError>)

@@ -55,7 +55,7 @@ impl<T: Drop, S: LendsRows<T>> FixedRing<T, S> {
         start
     }
 
-    // Moves the items from the front that lie in the last slots down behind the last item, so that all lie side by side.
+    // Moves the items from the front that lie in the last slots down after the last item, so that all lie side by side.
     // Returns how many it moved, and the next start.
     fn close_gap(slots: &mut S, span: Span) -> (usize, usize)
         requires span { IsSpanOf span (S.seen slots.old) }

@@ -158,7 +158,7 @@ impl<T: Copy + Drop, S: TakesCopies<T>> FixedRing<T, S> {
         self.span.len = span.len + items.len();
     }
 
-    // Puts copies of items behind the last, in two stretches of slots: up to the last slot, and on from the first.
+    // Puts copies of items after the last, in two stretches of slots: up to the last slot, and on from the first.
     fn put_round(slots: &mut S, span: Span, items: &[T])
         requires span { IsSpanOf span (S.seen slots.old) }
         requires room { span.len + length items.now ≤ length (S.seen slots.old).slots }
@@ -173,7 +173,7 @@ impl<T: Copy + Drop, S: TakesCopies<T>> FixedRing<T, S> {
         Self::put_copies(slots, Span { start, len }, 0, second);
     }
 
-    // Puts copies of items behind the last, side by side from a place on.
+    // Puts copies of items after the last, side by side from a place on.
     fn put_copies(slots: &mut S, span: Span, place: usize, items: &[T])
         requires span { IsSpanOf span (S.seen slots.old) }
         requires room { span.len + length items.now ≤ length (S.seen slots.old).slots }

@@ -13,7 +13,7 @@ use std::ops::RangeBounds;
 
 impl<T: Drop, S: RingSlots<T>> FixedRing<T, S> {
     /// Puts an item at an index, before the items from there on. At the length it is put last. Moves the fewer of the items
-    /// before and behind, each once: O(n) in these.
+    /// before and after, each once: O(n) in these.
     ///
     /// # Errors
     ///
@@ -31,7 +31,7 @@ impl<T: Drop, S: RingSlots<T>> FixedRing<T, S> {
         Ok(())
     }
 
-    /// Takes out the item at an index, or returns `None` from the length on. Moves the fewer of the items before and behind,
+    /// Takes out the item at an index, or returns `None` from the length on. Moves the fewer of the items before and after,
     /// each once: O(n) in these.
     pub fn remove(&mut self, index: usize) -> Option<T>
         ensures value { result ≡ slice_get self.old.items index }
@@ -60,7 +60,7 @@ impl<T: Drop, S: RingSlots<T>> FixedRing<T, S> {
         self.slots.put(a, second);
     }
 
-    /// Drops the items at the indexes in a range, as `2..5` or `3..`, in order. The fewer of the items before and behind
+    /// Drops the items at the indexes in a range, as `2..5` or `3..`, in order. The fewer of the items before and after
     /// close the gap, each by one move. A bound past the length is cut to it, and a range that ends before it starts has
     /// no items. Takes O(n) in the items that are dropped or moved.
     ///
@@ -111,7 +111,7 @@ impl<T: Drop, S: RingSlots<T>> FixedRing<T, S> {
         slots.place(span.start, gap)
     }
 
-    // Drops the items from an index up to another, and moves those behind down, the first of them first.
+    // Drops the items from an index up to another, and moves those after them down, the first of them first.
     fn cut_from_back(slots: &mut S, span: Span, from: usize, to: usize)
         requires span { IsSpanOf span (S.seen slots.old) }
         requires order { from < to }
@@ -143,7 +143,7 @@ impl<T: Drop, S: RingSlots<T>> FixedRing<T, S> {
         slots.put(gets, item);
     }
 
-    // Takes out the item at an index below the length. The fewer of the items before and behind close up.
+    // Takes out the item at an index below the length. The fewer of the items before and after close up.
     pub(crate) fn take_at(&mut self, index: usize) -> Option<T>
         requires { index < length self.old.items }
         ensures value { result ≡ slice_get self.old.items index }
@@ -158,7 +158,7 @@ impl<T: Drop, S: RingSlots<T>> FixedRing<T, S> {
         Some(self.pass_down(index, behind, last))
     }
 
-    // Puts an item at an index up to the length, before the items from there on. The fewer of the items before and behind
+    // Puts an item at an index up to the length, before the items from there on. The fewer of the items before and after
     // make way. There must be room for it.
     pub(crate) fn put_into(&mut self, index: usize, item: T)
         requires within { index ≤ length self.old.items }
@@ -187,7 +187,7 @@ impl<T: Drop, S: RingSlots<T>> FixedRing<T, S> {
         self.slots.pass_up(0, count - first, over)
     }
 
-    // Puts an item behind the `count` items from an index on, each of which moves to the index before. Returns the one
+    // Puts an item after the `count` items from an index on, each of which moves to the index before. Returns the one
     // that was first, or `item` where there are none.
     fn pass_down(&mut self, index: usize, count: usize, item: T) -> T
         requires { index + count ≤ length self.old.items }

@@ -7,7 +7,7 @@ use crate::fixed::{FixedRing, Span};
 use ring_slots::RingSlots;
 
 impl<T: Drop, S: RingSlots<T>> FixedRing<T, S> {
-    /// Moves the oldest items behind the newest, as many as `count` says, or the others the other way: O(n) in the fewer.
+    /// Moves the oldest items after the newest, as many as `count` says, or the others the other way: O(n) in the fewer.
     pub fn rotate_left(&mut self, count: usize)
         requires { count ≤ length self.old.items }
         ensures { self.new ≡ after_rotate count self.old }
@@ -29,7 +29,7 @@ impl<T: Drop, S: RingSlots<T>> FixedRing<T, S> {
         self.rotate_left(others);
     }
 
-    // Moves the first items behind the others, as many as `count` says.
+    // Moves the first items after the others, as many as `count` says.
     fn rotate_firsts(&mut self, count: usize)
         requires { count ≤ length self.old.items }
         ensures { self.new ≡ after_firsts_to_back count self.old }
@@ -47,7 +47,7 @@ impl<T: Drop, S: RingSlots<T>> FixedRing<T, S> {
         self.span.start = Self::lasts_to_front(&mut self.slots, span, count);
     }
 
-    // Moves the first items behind the others, one by one, as many as `count` says. Returns the next start.
+    // Moves the first items after the others, one by one, as many as `count` says. Returns the next start.
     fn firsts_to_back(slots: &mut S, span: Span, count: usize) -> usize
         requires span { IsSpanOf span (S.seen slots.old) }
         requires some { count ≤ span.len }

@@ -52,7 +52,7 @@ unfolding after_blanks
 after_blanks_twice [] = refl
 after_blanks_twice (b ∷ bs) = by_cases (is_blank b) (λ h. rw h (after_blanks_twice bs)) (λ h. rw h (rw h refl))
 
--- behind a word that has ended and before another stands a blank
+-- after a word that has ended and before another stands a blank
 blank_before_word : (text : List ℕ) → after_end (after_blanks text) ≡ None → ends_here text ≡ true → starts_blank text ≡ true
 unfolding after_blanks
 blank_before_word [] e h = absurd (cc)
@@ -66,7 +66,7 @@ blank_ends (b ∷ bs) h = rw h refl
 
 -- ---- numbers
 
--- the next word, what it writes, and the words behind it
+-- the next word, what it writes, and the words after it
 record NextWord (text : List ℕ) (writes : Option ℤ) (behind : List (List ℕ)) : Type 0 where
   word : List ℕ
   words : words_at text ≡ word ∷ behind

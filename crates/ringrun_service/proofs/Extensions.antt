@@ -21,7 +21,7 @@ in_full : (numbers : List ℤ) → length numbers ≤ 2 ^ 63 - 1 → (vector_of 
 unfolding vector_of
 in_full numbers few = take_all (2 ^ 63 - 1) numbers few
 
--- the line ends behind the numbers
+-- the line ends after the numbers
 pub extension_ended : (old now new : Script) (names : Bor (List ℕ)) (behind : List ℕ) (numbers : List ℤ) → IsRest old → IsLine (Extension names) old now
     → NumbersAt names.now numbers behind → length numbers ≤ 2 ^ 63 - 1 → new.text ≡ now.text → after_end (after_blanks behind) ≡ Some new.rest.now
     → IsRest new × (script_left old ≡ with_front (plain (by_numbers numbers) ∷ []) (script_left new))

@@ -17,7 +17,7 @@ module _ (ends : ℕ → Bool) where
   first_part [] = []
   first_part (b ∷ bs) = cond (ends b) [] (b ∷ first_part bs)
 
-  -- the parts behind it
+  -- the parts after it
   abbrev pub next_parts : List ℕ → List (List ℕ)
   next_parts [] = []
   next_parts (b ∷ bs) = cond (ends b) (slice_split ends bs) (next_parts bs)
@@ -28,7 +28,7 @@ module _ (ends : ℕ → Bool) where
       elim (ends b) as (λ v. cond v ([] ∷ slice_split ends bs) (onto_first b (slice_split ends bs)) ≡ cond v [] (b ∷ first_part bs) ∷ cond v (slice_split ends bs) (next_parts bs))
       [ true ↦ refl | false ↦ ap (onto_first b) (split_first bs) ]
 
--- the first line, its words, and the lines behind it
+-- the first line, its words, and the lines after it
 abbrev pub first_line : List ℕ → List ℕ
 first_line text = first_part is_line_feed text
 

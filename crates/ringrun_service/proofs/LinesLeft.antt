@@ -112,7 +112,7 @@ lines_end (b ∷ front) rest = by_cases (is_line_feed b)
     (λ h. rw h (λ e. absurd (cc)))
     (λ h. rw h (λ e. lines_end front rest e))
 
--- ---- a line, and those behind it
+-- ---- a line, and those after it
 
 -- the number of the first line of a text that ends a whole one
 abbrev pub number_in : List ℕ → List ℕ → ℕ
@@ -133,7 +133,7 @@ no_line number = refl
 pub bad_line : (text rest : List ℕ) → says rest ≡ None → left text rest ≡ Err (number_in text rest)
 bad_line text rest none = rw (lines_first rest) (ap (λ o. with_line (number_in text rest) o (script_from (number_in text rest + 1) (next_lines rest))) none)
 
--- the rest that begins behind the line
+-- the rest that begins after the line
 pub record LineRead (text rest after : List ℕ) (commands : List (Command ℤ)) : Type 0 where
   pub front : List ℕ
   pub is : text ≡ front ++ after

@@ -37,7 +37,7 @@ digits_then_word (b ∷ bs) = by_cases (digit b)
     (λ h. rw (h, digit_in_word b h) (ap (λ w. b ∷ w) (digits_then_word bs)))
     (λ h. rw h refl)
 
--- where no word ends behind the digits, what stands there is no digit
+-- where no word ends after the digits, what stands there is no digit
 stray : (text : List ℕ) → ends_here (behind_digits text) ≡ false → list_all digit (word_at (behind_digits text)) ≡ false
 unfolding digits_at
 stray [] = λ h. absurd (cc)
@@ -148,7 +148,7 @@ pub past_end : (text : List ℕ) → ends_here text ≡ true → past_word text 
 past_end [] h = refl
 past_end (b ∷ bs) h = rw h refl
 
--- what is read behind a number
+-- what is read after a number
 pub signed_rest : (text : List ℕ) (n : ℤ) (rest : List ℕ) → signed_at text ≡ Some (n, rest) → rest ≡ behind_number text
 unfolding signed_at size_at
 signed_rest text n rest = by_cases (is_some_bytes (digits_at (without_leading_sign text)) && ltb (digits_value 10 (digits_at (without_leading_sign text))) (10 ^ 19))
@@ -194,7 +194,7 @@ read_word text word e apart = by_cases (starts_blank text)
     (λ h. rw h (ap signed_at (sym e)))
     (λ h. absurd (apart (ap length (e ∙ none_passed text h))))
 
--- behind one space, where no other blank follows it
+-- after one space, where no other blank follows it
 pub word_behind_space : (text : List ℕ) → 1 ≤ length text → get_or text 0 0 ≡ 32 → after_blanks (take (length text - 1) (drop 1 text)) ≡ take (length text - 1) (drop 1 text)
     → number_at text ≡ signed_at (take (length text - 1) (drop 1 text))
 word_behind_space text h e stays =

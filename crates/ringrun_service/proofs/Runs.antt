@@ -59,7 +59,7 @@ pub line_contents : RunsJoin ℤ → (limit kept_limit : Option ℕ) (start now 
 line_contents join limit kept_limit start now after done line same here there =
     there ∙ ap (λ m. after_all m now line) same ∙ ap (λ l. after_all limit l line) here ∙ sym (join limit start done line).0
 
--- the items behind the replies
+-- the items after the replies
 pub printed : MeaningsAgree ℤ → (limit : Option ℕ) (start now : List ℤ) (done : List (Command ℤ)) (old new : List ℕ) → IsWithin start limit
     → now ≡ after_all limit start done → old ≡ flat_map reply_line (replies_to limit start done) → new ≡ old ++ items_line now → new ≡ printed_on limit start done
 unfolding printed_on

@@ -11,7 +11,7 @@ use Rattle.ringrun_service.specs.Script.{plain, with_front}
 abbrev pub IsShorter : Script → Script → Type 0
 IsShorter old new = 0 < length old.rest.now → length new.rest.now < length old.rest.now
 
--- the first line that was left is this one: the rest goes on behind it, or at it where an extension's numbers are to be read
+-- the first line that was left is this one: the rest goes on after it, or at it where an extension's numbers are to be read
 abbrev pub IsLine : Line → Script → Script → Type 0
 IsLine Blank old new = (script_left old ≡ with_front [] (script_left new)) × IsShorter old new
 IsLine (Command command) old new = (script_left old ≡ with_front (plain command ∷ []) (script_left new)) × IsShorter old new

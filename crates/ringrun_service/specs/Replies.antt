@@ -14,7 +14,7 @@ reply_line (Dequeued (Some item)) = codes "dequeued " ++ signed_decimal item ++ 
 reply_line Skipped = codes "skipped\n"
 reply_line Cleared = codes "cleared\n"
 
--- an item behind a space
+-- an item after a space
 abbrev pub item_text : ℤ → List ℕ
 item_text item = codes " " ++ signed_decimal item
 

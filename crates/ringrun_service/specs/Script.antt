@@ -33,7 +33,7 @@ lines_of text = slice_split is_line_feed text
 unfoldable pub words_of : List ℕ → List (List ℕ)
 words_of line = filter is_some_bytes (slice_split is_blank line)
 
--- one or more decimal digits, behind one sign or none
+-- one or more decimal digits, after one sign or none
 abbrev pub is_numeral : List ℕ → Bool
 is_numeral word = is_some_bytes (without_leading_sign word) && list_all (λ byte. is_digit byte 10) (without_leading_sign word)
 
@@ -91,7 +91,7 @@ abbrev pub with_front : List (Command ℤ) → Result (List (Command ℤ)) ℕ �
 with_front front (Ok commands) = Ok (front ++ commands)
 with_front front (Err number) = Err number
 
--- a line with this number before the script of those behind it
+-- a line with this number before the script of those after it
 abbrev pub with_line : ℕ → Option (List (Command ℤ)) → Result (List (Command ℤ)) ℕ → Result (List (Command ℤ)) ℕ
 with_line number None script = Err number
 with_line number (Some commands) script = with_front commands script

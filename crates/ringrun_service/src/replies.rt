@@ -58,7 +58,7 @@ pub fn push_items<R: RingBuffer<i64>>(text: &mut Vec<u8>, ring: &R) -> Result<()
     text.extend_from_slice(b"\n")
 }
 
-/// Puts an item behind a space at the end of `text`.
+/// Puts an item after a space at the end of `text`.
 fn push_item(text: &mut Vec<u8>, item: &i64) -> Result<(), AllocError>
     ensures { OnOk result (text.new.items ≡ text.old.items ++ item_text item.now) }
 {

@@ -40,7 +40,7 @@ impl<'a> Script<'a> {
         Script { text, rest: text }
     }
 
-    /// Reads the next line. An extension's numbers are left to the caller, who goes on behind them by `end_line`, so that no
+    /// Reads the next line. An extension's numbers are left to the caller, who goes on after them by `end_line`, so that no
     /// line takes memory.
     ///
     /// # Errors
@@ -91,7 +91,7 @@ impl<'a> Script<'a> {
         Ok(())
     }
 
-    /// Goes on behind the first line that is left, which `rest` ends.
+    /// Goes on after the first line that is left, which `rest` ends.
     ///
     /// # Errors
     ///
@@ -179,7 +179,7 @@ pub fn split_number(text: &[u8]) -> Option<(i64, &[u8])>
         (λ found. number_at text.now ≡ Some (found.0, found.1.now)) }
     ensures shorter { IfSome result (λ found. length found.1.now < length text.now) }
 {
-    // Most numbers stand behind one space, which is told without a loop.
+    // Most numbers stand after one space, which is told without a loop.
     let word = match text {
         [b' ', word @ ..] if starts_word(word) => word,
         _ => {

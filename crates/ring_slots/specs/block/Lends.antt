@@ -17,7 +17,7 @@ owner_with_items s place xs = record s { slots = filled s.slots place xs }
 abbrev pub owner_with_moved_down : {X : Type 0} → Owner X → ℕ → ℕ → Owner X
 owner_with_moved_down s from to = record s { slots = moved_down s.slots from to }
 
--- the slots with those from a place on brought to the first, and the first `len` behind them
+-- the slots with those from a place on brought to the first, and the first `len` after them
 abbrev pub owner_with_brought_first : {X : Type 0} → Owner X → ℕ → ℕ → Owner X
 owner_with_brought_first s from len = record s { slots = brought_first s.slots from len }
 

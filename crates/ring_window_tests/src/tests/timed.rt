@@ -173,7 +173,7 @@ trait OfStamped: RingBuffer<Stamped<u32>> + Drop {
         assert_holds(rt, &window, &[at(40, 5)]);
     }
 
-    /// An item that is too old stays while it is behind one that isn't.
+    /// An item that is too old stays while it is after one that isn't.
     fn assert_stays_behind_a_younger(self, rt: &impl Abort) {
         let mut window = WindowTime::new(self, 10);
         for (stamp, item) in [(5, 1), (1, 2), (12, 3)] {

@@ -53,7 +53,7 @@ impl<T: Drop> GrowableAllocRingBuffer<T> {
     }
 }
 
-// Puts what a source gives behind the items of a vector while there is room. Returns the source, and the item that found
+// Puts what a source gives after the items of a vector while there is room. Returns the source, and the item that found
 // none. The vector is a value here and not behind a reference, so that its fields stay in registers.
 pub(super) fn pour<T, I: Iterator<Item = T>>(vec: Vec<T>, items: I) -> (Vec<T>, I, Option<T>)
     requires { I.can_next items × IsFinite (I.remaining items) }

@@ -98,7 +98,7 @@ impl<T: Drop> GrowableAllocRingBuffer<T> {
         replace_with(&mut self.deque, count, without_first);
     }
 
-    // Drops some of the first items, and returns how many of `count` are left to drop. A rotation moves items behind the others,
+    // Drops some of the first items, and returns how many of `count` are left to drop. A rotation moves items after the others,
     // no more than there are of these, and cuts them off there, which takes no step for each.
     fn drop_by_rotations(&mut self, count: usize) -> usize
         requires { count ≤ length self.old }

@@ -1,4 +1,4 @@
--- Eights behind the number that comes first.
+-- Eights after the number that comes first.
 use Rattle.std.proofs.Common.{◌≡◌, ◌/◌, ◌%◌, ◌^◌, ◌<◌, ◌≤◌, ◌++◌, List, ℕ, length, [], ◌∷◌, length-drop, append_assoc, append-nil, arith, ap, sym, ◌∙◌}
 use Rattle.std.proofs.Math.Seq.{drop-append-add}
 use Rattle.std.proofs.lemmas.Fmt.{length-decimal-le}

@@ -1,7 +1,7 @@
 use Rattle.ringbuffer.proofs.Words.{◌≡◌, ◌++◌, List, map, AllZip, keep_last}
 use Rattle.ringbuffer.proofs.pushes.extend_cloned.Given as goal
 
--- the clones so far came behind the old items
+-- the clones so far came after the old items
 abbrev pub invariant-loop-item : goal.invariant-loop-item
 invariant-loop-item g l =
     let R = g.R.RingBuffer in

@@ -1,7 +1,7 @@
 use Rattle.ringbuffer.proofs.Words.{◌≡◌, ◌++◌, drop, length, take, keep_last, somes}
 use Rattle.ringbuffer.proofs.pushes.extend_somes.Given as goal
 
--- the items before the index came behind the old ones, and the other places are as they were
+-- the items before the index came after the old ones, and the other places are as they were
 abbrev pub invariant-loop-i : goal.invariant-loop-i
 invariant-loop-i g l =
     let R = g.R.RingBuffer in

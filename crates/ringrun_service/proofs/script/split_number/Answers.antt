@@ -1,4 +1,4 @@
--- The number behind the blanks, where there is a blank.
+-- The number after the blanks, where there is a blank.
 use Rattle.std.proofs.Common.{◌≡◌, rules}
 use Rattle.decimal.specs.Numerals.{signed_at}
 use Rattle.ringrun_service.specs.Parsing.{number_at}

@@ -1,4 +1,4 @@
--- Each number takes a byte at least. Those so far come before those at what is left, and stand on the ring behind its items.
+-- Each number takes a byte at least. Those so far come before those at what is left, and stand on the ring after its items.
 use Rattle.std.proofs.Common.{◌≡◌, ◌+◌, ◌≤◌, ◌++◌, ℤ, List, ℕ, length}
 use Rattle.ringbuffer.specs.Contents.{keep_last}
 use Rattle.ringrun_service.specs.Parsing.{NumbersAt}

@@ -11,7 +11,7 @@ get-requires g c =
     let low : k < length xs = omega (arith, stretch_long slots c.args.from n xs holds fit, c.loop-k-test.true) in
     subst (λ o. IsSome o) (sym (stretch_at slots c.args.from n k xs holds c.loop-k-test.true)) (slice_get_some xs k low)
 
--- The next item lands behind those that were copied.
+-- The next item lands after those that were copied.
 pub loop-k-preserved : goal.loop-k-preserved
 loop-k-preserved g c =
     λ xs holds. let slots = (g.S.RingSlots.seen c.args.slots.now).slots in let n = length c.args.output.now in let k = c.loop-k.k in let x = c.get.result.now in

@@ -18,7 +18,7 @@ returns-then-len-capacity-clause-value g c =
     let one : length items + 1 - c.args.capacity ≡ 1 = omega arith in
     rw one (sym c.put_over-start.ensures.value ∙ sym (slice_get-take 1 0 items (omega arith)))
 
--- The item goes behind the last.
+-- The item goes after the last.
 pub returns-else-len-capacity-clause-after : goal.returns-else-len-capacity-clause-after
 returns-else-len-capacity-clause-after g c =
     let v = view_from (g.S.RingSlots.seen c.args.slots.now) c.args.span.start in

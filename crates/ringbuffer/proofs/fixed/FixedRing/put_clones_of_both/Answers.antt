@@ -10,7 +10,7 @@ both_done : {E : Type 0} (Some : Type 0) (done more first second : ℕ) (r : Res
 both_done Some done more first second (Ok _) count counted whole all = omega (arith, counted, whole, all)
 both_done Some done more first second (Err _) count counted whole (few, some) = (omega (arith, counted, whole, few), some)
 
--- The second slice goes on behind the clones of the first.
+-- The second slice goes on after the clones of the first.
 pub returns : goal.returns
 returns g c =
     let (ys, first, counted, done, lies) = c.put_clones-len.ensures in

@@ -4,7 +4,7 @@ use Rattle.ringbuffer.proofs.LaysOut.{LaysOut-then}
 use Rattle.ringbuffer.proofs.RepeatedSteps.{after_puts-then}
 use Rattle.ringbuffer.proofs.fixed.FixedRing.put_round.Goals as goal
 
--- behind the last slot the first one follows
+-- after the last slot the first one follows
 round : (start len end first size : ℕ) → end ≡ (start + len) % size → end + first ≡ size → 0 ≡ (start + (len + first)) % size
 round start len end first size found all =
     sym (sym (count_on start len first (len + first) size refl) ∙ ap (λ p. (p + first) % size) (sym found) ∙ ap (λ n. n % size) all ∙ mod_self size)

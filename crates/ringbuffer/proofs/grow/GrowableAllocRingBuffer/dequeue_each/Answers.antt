@@ -2,7 +2,7 @@ use Rattle.ringbuffer.proofs.Words.{◌≡◌, ◌∷◌, ◌∙◌, arith, comm
 use Rattle.ringbuffer.proofs.CopiedOut.{set-popped}
 use Rattle.ringbuffer.proofs.grow.GrowableAllocRingBuffer.dequeue_each.Goals as goal
 
--- The next item lands behind those that were popped.
+-- The next item lands after those that were popped.
 pub loop-k-preserved : goal.loop-k-preserved
 loop-k-preserved g c =
     let items = c.replace-deque.result.items in

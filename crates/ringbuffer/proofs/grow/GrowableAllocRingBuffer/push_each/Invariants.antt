@@ -1,6 +1,6 @@
 use Rattle.ringbuffer.proofs.Words.{◌≡◌, ◌++◌}
 use Rattle.ringbuffer.proofs.grow.GrowableAllocRingBuffer.push_each.Given as goal
 
--- the items so far came behind the old ones
+-- the items so far came after the old ones
 abbrev pub invariant-loop-item : goal.invariant-loop-item
 invariant-loop-item g l = l.self ≡ l.fn.self ++ l.yielded

@@ -1,4 +1,4 @@
--- The lines that are left are the one that is read and those behind it.
+-- The lines that are left are the one that is read and those after it.
 use Rattle.std.proofs.Common.{◌≡◌, [], ◌∷◌, ap, arith, subst, sym, ◌∙◌}
 use Rattle.std.proofs.lemmas.Result.{err_from_is_err_and}
 use Rattle.ringrun_service.proofs.LinesLeft.{blank_read, command_bad, command_read, left, other_bad, LineRead}
