@@ -1,6 +1,8 @@
 mod BlockCalls
 mod CellsInMemory
 mod CoreRows
+mod FullCell
+mod Gap
 pub mod Filled
 pub mod MovedDown
 pub mod OneSlot

@@ -2,3 +2,4 @@ pub mod Slots
 pub mod array
 pub mod block
 pub mod copies
+pub mod full

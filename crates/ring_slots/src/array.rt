@@ -1,11 +1,11 @@
 //! Slots that lie in the value itself.
-ghost use Rattle.std.specs.Prelude.{◌≡◌, ◌+◌, ◌<◌, ◌≤◌, ◌++◌, List, drop, length, replicate, take, None, Some, refl, slice_index_or, slice_set};
+ghost use Rattle.std.specs.Prelude.{◌≡◌, ◌+◌, ◌<◌, ◌≤◌, ◌++◌, List, Option, drop, length, replicate, take, None, Some, refl, slice_index_or, slice_set};
 ghost use Rattle.std.specs.Borrow.{sem};
-ghost use Rattle.ring_slots.specs.Slots.{changed, passed_down, passed_up, slot_at};
+ghost use Rattle.ring_slots.specs.Slots.{IsFullStretch, changed, passed_down, passed_up, slot_at};
 
 use crate::change_count::ChangeCount;
 use crate::full;
-use crate::passing::{pass_down, pass_up};
+use crate::passing::{pass_down, pass_full_down, pass_full_up, pass_up};
 use crate::place::{wrapped, wrapped_after, wrapped_next};
 use crate::slots::RingSlots;
 use std::marker::Model;
@@ -137,6 +137,30 @@ impl<T, const N: usize> Cells<Option<T>, N> {
             xs: [const { None }; N],
         }
     }
+
+    // Puts an item before those of `len` full cells from a place on, each of which moves one up, and returns the one that
+    // was last.
+    #[inline]
+    fn pass_item_up(&mut self, from: usize, len: usize, item: T) -> T
+        requires { IsFullStretch self.old.xs from len }
+        ensures { (ys : List (Option T)) × passed_up (Some item) (Some result) (take len (drop from self.old.xs)) ys
+            × (self.new.xs ≡ take from self.old.xs ++ (ys ++ drop (from + len) self.old.xs)) }
+    {
+        let xs = &mut self.xs[..];
+        pass_full_up(&mut xs[from..from + len], item)
+    }
+
+    // Puts an item after those of `len` full cells from a place on, each of which moves one down, and returns the one that
+    // was first.
+    #[inline]
+    fn pass_item_down(&mut self, from: usize, len: usize, item: T) -> T
+        requires { IsFullStretch self.old.xs from len }
+        ensures { (ys : List (Option T)) × passed_down (Some item) (Some result) (take len (drop from self.old.xs)) ys
+            × (self.new.xs ≡ take from self.old.xs ++ (ys ++ drop (from + len) self.old.xs)) }
+    {
+        let xs = &mut self.xs[..];
+        pass_full_down(&mut xs[from..from + len], item)
+    }
 }
 
 /// `CAP` slots in an array, which take no memory of their own.
@@ -233,7 +257,7 @@ impl<T, const CAP: usize> RingSlots<T> for ArraySlots<T, CAP> {
 
     #[inline]
     fn take(&mut self, place: usize) -> T {
-        self.slot_mut(place).take().unwrap()
+        full::take(self.slot_mut(place))
     }
 
     #[inline]
@@ -251,7 +275,7 @@ impl<T, const CAP: usize> RingSlots<T> for ArraySlots<T, CAP> {
 
     #[inline]
     fn get_mut(&mut self, place: usize) -> &mut T {
-        self.slot_mut(place).as_mut().unwrap()
+        full::item_mut(self.slot_mut(place))
     }
 
     #[inline]
@@ -262,13 +286,13 @@ impl<T, const CAP: usize> RingSlots<T> for ArraySlots<T, CAP> {
     #[inline]
     fn pass_up(&mut self, from: usize, len: usize, item: T) -> T {
         self.changes = self.changes.after(len);
-        self.cells.pass_up(from, len, Some(item)).unwrap()
+        self.cells.pass_item_up(from, len, item)
     }
 
     #[inline]
     fn pass_down(&mut self, from: usize, len: usize, item: T) -> T {
         self.changes = self.changes.after(len);
-        self.cells.pass_down(from, len, Some(item)).unwrap()
+        self.cells.pass_item_down(from, len, item)
     }
 
     #[inline]

@@ -1,6 +1,8 @@
 //! Items that one more pushes along by one place.
+ghost use Rattle.std.specs.Prelude.{◌≡◌, List, Some, map};
 ghost use Rattle.ring_slots.specs.Slots.{passed_down, passed_up};
 
+use crate::full;
 use std::mem;
 
 // Puts an item before some, each of which moves one place up, and returns the one that was last.
@@ -26,4 +28,34 @@ pub(crate) fn pass_down<X>(items: &mut [X], item: X) -> X
     let first = mem::replace(&mut items[0], item);
     items.rotate_left(1);
     first
+}
+
+// Puts an item before those of full cells, as `pass_up` does. It moves the items alone, and reads no mark.
+#[inline]
+pub(crate) fn pass_full_up<T>(cells: &mut [Option<T>], item: T) -> T
+    requires { (xs : List T) × (cells.old ≡ map Some xs) }
+    ensures { passed_up (Some item) (Some result) cells.old cells.new }
+{
+    let mut passed = item;
+    let mut at = 0;
+    while at < cells.len() {
+        passed = mem::replace(full::item_mut(&mut cells[at]), passed);
+        at += 1;
+    }
+    passed
+}
+
+// Puts an item after those of full cells, as `pass_down` does. It moves the items alone, and reads no mark.
+#[inline]
+pub(crate) fn pass_full_down<T>(cells: &mut [Option<T>], item: T) -> T
+    requires { (xs : List T) × (cells.old ≡ map Some xs) }
+    ensures { passed_down (Some item) (Some result) cells.old cells.new }
+{
+    let mut passed = item;
+    let mut at = cells.len();
+    while 0 < at {
+        at -= 1;
+        passed = mem::replace(full::item_mut(&mut cells[at]), passed);
+    }
+    passed
 }

@@ -101,7 +101,7 @@ pub trait RingSlots<T>: Sized {
         requires { IsFullStretch (seen self.old).slots from len }
         ensures { Passes (seen self.old) (seen self.new) from len (passed_down item result) };
 
-    /// Returns whether extensions do better to write the slots stretch by stretch.
+    /// Returns whether items do better to go stretch by stretch than one by one.
     fn goes_by_stretch() -> bool;
 
     /// Returns whether calls on many items do better to move the ring into a local.

@@ -58,6 +58,19 @@ fn the_last_bytes_are_kept(rt: HostRuntime) {
     on_fixed!(&rt, 5, assert_keeps_the_last);
 }
 
+// A piece of 16 bytes and more goes in at once, a shorter one byte by byte.
+const PIECES: &[usize] = &[1, 14, 15, 16, 17, 15, 16, 39, 40, 41, 16, 100, 7];
+
+#[test]
+fn pieces_of_any_length_go_to_a_log(rt: HostRuntime) {
+    on_fixed!(&rt, 40, assert_keeps_pieces);
+}
+
+#[test]
+fn bytes_are_consumed_one_by_one(rt: HostRuntime) {
+    on_each!(&rt, 4, assert_consumes);
+}
+
 /// A ring of bytes that is written to and read from.
 trait OfBytes: BufRead + Read + Write + RingBuffer<u8> + Drop {
     /// Fills a ring of five bytes in pieces, of which the last finds no room.
@@ -91,6 +104,25 @@ trait OfBytes: BufRead + Read + Write + RingBuffer<u8> + Drop {
             self.consume(1);
             assert_equal(rt, self.fill_buf().expect(rt, "read").len(), 0);
         }
+    }
+
+    /// Takes bytes out of a ring of four one at a time, also of one that goes round its slots, and more than it holds.
+    fn assert_consumes(mut self, rt: &impl Abort) {
+        assert_writes(rt, &mut self, b"ab", 2);
+        self.consume(0);
+        self.consume(1);
+        assert_writes(rt, &mut self, b"cde", 3);
+        self.consume(1);
+        self.consume(1);
+        assert_equal(rt, self.get(0).copied(), Some(b'd'));
+        assert_equal(rt, self.len(), 2);
+        self.consume(1);
+        assert_equal(rt, self.get(0).copied(), Some(b'e'));
+        self.consume(2);
+        self.consume(1);
+        assert_equal(rt, self.len(), 0);
+        assert_writes(rt, &mut self, b"f", 1);
+        assert_reads(rt, &mut self, 8, b"f");
     }
 
     /// Copies what a growable ring holds into a ring of eight bytes, which is too small for all of it.
@@ -130,6 +162,33 @@ trait OfLastBytes: OfBytes {
         assert_keeps(rt, &log, b"2><3>");
         let mut kept = log.into_ring();
         assert_equal(rt, kept.dequeue(), Some(b'2'));
+    }
+
+    /// Writes pieces to a log of 40 bytes, which then ends with each.
+    fn assert_keeps_pieces(self, rt: &impl Abort)
+        requires { IsSome (Self.limit self) }
+    {
+        let mut text = [0u8; 100];
+        for number in 0..100u8 {
+            text[usize::from(number)] = number;
+        }
+        let mut log = LastBytes::new(self);
+        let mut written = 0usize;
+        for count in PIECES {
+            let piece = &text[..100.min(*count)];
+            assert_writes(rt, &mut log, piece, *count);
+            written = written.saturating_add(*count);
+            let ring = log.ring();
+            assert_equal(rt, (*count, ring.len()), (*count, written.min(40)));
+            for (back, byte) in piece.iter().rev().take(40).enumerate() {
+                let at = ring.len().saturating_sub(back.saturating_add(1));
+                assert_equal(
+                    rt,
+                    (*count, back, ring.get(at).copied()),
+                    (*count, back, Some(*byte)),
+                );
+            }
+        }
     }
 }
 

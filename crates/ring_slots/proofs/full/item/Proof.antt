@@ -1,13 +1,12 @@
 -- `item` hands on the `&` to the item that a `&` to a full cell holds, at the place behind the mark, for every item type.
-use Rattle.std.proofs.Common.{◌≡◌, ℕ, ◌+◌, List, [], ◌∷◌, refl, sym, subst, true≢false, arith}
+use Rattle.std.proofs.Common.{ℕ, ◌+◌, List, [], ◌∷◌, refl, sym, true≢false}
 use seplogic.Ra.Ura.{Ura}
-use mir.Syntax.{Fn, Ty, Width, w8, w16, w32, w64, w128, a_type, named}
+use mir.Syntax.{Fn, a_type, named}
 use mir.MapTy.{inst_fn}
-use mir.Val.{Val, vptr, bytes}
+use mir.Val.{Val, vptr}
 use base.Logic.{SProp, ent, sep}
 use base.Fml.{Lft, Share, ftrue, flft}
-use prog.Align.{align-bytes}
-use prog.Memory.{Memory, align, up, capped}
+use prog.Memory.{Memory, align, capped}
 use prog.Routine.{Routine}
 use prog.Wp.{Env, Calls, Loops, WpFn}
 use types.Logic.{Logic, sem}
@@ -37,19 +36,9 @@ use Rattle.core.specs.Prelude.{IsSome}
 use Rattle.core.specs.contracts.option.Option.{the_row}
 use Rattle.ring_slots.specs.contracts.full.item as F
 use Rattle.ring_slots.specs.contracts.full.item.Key.{name as #self}
+use Rattle.ring_slots.proofs.FullCell.{behind_mark}
 use Rattle.ring_slots.proofs.full.item.Statement.{statement}
 use Rattle.ring_slots.proofs.full.item.Code as code
-
--- The place behind the mark is as far from the cell as the item's alignment.
-behind : (w : Width) (o : ℕ) → o + up (bytes w) (up 1 0 + 1) ≡ capped (bytes w) + o
-behind w8 o = omega arith
-behind w16 o = omega arith
-behind w32 o = omega arith
-behind w64 o = omega arith
-behind w128 o = omega arith
-
-behind_mark : (τ : Ty) (o : ℕ) → o + up (align τ) (up 1 0 + 1) ≡ capped (align τ) + o
-behind_mark τ o = subst (λ (a : ℕ). o + up a (up 1 0 + 1) ≡ capped a + o) (sym (align-bytes τ)) (behind _ o)
 
 module _ (X : RattleType) where
   abbrev here : Fn

@@ -1,0 +1,44 @@
+-- Cells that hold every element of a list but one, which is in hand. It goes into a cell beside the gap, and that cell's own is in hand then.
+use Rattle.ring_slots.proofs.Words.{◌≡◌, refl, ap, sym, List, [], ◌∷◌, ◌++◌, ℕ, zero, suc, ◌<◌, arith, length, map, take, cut, get_or, set, Option, IsSome, Some, subst}
+use Rattle.std.proofs.lemmas.Grind.{common_steps}
+
+module _ {X : Type 0} where
+  -- the list without its element at a place
+  abbrev pub without : List X → ℕ → List X
+  without xs i = take i xs ++ cut (suc i) xs
+
+  moved_up : (xs : List X) (i : ℕ) (d : X) → suc i < length xs → set (without xs i) i (get_or xs i d) ≡ without xs (suc i)
+  moved_up [] i d within = absurd (omega (arith, within))
+  moved_up (x ∷ []) zero d within = absurd (omega (arith, within))
+  moved_up (x ∷ y ∷ xs) zero d within = refl
+  moved_up (x ∷ xs) (suc i) d within = ap (λ l. x ∷ l) (moved_up xs i d (omega (arith, within)))
+
+  moved_down : (xs : List X) (i : ℕ) (d : X) → suc i < length xs → set (without xs (suc i)) i (get_or xs (suc i) d) ≡ without xs i
+  moved_down [] i d within = absurd (omega (arith, within))
+  moved_down (x ∷ []) zero d within = absurd (omega (arith, within))
+  moved_down (x ∷ y ∷ xs) zero d within = refl
+  moved_down (x ∷ xs) (suc i) d within = ap (λ l. x ∷ l) (moved_down xs i d (omega (arith, within)))
+
+  module _ (all cells : List X) (i j : ℕ) (d e put taken : X) (next : j ≡ suc i) (within : suc i < length all) (held : get_or cells i d ≡ taken) where
+    pub one_up : cells ≡ without all i → put ≡ get_or all i e → (set cells i put ≡ without all j) × (taken ≡ get_or all j e)
+    one_up are is = (rw (are, is, next) (moved_up all i e within), grind (arith, common_steps))
+
+    pub one_down : cells ≡ without all j → put ≡ get_or all j e → (set cells i put ≡ without all i) × (taken ≡ get_or all i e)
+    one_down are is = (rw (are, is, next) (moved_down all i e within), grind (arith, common_steps))
+
+-- of full cells each holds an item
+each_full : {X : Type 0} (xs : List X) (i : ℕ) (d : Option X) → i < length (map Some xs) → IsSome (get_or (map Some xs) i d)
+each_full [] i d within = absurd (omega (arith, within))
+each_full (x ∷ xs) zero d within = refl
+each_full (x ∷ xs) (suc i) d within = each_full xs i d (omega (arith, within))
+
+module _ {X : Type 0} (xs : List X) (all cells : List (Option X)) (i : ℕ) (d : Option X) (within : suc i < length all) (full : all ≡ map Some xs) where
+  pub full_above : cells ≡ without all i → IsSome (get_or cells i d)
+  full_above are =
+      let is : get_or cells i d ≡ get_or (map Some xs) (suc i) d = rw (are, ← full) (grind (arith, common_steps)) in
+      subst IsSome (sym is) (each_full xs (suc i) d (subst (λ l. suc i < length l) full within))
+
+  pub full_below : cells ≡ without all (suc i) → IsSome (get_or cells i d)
+  full_below are =
+      let is : get_or cells i d ≡ get_or (map Some xs) i d = rw (are, ← full) (grind (arith, common_steps)) in
+      subst IsSome (sym is) (each_full xs i d (subst (λ l. i < length l) full (omega (arith, within))))

@@ -1,0 +1,10 @@
+-- the cells hold all items but the one in hand
+use Rattle.std.proofs.Common.{◌≡◌, ◌-◌, ◌∷◌, None, Some, length, slice_index_or}
+use Rattle.ring_slots.proofs.Gap.{without}
+use Rattle.ring_slots.proofs.passing.pass_full_up.Given as goal
+
+abbrev pub invariant-loop-at : goal.invariant-loop-at
+invariant-loop-at g l = let all = Some l.fn.item ∷ l.fn.cells in (l.cells ≡ without all l.at) × (Some l.passed ≡ slice_index_or all l.at None)
+
+abbrev pub decreases-loop-at : goal.decreases-loop-at
+decreases-loop-at g l = length l.initial.cells - l.at
