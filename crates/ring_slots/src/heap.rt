@@ -8,7 +8,7 @@ use crate::block::{Deed, Owner};
 use crate::bytes::{item_size, may_hold};
 use crate::change_count::ChangeCount;
 use crate::lends_rows::LendsRows;
-use crate::passing::{pass_many_down, pass_up};
+use crate::passing::{pass_down, pass_up};
 use crate::place::masked;
 use crate::slots::RingSlots;
 use std::alloc::{AllocError, Global};
@@ -250,7 +250,7 @@ impl<T> RingSlots<T> for HeapSlots<T> {
     #[inline]
     fn pass_down(&mut self, from: usize, len: usize, item: T) -> T {
         let changes = self.changes.after(len);
-        pass_many_down(self.slice_mut(from, len, changes), item)
+        pass_down(self.slice_mut(from, len, changes), item)
     }
 
     #[inline]

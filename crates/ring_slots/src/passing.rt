@@ -2,12 +2,8 @@
 ghost use Rattle.std.specs.Prelude.{◌≡◌, List, Some, map};
 ghost use Rattle.ring_slots.specs.Slots.{passed_down, passed_up};
 
-use crate::bytes::item_size;
 use crate::full;
 use std::mem;
-
-// A rotation by one item of at most as many bytes is one `memmove`.
-const PIECE_BYTES: usize = 2048;
 
 // Puts an item before some, each of which moves one place up, and returns the one that was last.
 #[inline]
@@ -32,25 +28,6 @@ pub(crate) fn pass_down<X>(items: &mut [X], item: X) -> X
     let first = mem::replace(&mut items[0], item);
     items.rotate_left(1);
     first
-}
-
-// Does what `pass_down` does. Items of more than two pieces go piece by piece, the last first.
-#[inline]
-pub(crate) fn pass_many_down<X>(items: &mut [X], item: X) -> X
-    ensures { passed_down item result items.old items.new }
-{
-    let piece = PIECE_BYTES / item_size::<X>().max(1);
-    if piece <= 1 {
-        return pass_down(items, item);
-    }
-    let mut passed = item;
-    let mut end = items.len();
-    while piece < end / 2 {
-        let from = end - piece;
-        passed = pass_down(&mut items[from..end], passed);
-        end = from;
-    }
-    pass_down(&mut items[..end], passed)
 }
 
 // Puts an item before those of full cells, as `pass_up` does. It moves the items alone, and reads no mark.
