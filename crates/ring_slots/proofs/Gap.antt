@@ -42,3 +42,12 @@ module _ {X : Type 0} (xs : List X) (all cells : List (Option X)) (i : ℕ) (d :
   full_below are =
       let is : get_or cells i d ≡ get_or (map Some xs) i d = rw (are, ← full) (grind (arith, common_steps)) in
       subst IsSome (sym is) (each_full xs i d (subst (λ l. i < length l) full (omega (arith, within))))
+
+-- of full cells and one more, the one left over is full
+pub last_is_full : {X : Type 0} (zs : List X) (ys : List (Option X)) (over : Option X) → map Some zs ≡ ys ++ over ∷ [] → IsSome over
+last_is_full zs ys over same =
+    let is : get_or (map Some zs) (length ys) over ≡ over = rw same (grind (arith, common_steps)) in
+    subst IsSome is (each_full zs (length ys) over (subst (λ l. length ys < length l) (sym same) (grind (arith, common_steps))))
+
+pub first_is_full : {X : Type 0} (zs : List X) (ys : List (Option X)) (over : Option X) → map Some zs ≡ over ∷ ys → IsSome over
+first_is_full zs ys over same = subst IsSome (ap (λ l. get_or l 0 over) same) (each_full zs 0 over (subst (λ l. 0 < length l) (sym same) (grind (arith, common_steps))))

@@ -2,8 +2,12 @@
 ghost use Rattle.std.specs.Prelude.{◌≡◌, List, Some, map};
 ghost use Rattle.ring_slots.specs.Slots.{passed_down, passed_up};
 
+use crate::bytes::item_size;
 use crate::full;
 use std::mem;
+
+// Items of at most as many bytes pass from cell to cell in registers. Larger ones go by std's rotation.
+const FEW_BYTES: usize = 8;
 
 // Puts an item before some, each of which moves one place up, and returns the one that was last.
 #[inline]
@@ -30,12 +34,15 @@ pub(crate) fn pass_down<X>(items: &mut [X], item: X) -> X
     first
 }
 
-// Puts an item before those of full cells, as `pass_up` does. It moves the items alone, and reads no mark.
+// Puts an item before those of full cells, as `pass_up` does. Small items are moved alone, and their marks not read.
 #[inline]
 pub(crate) fn pass_full_up<T>(cells: &mut [Option<T>], item: T) -> T
     requires { (xs : List T) × (cells.old ≡ map Some xs) }
     ensures { passed_up (Some item) (Some result) cells.old cells.new }
 {
+    if item_size::<T>() > FEW_BYTES {
+        return pass_up(cells, Some(item)).unwrap();
+    }
     let mut passed = item;
     let mut at = 0;
     while at < cells.len() {
@@ -45,12 +52,15 @@ pub(crate) fn pass_full_up<T>(cells: &mut [Option<T>], item: T) -> T
     passed
 }
 
-// Puts an item after those of full cells, as `pass_down` does. It moves the items alone, and reads no mark.
+// Puts an item after those of full cells, as `pass_down` does. Small items are moved alone, and their marks not read.
 #[inline]
 pub(crate) fn pass_full_down<T>(cells: &mut [Option<T>], item: T) -> T
     requires { (xs : List T) × (cells.old ≡ map Some xs) }
     ensures { passed_down (Some item) (Some result) cells.old cells.new }
 {
+    if item_size::<T>() > FEW_BYTES {
+        return pass_down(cells, Some(item)).unwrap();
+    }
     let mut passed = item;
     let mut at = cells.len();
     while 0 < at {

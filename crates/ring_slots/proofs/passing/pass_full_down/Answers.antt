@@ -1,7 +1,7 @@
 use Rattle.std.proofs.Common.{◌≡◌, ◌-◌, ◌++◌, ◌∷◌, [], None, Some, ap, arith, ◌∙◌, suc, length, map, ◌<◌}
 use Rattle.std.proofs.lemmas.List.{length-append, map-append}
 use Rattle.ring_slots.proofs.Words.{sym}
-use Rattle.ring_slots.proofs.Gap.{full_below, one_down, without}
+use Rattle.ring_slots.proofs.Gap.{first_is_full, full_below, one_down, without}
 use Rattle.ring_slots.proofs.passing.pass_full_down.Goals as goal
 
 pub item_mut-requires : goal.item_mut-requires
@@ -19,3 +19,7 @@ loop-at-preserved g c =
     let moved = one_down all c.loop-at.cells i c.loop-at.at c.index-cells-at.result None (Some c.replace-passed.new.dest) (Some c.replace-passed.result)
     (omega (arith, c.loop-at-test.true)) within (rw c.replace-passed.ensures.value c.item_mut.ensures.value) c.loop-at.invariant.0 (rw c.replace-passed.ensures.after c.loop-at.invariant.1) in
     (moved.0, moved.1, omega (arith, c.loop-at.invariant.2))
+
+pub unwrap-requires : goal.unwrap-requires
+unwrap-requires g c =
+    let (xs, full) = c.requires in first_is_full (xs ++ c.args.item ∷ []) c.pass_down.new.items c.pass_down.result (map-append Some xs (c.args.item ∷ []) ∙ ap (λ l. l ++ Some c.args.item ∷ []) (sym full) ∙ c.pass_down.ensures)
