@@ -8,6 +8,7 @@ pub mod MovedDown
 pub mod OneSlot
 mod OwnerParts
 pub mod Passed
+mod Pieces
 mod SendSync
 mod SharedSlots
 mod Shown

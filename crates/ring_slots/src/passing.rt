@@ -1,13 +1,18 @@
 //! Items that one more pushes along by one place.
-ghost use Rattle.std.specs.Prelude.{◌≡◌, List, Some, map};
+ghost use Rattle.std.specs.Prelude.{◌≡◌, ◌<◌, List, Some, map};
 ghost use Rattle.ring_slots.specs.Slots.{passed_down, passed_up};
 
 use crate::bytes::item_size;
 use crate::full;
 use std::mem;
 
-// Items of at most as many bytes pass from cell to cell in registers. Larger ones go by std's rotation.
+// Items of at most as many bytes pass from call to call, and from cell to cell, in registers. Larger ones go by std's
+// rotation.
 const FEW_BYTES: usize = 8;
+
+// A rotation by one item is one `memmove` where the items take at most as many bytes, and a slower loop where they take
+// more.
+const PIECE_BYTES: usize = 2048;
 
 // Puts an item before some, each of which moves one place up, and returns the one that was last.
 #[inline]
@@ -24,6 +29,35 @@ pub(crate) fn pass_up<X>(items: &mut [X], item: X) -> X
 // Puts an item after some, each of which moves one place down, and returns the one that was first.
 #[inline]
 pub(crate) fn pass_down<X>(items: &mut [X], item: X) -> X
+    ensures { passed_down item result items.old items.new }
+{
+    let size = item_size::<X>();
+    let piece = PIECE_BYTES / size.max(1);
+    if size <= FEW_BYTES && piece < items.len() {
+        return pass_pieces_down(items, piece, item);
+    }
+    pass_piece_down(items, item)
+}
+
+// Does what `pass_down` does, piece by piece, the last first. Out of line, so that few items pay for a look at their
+// number alone.
+#[inline(never)]
+fn pass_pieces_down<X>(items: &mut [X], piece: usize, item: X) -> X
+    requires { 0 < piece }
+    ensures { passed_down item result items.old items.new }
+{
+    let mut passed = item;
+    let mut end = items.len();
+    while piece < end {
+        let from = end - piece;
+        passed = pass_piece_down(&mut items[from..end], passed);
+        end = from;
+    }
+    pass_piece_down(&mut items[..end], passed)
+}
+
+#[inline]
+fn pass_piece_down<X>(items: &mut [X], item: X) -> X
     ensures { passed_down item result items.old items.new }
 {
     if items.is_empty() {
