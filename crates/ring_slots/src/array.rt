@@ -1,5 +1,5 @@
 //! Slots that lie in the value itself.
-ghost use Rattle.std.specs.Prelude.{◌≡◌, ◌+◌, ◌<◌, ◌≤◌, ◌++◌, List, Option, drop, length, replicate, take, None, Some, refl, slice_index_or, slice_set};
+ghost use Rattle.std.specs.Prelude.{◌≡◌, ◌+◌, ◌<◌, ◌≤◌, ◌++◌, Option, drop, length, replicate, take, None, Some, refl, slice_index_or, slice_set};
 ghost use Rattle.std.specs.Borrow.{sem};
 ghost use Rattle.ring_slots.specs.Slots.{IsFullStretch, changed, passed_down, passed_up, slot_at};
 
@@ -17,7 +17,7 @@ pub(crate) struct Cells<X, const N: usize> {
 }
 
 impl<X, const N: usize> Cells<X, N> {
-    ghost use Rattle.ring_slots.specs.array.Lends.{lends_cell, lends_cells};
+    ghost use Rattle.ring_slots.specs.array.Lends.{PassesCells, lends_cell, lends_cells};
 
     #[inline]
     pub(crate) fn at(&self, place: usize) -> &X
@@ -50,8 +50,7 @@ impl<X, const N: usize> Cells<X, N> {
     #[inline]
     pub(crate) fn pass_up(&mut self, from: usize, len: usize, x: X) -> X
         requires { from + len ≤ N }
-        ensures { (ys : List X) × passed_up x result (take len (drop from self.old.xs)) ys
-            × (self.new.xs ≡ take from self.old.xs ++ (ys ++ drop (from + len) self.old.xs)) }
+        ensures { PassesCells self.old.xs self.new.xs from len (passed_up x result) }
     {
         let xs = &mut self.xs[..];
         pass_up(&mut xs[from..from + len], x)
@@ -62,8 +61,7 @@ impl<X, const N: usize> Cells<X, N> {
     #[inline]
     pub(crate) fn pass_down(&mut self, from: usize, len: usize, x: X) -> X
         requires { from + len ≤ N }
-        ensures { (ys : List X) × passed_down x result (take len (drop from self.old.xs)) ys
-            × (self.new.xs ≡ take from self.old.xs ++ (ys ++ drop (from + len) self.old.xs)) }
+        ensures { PassesCells self.old.xs self.new.xs from len (passed_down x result) }
     {
         let xs = &mut self.xs[..];
         pass_down(&mut xs[from..from + len], x)
@@ -130,6 +128,8 @@ impl<X: Copy, const N: usize> Cells<X, N> {
 }
 
 impl<T, const N: usize> Cells<Option<T>, N> {
+    ghost use Rattle.ring_slots.specs.array.Lends.{PassesCells};
+
     fn empty() -> Self
         ensures { result.xs ≡ replicate N None }
     {
@@ -143,8 +143,7 @@ impl<T, const N: usize> Cells<Option<T>, N> {
     #[inline]
     fn pass_item_up(&mut self, from: usize, len: usize, item: T) -> T
         requires { IsFullStretch self.old.xs from len }
-        ensures { (ys : List (Option T)) × passed_up (Some item) (Some result) (take len (drop from self.old.xs)) ys
-            × (self.new.xs ≡ take from self.old.xs ++ (ys ++ drop (from + len) self.old.xs)) }
+        ensures { PassesCells self.old.xs self.new.xs from len (passed_up (Some item) (Some result)) }
     {
         let xs = &mut self.xs[..];
         pass_full_up(&mut xs[from..from + len], item)
@@ -155,8 +154,7 @@ impl<T, const N: usize> Cells<Option<T>, N> {
     #[inline]
     fn pass_item_down(&mut self, from: usize, len: usize, item: T) -> T
         requires { IsFullStretch self.old.xs from len }
-        ensures { (ys : List (Option T)) × passed_down (Some item) (Some result) (take len (drop from self.old.xs)) ys
-            × (self.new.xs ≡ take from self.old.xs ++ (ys ++ drop (from + len) self.old.xs)) }
+        ensures { PassesCells self.old.xs self.new.xs from len (passed_down (Some item) (Some result)) }
     {
         let xs = &mut self.xs[..];
         pass_full_down(&mut xs[from..from + len], item)

@@ -1,5 +1,6 @@
 -- Pushes up to the last slot, or to the capacity: a stretch of places that goes contiguous on.
-use Rattle.ringbuffer.proofs.Words.{◌≡◌, ℕ, ◌<◌, ◌≤◌, ◌+◌, ◌%◌, Bool, true, false, List, [], ◌∷◌, ◌++◌, if◌then◌else◌, refl, ap, sym, ◌∙◌, arith, length, length-append, mod-eq_of_lt, Slots, Span, View, after_put, after_take, after_extend, after_pushes, view_from, items_from, LaysOut}
+use Rattle.ringbuffer.proofs.Words.{◌≡◌, ℕ, ◌<◌, ◌≤◌, ◌+◌, ◌%◌, Bool, true, false, List, [], ◌∷◌, ◌++◌, if◌then◌else◌, refl, ap, sym, ◌∙◌, arith, length, length-append, mod-eq_of_lt, Slots, Span, View, after_put, after_push, after_take, after_extend, after_pushes, view_from, items_from, LaysOut}
+use Rattle.ringbuffer.specs.Pushing.{PushesOnto}
 use Rattle.ringbuffer.proofs.LaysOut.{LaysOut-then}
 use Rattle.ringbuffer.proofs.SlotsHold.{contiguous_on, count_on}
 use Rattle.ringbuffer.proofs.RepeatedSteps.{after_extend-then, after_extend-fits, after_extend-full, after_puts-more, after_push-full}
@@ -34,3 +35,12 @@ module _ {X : Type 0} (old : Slots X) (span : Span) (capacity i : ℕ) (xs : Lis
   one_more x some false full room so_far step =
       let fits = after_extend-fits capacity v xs (omega (arith, counted, long, room refl)) in let fits' = after_extend-fits capacity v (xs ++ x ∷ []) (omega (arith, counted, long, room refl, length-append xs (x ∷ []))) in
       rw fits' at (rw after_puts-more at (LaysOut-then (λ w. after_put w x) (rw (sym fits) at so_far) step))
+
+-- After some items one more is pushed, and then a stretch.
+pub stretch_pushed : {X : Type 0} {old now over new : Slots X} {at last : Span} (was next : Span) (capacity : ℕ) (xs : List X) (x : X) (ys : List X)
+    → PushesOnto old now was at capacity xs → LaysOut now over next.start (after_push capacity (view_from now at.start) x) → PushesOnto over new next last capacity ys → PushesOnto old new was last capacity (xs ++ x ∷ ys)
+stretch_pushed {old = old} was next capacity xs x ys so_far pushed (stretch, long) =
+    let v = view_from old was.start in
+    let is = after_extend-then capacity (after_extend capacity v xs) (x ∷ []) ys ∙ after_extend-then capacity v xs (x ∷ ys) in
+    let all = rw is at (LaysOut-then (λ w. after_extend capacity (after_push capacity w x) ys) so_far.0 (LaysOut-then (λ w. after_extend capacity w ys) pushed stretch)) in
+    (all, long ∙ ap (λ (w : View _). length w.items) (sym stretch.shows ∙ all.shows))

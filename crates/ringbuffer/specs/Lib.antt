@@ -1,5 +1,7 @@
+pub mod Clones
 pub mod Conversion
 pub mod Layout
+pub mod Pushing
 pub mod Somes
 pub mod Sources
 pub mod View

@@ -1,6 +1,7 @@
 //! The ring in an array.
-ghost use Rattle.std.specs.Prelude.{◌≡◌, ◌<◌, [], IfOk, IsOk, List, MatchResult, length, take};
+ghost use Rattle.std.specs.Prelude.{◌≡◌, ◌<◌, [], IfOk, IsOk};
 ghost use Rattle.std.specs.List.{AllZip};
+ghost use Rattle.ringbuffer.specs.Clones.{ClonesFirst};
 ghost use Rattle.ringbuffer.specs.View.{after_fill};
 
 mod convert;
@@ -65,10 +66,8 @@ impl<T: Clone + Drop, const CAP: usize> ConstGenericRingBuffer<T, CAP> {
     ///
     /// Where a clone was refused. Then `other` holds the clones before it alone.
     pub fn clone_into(&self, other: &mut Self) -> Result<(), AllocError>
-        ensures { (ys : List T) × AllZip T.is_clone (take (length ys) self.now.items) ys
-            × MatchResult result (λ _. length ys ≡ length self.now.items)
-            (λ _. (length ys < length self.now.items) × ((x : T) × ¬ (T.is_infallible x)))
-            × (other.new ≡ after_fill other.old ys) }
+        ensures { ClonesFirst T.is_clone T.is_infallible self.now.items result
+            (λ ys. other.new ≡ after_fill other.old ys) }
     {
         // For the proof: the contents are within the limit.
         let _ = self.len();

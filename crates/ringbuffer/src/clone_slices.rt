@@ -1,9 +1,11 @@
 //! Clones between slices and a ring of a fixed capacity.
-ghost use Rattle.std.specs.Prelude.{◌≡◌, ℕ, ◌+◌, ◌-◌, ◌≤◌, IfOk, IsOk, List, MatchResult, drop, length, min, take};
+ghost use Rattle.std.specs.Prelude.{◌≡◌, ◌≤◌, IfOk, IsOk, List, MatchResult, length, min, take};
 ghost use Rattle.std.specs.List.{AllZip};
 ghost use Rattle.ring_core.specs.Extension.{ClonesOut};
+ghost use Rattle.ringbuffer.specs.Clones.{ClonesLast};
+ghost use Rattle.ringbuffer.specs.Layout.{CanPush};
+ghost use Rattle.ringbuffer.specs.Pushing.{PushesOnto};
 ghost use Rattle.ringbuffer.specs.View.{after_extend};
-ghost use Rattle.ringbuffer.specs.Layout.{CanPush, LaysOut, view_from};
 
 use crate::fixed::{FixedRing, Span};
 use ring_core::RingBuffer;
@@ -13,10 +15,8 @@ use std::alloc::AllocError;
 impl<T: Clone + Drop, S: RingSlots<T>> FixedRing<T, S> {
     // Pushes clones of the items of a slice that the limit leaves. Where a clone is refused, those before it stay.
     pub(crate) fn extend_by_clones(&mut self, items: &[T]) -> Result<(), AllocError>
-        ensures { (over : ℕ) × (ys : List T) × (over ≤ length items.now - S.limit self.old.capacity)
-            × AllZip T.is_clone (take (length ys) (drop over items.now)) ys
-            × MatchResult result (λ _. over + length ys ≡ length items.now) (λ _. (x : T) × ¬ (T.is_infallible x))
-            × (self.new ≡ after_extend (S.limit self.old.capacity) self.old ys) }
+        ensures { ClonesLast T.is_clone T.is_infallible (S.limit self.old.capacity) items.now result
+            (λ ys. self.new ≡ after_extend (S.limit self.old.capacity) self.old ys) }
     {
         let capacity = self.slots.limit();
         let (_, newest) = items.split_at(items.len().saturating_sub(capacity));
@@ -28,10 +28,8 @@ impl<T: Clone + Drop, S: RingSlots<T>> FixedRing<T, S> {
 
     // Does what `extend_by_clones` does.
     pub(crate) fn extend_by_clones_owned(mut self, items: &[T]) -> (Self, Result<(), AllocError>)
-        ensures { (over : ℕ) × (ys : List T) × (over ≤ length items.now - S.limit self.capacity)
-            × AllZip T.is_clone (take (length ys) (drop over items.now)) ys
-            × MatchResult result.1 (λ _. over + length ys ≡ length items.now) (λ _. (x : T) × ¬ (T.is_infallible x))
-            × (result.0 ≡ after_extend (S.limit self.capacity) self ys) }
+        ensures { ClonesLast T.is_clone T.is_infallible (S.limit self.capacity) items.now result.1
+            (λ ys. result.0 ≡ after_extend (S.limit self.capacity) self ys) }
     {
         let pushed = self.extend_by_clones(items);
         (self, pushed)
@@ -48,10 +46,7 @@ impl<T: Clone + Drop, S: RingSlots<T>> FixedRing<T, S> {
         requires { CanPush (S.seen slots.old) span capacity }
         ensures { (ys : List T) × AllZip T.is_clone (take (length ys) items.now) ys
             × MatchResult result.1 (λ _. length ys ≡ length items.now) (λ _. (x : T) × ¬ (T.is_infallible x))
-            × LaysOut (S.seen slots.old) (S.seen slots.new) result.0.start
-            (after_extend capacity (view_from (S.seen slots.old) span.start) ys)
-            × (result.0.len
-            ≡ length (after_extend capacity (view_from (S.seen slots.old) span.start) ys).items) }
+            × PushesOnto (S.seen slots.old) (S.seen slots.new) span result.0 capacity ys }
     {
         let mut span = span;
         let mut done = 0;
@@ -89,10 +84,7 @@ impl<T: Clone + Drop, S: RingSlots<T>> FixedRing<T, S> {
         ensures within { result.1 ≤ length items.now }
         ensures pushed { (ys : List T) × (length ys ≡ result.1) × AllZip T.is_clone (take (length ys) items.now) ys
             × MatchResult result.2 (λ _. Unit {0}) (λ _. (x : T) × ¬ (T.is_infallible x))
-            × LaysOut (S.seen slots.old) (S.seen slots.new) result.0.start
-            (after_extend capacity (view_from (S.seen slots.old) span.start) ys)
-            × (result.0.len
-            ≡ length (after_extend capacity (view_from (S.seen slots.old) span.start) ys).items) }
+            × PushesOnto (S.seen slots.old) (S.seen slots.new) span result.0 capacity ys }
     {
         let full = span.len == capacity;
         let end = slots.place_after(span.start, span.len);

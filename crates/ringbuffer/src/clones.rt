@@ -1,6 +1,6 @@
 //! Clones of items, put onto a ring of a fixed capacity.
-ghost use Rattle.std.specs.Prelude.{◌≡◌, ◌+◌, ◌<◌, ◌≤◌, [], ◌++◌, List, MatchResult, length, take};
-ghost use Rattle.std.specs.List.{AllZip};
+ghost use Rattle.std.specs.Prelude.{◌≡◌, ◌+◌, ◌≤◌, [], ◌++◌, length};
+ghost use Rattle.ringbuffer.specs.Clones.{ClonesFirst};
 ghost use Rattle.ringbuffer.specs.View.{after_fill, after_puts};
 ghost use Rattle.ringbuffer.specs.Layout.{IsLaidOut, LaysOut, view_from};
 
@@ -15,10 +15,8 @@ impl<T: Clone + Drop, S: RingSlots<T>> FixedRing<T, S> {
     #[inline]
     pub(crate) fn clone_onto(&self, other: &mut Self) -> Result<(), AllocError>
         requires { length self.now.items ≤ S.limit other.old.capacity }
-        ensures { (ys : List T) × AllZip T.is_clone (take (length ys) self.now.items) ys
-            × MatchResult result (λ _. length ys ≡ length self.now.items)
-            (λ _. (length ys < length self.now.items) × ((x : T) × ¬ (T.is_infallible x)))
-            × (other.new ≡ after_fill other.old ys) }
+        ensures { ClonesFirst T.is_clone T.is_infallible self.now.items result
+            (λ ys. other.new ≡ after_fill other.old ys) }
     {
         match self.rows() {
             Some((first, second)) => other.fill_from_slices(first, second),
@@ -31,10 +29,8 @@ impl<T: Clone + Drop, S: RingSlots<T>> FixedRing<T, S> {
     #[inline]
     pub(crate) fn fill_from_slices(&mut self, first: &[T], second: &[T]) -> Result<(), AllocError>
         requires { length first.now + length second.now ≤ S.limit self.old.capacity }
-        ensures { (ys : List T) × AllZip T.is_clone (take (length ys) (first.now ++ second.now)) ys
-            × MatchResult result (λ _. length ys ≡ length first.now + length second.now)
-            (λ _. (length ys < length first.now + length second.now) × ((x : T) × ¬ (T.is_infallible x)))
-            × (self.new ≡ after_fill self.old ys) }
+        ensures { ClonesFirst T.is_clone T.is_infallible (first.now ++ second.now) result
+            (λ ys. self.new ≡ after_fill self.old ys) }
     {
         Self::empty_slots(&mut self.slots, self.span);
         let (len, made) = Self::put_clones_of_both(&mut self.slots, first, second);
@@ -45,10 +41,8 @@ impl<T: Clone + Drop, S: RingSlots<T>> FixedRing<T, S> {
     // Does what `clone_onto` does, one by one.
     fn clone_each_onto(&self, other: &mut Self) -> Result<(), AllocError>
         requires { length self.now.items ≤ S.limit other.old.capacity }
-        ensures { (ys : List T) × AllZip T.is_clone (take (length ys) self.now.items) ys
-            × MatchResult result (λ _. length ys ≡ length self.now.items)
-            (λ _. (length ys < length self.now.items) × ((x : T) × ¬ (T.is_infallible x)))
-            × (other.new ≡ after_fill other.old ys) }
+        ensures { ClonesFirst T.is_clone T.is_infallible self.now.items result
+            (λ ys. other.new ≡ after_fill other.old ys) }
     {
         Self::empty_slots(&mut other.slots, other.span);
         let (len, made) = self.clone_into_slots(&mut other.slots);
@@ -62,12 +56,9 @@ impl<T: Clone + Drop, S: RingSlots<T>> FixedRing<T, S> {
         requires laid_out { IsLaidOut (S.seen slots.old) 0 }
         requires empty { (view_from (S.seen slots.old) 0).items ≡ [] }
         requires room { length self.now.items ≤ length (S.seen slots.old).slots }
-        ensures { (ys : List T)
-            × AllZip T.is_clone (take (length ys) self.now.items) ys × (length ys ≡ result.0)
-            × MatchResult result.1 (λ _. result.0 ≡ length self.now.items)
-            (λ _. (result.0 < length self.now.items) × ((x : T) × ¬ (T.is_infallible x)))
-            × LaysOut (S.seen slots.old) (S.seen slots.new) 0
-            (after_puts ys (view_from (S.seen slots.old) 0)) }
+        ensures { ClonesFirst T.is_clone T.is_infallible self.now.items result.1
+            (λ ys. (length ys ≡ result.0) × LaysOut (S.seen slots.old) (S.seen slots.new) 0
+            (after_puts ys (view_from (S.seen slots.old) 0))) }
     {
         let count = self.len();
         for len in 0..count {
@@ -90,12 +81,9 @@ impl<T: Clone + Drop, S: RingSlots<T>> FixedRing<T, S> {
         requires laid_out { IsLaidOut (S.seen slots.old) 0 }
         requires empty { (view_from (S.seen slots.old) 0).items ≡ [] }
         requires room { length first.now + length second.now ≤ length (S.seen slots.old).slots }
-        ensures { (ys : List T)
-            × AllZip T.is_clone (take (length ys) (first.now ++ second.now)) ys × (length ys ≡ result.0)
-            × MatchResult result.1 (λ _. result.0 ≡ length first.now + length second.now)
-            (λ _. (result.0 < length first.now + length second.now) × ((x : T) × ¬ (T.is_infallible x)))
-            × LaysOut (S.seen slots.old) (S.seen slots.new) 0
-            (after_puts ys (view_from (S.seen slots.old) 0)) }
+        ensures { ClonesFirst T.is_clone T.is_infallible (first.now ++ second.now) result.1
+            (λ ys. (length ys ≡ result.0) × LaysOut (S.seen slots.old) (S.seen slots.new) 0
+            (after_puts ys (view_from (S.seen slots.old) 0))) }
     {
         let (len, made) = Self::put_clones(slots, 0, first);
         if let Err(error) = made {
@@ -111,12 +99,9 @@ impl<T: Clone + Drop, S: RingSlots<T>> FixedRing<T, S> {
         requires laid_out { IsLaidOut (S.seen slots.old) 0 }
         requires len { len ≡ length (view_from (S.seen slots.old) 0).items }
         requires room { len + length items.now ≤ length (S.seen slots.old).slots }
-        ensures { (ys : List T) × AllZip T.is_clone (take (length ys) items.now) ys
-            × (result.0 ≡ len + length ys)
-            × MatchResult result.1 (λ _. length ys ≡ length items.now)
-            (λ _. (length ys < length items.now) × ((x : T) × ¬ (T.is_infallible x)))
-            × LaysOut (S.seen slots.old) (S.seen slots.new) 0
-            (after_puts ys (view_from (S.seen slots.old) 0)) }
+        ensures { ClonesFirst T.is_clone T.is_infallible items.now result.1
+            (λ ys. (result.0 ≡ len + length ys) × LaysOut (S.seen slots.old) (S.seen slots.new) 0
+            (after_puts ys (view_from (S.seen slots.old) 0))) }
     {
         // For the proof: the number of slots fits a word.
         let _ = slots.size();

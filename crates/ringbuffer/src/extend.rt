@@ -4,6 +4,7 @@ ghost use Rattle.std.specs.Iterator.{Drains, ExtendsWithItems, IsFinite, IsFinit
 ghost use Rattle.ringbuffer.specs.View.{after_put, after_take, after_extend};
 ghost use Rattle.ringbuffer.specs.Sources.{Gives, GivesAll};
 ghost use Rattle.ringbuffer.specs.Layout.{after_pushes, CanPush, IsSpanOf, LaysOut, view_from};
+ghost use Rattle.ringbuffer.specs.Pushing.{PushesOnto};
 ghost use Rattle.ring_core.specs.Contents.{ChangesSlots, keep_last};
 ghost use Rattle.ring_core.specs.Extension.{Extends};
 
@@ -55,10 +56,7 @@ impl<T: Drop, S: RingSlots<T>> FixedRing<T, S> {
             items }
         requires can_push { CanPush (S.seen slots.old) span capacity }
         ensures { GivesAll I.into_iter_gives I.IntoIter.next_gives items
-            (λ xs. LaysOut (S.seen slots.old) (S.seen slots.new) result.start
-            (after_extend capacity (view_from (S.seen slots.old) span.start) xs)
-            × (result.len
-            ≡ length (after_extend capacity (view_from (S.seen slots.old) span.start) xs).items)) }
+            (PushesOnto (S.seen slots.old) (S.seen slots.new) span result capacity) }
     {
         let mut span = span;
         for item in items {
@@ -113,10 +111,7 @@ impl<T: Drop, S: RingSlots<T>> FixedRing<T, S> {
         requires ends { IsFinite (I.remaining items) }
         requires can_push { CanPush (S.seen slots.old) span capacity }
         ensures { (xs : List T) × Drains I.next_gives items xs
-            × LaysOut (S.seen slots.old) (S.seen slots.new) result.start
-            (after_extend capacity (view_from (S.seen slots.old) span.start) xs)
-            × (result.len
-            ≡ length (after_extend capacity (view_from (S.seen slots.old) span.start) xs).items) }
+            × PushesOnto (S.seen slots.old) (S.seen slots.new) span result capacity xs }
     {
         let mut span = span;
         while let Some(item) = items.next() {
@@ -145,10 +140,7 @@ impl<T: Drop, S: RingSlots<T>> FixedRing<T, S> {
         requires can_push { CanPush (S.seen slots.old) span capacity }
         ensures { (xs : List T)
             × Gives I.can_next I.next_gives I.remaining result.1 items.old xs items.new
-            × LaysOut (S.seen slots.old) (S.seen slots.new) result.0.start
-            (after_extend capacity (view_from (S.seen slots.old) span.start) xs)
-            × (result.0.len
-            ≡ length (after_extend capacity (view_from (S.seen slots.old) span.start) xs).items) }
+            × PushesOnto (S.seen slots.old) (S.seen slots.new) span result.0 capacity xs }
     {
         let full = span.len == capacity;
         let end = slots.place_after(span.start, span.len);

@@ -1,6 +1,7 @@
 //! Filling a ring of a fixed capacity.
-ghost use Rattle.std.specs.Prelude.{◌≡◌, ◌+◌, ◌-◌, ◌<◌, ◌≤◌, [], All, List, MatchResult, length};
+ghost use Rattle.std.specs.Prelude.{◌≡◌, ◌<◌, ◌≤◌, [], List, length};
 ghost use Rattle.std.specs.List.{FoldsTo};
+ghost use Rattle.ringbuffer.specs.Clones.{ClonesOne};
 ghost use Rattle.ringbuffer.specs.View.{after_put, after_puts, after_fill};
 ghost use Rattle.ringbuffer.specs.Layout.{IsLaidOut, LaysOut, view_from};
 
@@ -30,10 +31,8 @@ impl<T: Drop, S: RingSlots<T>> FixedRing<T, S> {
     pub(crate) fn fill_by_clones(&mut self, value: T) -> Result<(), AllocError>
     where
         T: Clone,
-        ensures { (xs : List T) × All (T.is_clone value) xs
-            × MatchResult result (λ _. length xs ≡ S.limit self.old.capacity)
-            (λ _. (length xs < S.limit self.old.capacity) × ¬ (T.is_infallible value))
-            × (self.new ≡ after_fill self.old xs) }
+        ensures { ClonesOne T.is_clone T.is_infallible value (S.limit self.old.capacity) result
+            (λ xs. self.new ≡ after_fill self.old xs) }
     {
         let capacity = self.slots.limit();
         Self::empty_slots(&mut self.slots, self.span);
@@ -57,10 +56,8 @@ impl<T: Drop, S: RingSlots<T>> FixedRing<T, S> {
     pub(crate) fn fill_by_clones_owned(mut self, value: T) -> (Self, Result<(), AllocError>)
     where
         T: Clone,
-        ensures { (xs : List T) × All (T.is_clone value) xs
-            × MatchResult result.1 (λ _. length xs ≡ S.limit self.capacity)
-            (λ _. (length xs < S.limit self.capacity) × ¬ (T.is_infallible value))
-            × (result.0 ≡ after_fill self xs) }
+        ensures { ClonesOne T.is_clone T.is_infallible value (S.limit self.capacity) result.1
+            (λ xs. result.0 ≡ after_fill self xs) }
     {
         let filled = self.fill_by_clones(value);
         (self, filled)
@@ -91,11 +88,9 @@ impl<T: Drop, S: RingSlots<T>> FixedRing<T, S> {
         requires laid_out { IsLaidOut (S.seen slots.old) 0 }
         requires empty { (view_from (S.seen slots.old) 0).items ≡ [] }
         requires room { count ≤ length (S.seen slots.old).slots }
-        ensures { (xs : List T) × All (T.is_clone value) xs × (length xs ≡ result.0)
-            × MatchResult result.1 (λ _. result.0 ≡ count)
-            (λ _. (result.0 < count) × ¬ (T.is_infallible value))
-            × LaysOut (S.seen slots.old) (S.seen slots.new) 0
-            (after_puts xs (view_from (S.seen slots.old) 0)) }
+        ensures { ClonesOne T.is_clone T.is_infallible value count result.1
+            (λ xs. (length xs ≡ result.0) × LaysOut (S.seen slots.old) (S.seen slots.new) 0
+            (after_puts xs (view_from (S.seen slots.old) 0))) }
     {
         for len in 0..count {
             let Ok(item) = value.clone() else {

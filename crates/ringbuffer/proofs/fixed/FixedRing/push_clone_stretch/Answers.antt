@@ -33,4 +33,4 @@ returns-clause-pushed g c =
     let is = rw (done, lays_out.same_size) at c.after_pushes.ensures in
     let many = long_then (g.S.RingSlots.seen c.args.slots.now) c.args.span c.args.capacity c.loop-i.i ys long c.requires.len (nat_eq c.args.span.len c.args.capacity) (λ is. grind arith)
     (λ no. omega (arith, c.pushes_to_end-free.ensures.room no, c.requires.within, c.min-count.ensures, done)) in
-    (ys, omega (arith, long, done), rw long clones, tt, rw is lays_out, rw is many)
+    (ys, omega (arith, long, done), rw long clones, tt, (rw is lays_out, rw is many))

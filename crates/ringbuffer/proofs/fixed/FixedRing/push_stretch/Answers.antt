@@ -42,4 +42,4 @@ returns g c =
     let is = rw (done, lays_out.same_size) at c.after_pushes-now-2.ensures in
     let many = long_then (g.S.RingSlots.seen c.args.slots.now) c.args.span c.args.capacity c.loop-i.i xs long c.requires.can_push.len (nat_eq c.args.span.len c.args.capacity) (λ is. grind arith)
     (λ no. omega (arith, c.pushes_to_end-count.ensures.room no, c.requires.can_push.within, done)) in
-    (xs, given, rw is lays_out, rw is many)
+    (xs, given, (rw is lays_out, rw is many))
