@@ -56,6 +56,7 @@ fn pass_pieces_down<X>(items: &mut [X], piece: usize, item: X) -> X
     pass_piece_down(&mut items[..end], passed)
 }
 
+// Does what `pass_down` does, by a rotation.
 #[inline]
 fn pass_piece_down<X>(items: &mut [X], item: X) -> X
     ensures { passed_down item result items.old items.new }

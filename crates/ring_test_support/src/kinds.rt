@@ -52,8 +52,8 @@ pub fn first_fault_on(
 ) -> Option<(Kind, Fault)> {
     for kind in kinds {
         let fault = match kind {
-            Kind::Array => fault_in_array_of(alloc, capacity, calls),
-            Kind::Copies => fault_of_copies_in(alloc, capacity, calls),
+            Kind::Array => fault_in_array(alloc, capacity, calls),
+            Kind::Copies => fault_of_copies(alloc, capacity, calls),
             Kind::Heap => fault_on_heap(alloc, capacity, calls),
             Kind::Growable => fault_of_growable(alloc, capacity, calls),
         };
@@ -82,46 +82,46 @@ fn fault_of<R: DoubleEndedRing<i64>>(alloc: Global, ring: &mut R, calls: Calls) 
     Some((0, 0, step, outcome))
 }
 
-// Does the calls on an array ring. Its capacity is a parameter, so that the rings of all capacities are one type to prove.
-fn fault_in_array<const CAP: usize>(alloc: Global, calls: Calls) -> Option<Fault>
+// Does the calls on an array ring. Its capacity is a parameter, so that rings of all capacities are one type to prove.
+fn fault_in_array_of<const CAP: usize>(alloc: Global, calls: Calls) -> Option<Fault>
     requires some { 0 < CAP }
     requires few { CAP < 1000 }
 {
     fault_of(alloc, &mut ConstGenericRingBuffer::<i64, CAP>::new(), calls)
 }
 
-fn fault_in_array_of(alloc: Global, capacity: usize, calls: Calls) -> Option<Fault> {
+fn fault_in_array(alloc: Global, capacity: usize, calls: Calls) -> Option<Fault> {
     match capacity {
-        1 => fault_in_array::<1>(alloc, calls),
-        2 => fault_in_array::<2>(alloc, calls),
-        3 => fault_in_array::<3>(alloc, calls),
-        4 => fault_in_array::<4>(alloc, calls),
-        5 => fault_in_array::<5>(alloc, calls),
-        8 => fault_in_array::<8>(alloc, calls),
-        13 => fault_in_array::<13>(alloc, calls),
-        16 => fault_in_array::<16>(alloc, calls),
-        50 => fault_in_array::<50>(alloc, calls),
+        1 => fault_in_array_of::<1>(alloc, calls),
+        2 => fault_in_array_of::<2>(alloc, calls),
+        3 => fault_in_array_of::<3>(alloc, calls),
+        4 => fault_in_array_of::<4>(alloc, calls),
+        5 => fault_in_array_of::<5>(alloc, calls),
+        8 => fault_in_array_of::<8>(alloc, calls),
+        13 => fault_in_array_of::<13>(alloc, calls),
+        16 => fault_in_array_of::<16>(alloc, calls),
+        50 => fault_in_array_of::<50>(alloc, calls),
         _ => Some(NO_RING),
     }
 }
 
-fn fault_of_copies<const CAP: usize>(alloc: Global, calls: Calls) -> Option<Fault>
+fn fault_of_copies_in<const CAP: usize>(alloc: Global, calls: Calls) -> Option<Fault>
     requires some { 0 < CAP }
     requires few { CAP < 1000 }
 {
     fault_of(alloc, &mut CopyRingBuffer::<i64, CAP>::new(0), calls)
 }
 
-fn fault_of_copies_in(alloc: Global, capacity: usize, calls: Calls) -> Option<Fault> {
+fn fault_of_copies(alloc: Global, capacity: usize, calls: Calls) -> Option<Fault> {
     match capacity {
-        1 => fault_of_copies::<1>(alloc, calls),
-        2 => fault_of_copies::<2>(alloc, calls),
-        3 => fault_of_copies::<3>(alloc, calls),
-        4 => fault_of_copies::<4>(alloc, calls),
-        5 => fault_of_copies::<5>(alloc, calls),
-        8 => fault_of_copies::<8>(alloc, calls),
-        13 => fault_of_copies::<13>(alloc, calls),
-        16 => fault_of_copies::<16>(alloc, calls),
+        1 => fault_of_copies_in::<1>(alloc, calls),
+        2 => fault_of_copies_in::<2>(alloc, calls),
+        3 => fault_of_copies_in::<3>(alloc, calls),
+        4 => fault_of_copies_in::<4>(alloc, calls),
+        5 => fault_of_copies_in::<5>(alloc, calls),
+        8 => fault_of_copies_in::<8>(alloc, calls),
+        13 => fault_of_copies_in::<13>(alloc, calls),
+        16 => fault_of_copies_in::<16>(alloc, calls),
         _ => Some(NO_RING),
     }
 }
