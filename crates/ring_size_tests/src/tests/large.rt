@@ -1,4 +1,4 @@
-//! Blocks and sources of more items than a small bound would let through.
+//! Blocks and sources of more items than a small bound would let through, and many items that one more passes along.
 
 use super::{Numbered, assert_equal, assert_numbers, block};
 use ringbuffer::{
@@ -144,5 +144,69 @@ fn many_items_are_cloned_onto_a_ring(rt: HostRuntime) -> Result<(), AllocError> 
     }
     assert_numbers(&rt, &other, 0, 2000);
     assert_equal(&rt, other.capacity(), 2000);
+    Ok(())
+}
+
+// How many items the rings below have overwritten, so that those held go round the slots.
+const OVERWRITTEN: usize = 700;
+
+/// Asserts that the ring holds `count` items numbered in order, but for the one that stood at an index.
+fn assert_lacks<T: Numbered, R: RingBuffer<T>>(
+    rt: &impl Abort,
+    ring: &R,
+    count: usize,
+    index: usize,
+) {
+    assert_equal(rt, ring.len(), count.saturating_sub(1));
+    for i in 0..ring.len() {
+        let number = if i < index { i } else { i.saturating_add(1) };
+        let wanted = T::numbered(OVERWRITTEN.saturating_add(number));
+        if ring.get(i).copied() != Some(wanted) {
+            panic!(rt; "{i} items come before one of another number");
+        }
+    }
+}
+
+/// Takes an item out of a full ring and puts it in again, with a few items before it or after it, with as many as make a
+/// piece, with one or two more, and with more than two pieces. These pass along.
+fn assert_passes_along<T: Numbered, R: DoubleEndedRing<T> + Drop>(
+    rt: &(impl Abort + AllocGlobal),
+    mut ring: R,
+    count: usize,
+    piece: usize,
+) {
+    let all = count.saturating_add(OVERWRITTEN);
+    let items = block::<T>(rt.alloc(), 0, all).expect(rt, "memory");
+    assert!(rt; ring.extend(items.iter().copied()).is_ok());
+    for (pieces, more) in [(0, 5), (1, 0), (1, 1), (1, 2), (2, 3)] {
+        let beside = piece.saturating_mul(pieces).saturating_add(more);
+        for index in [beside, count.saturating_sub(beside).saturating_sub(1)] {
+            let item = T::numbered(OVERWRITTEN.saturating_add(index));
+            assert_equal(rt, ring.remove(index), Some(item));
+            assert_lacks(rt, &ring, count, index);
+            assert!(rt; index <= ring.len());
+            assert!(rt; ring.insert(index, item).is_ok());
+            assert_numbers(rt, &ring, OVERWRITTEN, count);
+        }
+    }
+}
+
+#[test]
+fn many_items_pass_along(rt: HostRuntime) -> Result<(), AllocError> {
+    assert_passes_along(
+        &rt,
+        AllocRingBuffer::<u64>::new(rt.alloc(), 2001)?,
+        2001,
+        256,
+    );
+    assert_passes_along(
+        &rt,
+        AllocRingBuffer::<u8>::new(rt.alloc(), 9000)?,
+        9000,
+        2048,
+    );
+    assert_passes_along(&rt, CopyRingBuffer::<u64, 2001>::new(0), 2001, 256);
+    assert_passes_along(&rt, CopyRingBuffer::<u8, 9000>::new(0), 9000, 2048);
+    assert_passes_along(&rt, ConstGenericRingBuffer::<u64, 2001>::new(), 2001, 256);
     Ok(())
 }
