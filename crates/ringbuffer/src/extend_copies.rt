@@ -1,7 +1,7 @@
 //! Copies of a slice's items put into a ring of a fixed capacity.
 ghost use Rattle.std.specs.Prelude.{◌≡◌, ◌+◌, ◌%◌, ◌<◌, ◌≤◌, ℕ, length, min};
 ghost use Rattle.ringbuffer.specs.Layout.{IsSpanOf, LaysOut, view_from};
-ghost use Rattle.ringbuffer.specs.View.{after_extend, after_extend_from_slice, after_puts, after_takes};
+ghost use Rattle.ringbuffer.specs.View.{after_extend, after_extend_from_slice, after_push, after_puts, after_takes};
 
 use crate::fixed::{FixedRing, Span};
 use ring_slots::{ArraySlots, CopySlots, HeapSlots, RingSlots};
@@ -75,12 +75,26 @@ impl<T: Copy + Drop, S: TakesCopies<T>> FixedRing<T, S> {
         ensures { self.new ≡ after_extend_from_slice (S.limit self.old.capacity) self.old items.now }
     {
         let capacity = self.slots.limit();
+        if !S::writes_over() && items.len() == 1 {
+            return self.push_one(items[0]);
+        }
         let (_, newest) = items.split_at(items.len().saturating_sub(capacity));
         if S::writes_over() {
             return self.push_over(newest);
         }
         self.keep_newest(capacity - newest.len());
         self.put_all(newest);
+    }
+
+    // Pushes an item, and drops the one that it overwrites. No stretch of slots is found. Out of line, so that many items
+    // take no step for it.
+    #[inline(never)]
+    fn push_one(&mut self, item: T)
+        ensures { self.new ≡ after_push (S.limit self.old.capacity) self.old item }
+    {
+        let capacity = self.slots.limit();
+        let (span, _) = Self::push_from(&mut self.slots, self.span, item, capacity);
+        self.span = span;
     }
 
     // Pushes copies of the items of a slice, which are no more than the limit.
@@ -168,6 +182,10 @@ impl<T: Copy + Drop, S: TakesCopies<T>> FixedRing<T, S> {
         let end = slots.place_after(span.start, span.len);
         let (first, second) = items.split_at(items.len().min(slots.size() - end));
         Self::put_copies(slots, span, end, first);
+        // A slice that ends before the last slot takes no step for a second stretch.
+        if second.is_empty() {
+            return;
+        }
         let start = span.start;
         let len = span.len + first.len();
         Self::put_copies(slots, Span { start, len }, 0, second);

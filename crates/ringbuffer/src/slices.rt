@@ -94,11 +94,31 @@ impl<T: Copy + Drop, S: RingSlots<T>> FixedRing<T, S> {
         ensures copied { output.new ≡ take result self.old.items ++ drop result output.old }
         ensures rest { self.new ≡ after_takes result self.old }
     {
+        // Out of an array of Options few items are copied one at a time below.
+        if S::goes_by_stretch() && output.len() == 1 {
+            return self.dequeue_one_into(output);
+        }
         let count = self.copy_to_slice(output);
         if count > 0 {
             self.drop_first(count);
         }
         count
+    }
+
+    // Takes out the oldest item, if there is one, and copies it to the only place of a slice. No row is found. Out of line,
+    // so that many items take no step for it.
+    #[inline(never)]
+    fn dequeue_one_into(&mut self, output: &mut [T]) -> usize
+        requires { length output.old ≡ 1 }
+        ensures count { result ≡ min (length output.old) (length self.old.items) }
+        ensures copied { output.new ≡ take result self.old.items ++ drop result output.old }
+        ensures rest { self.new ≡ after_takes result self.old }
+    {
+        let Some(item) = self.take_first() else {
+            return 0;
+        };
+        output[0] = item;
+        1
     }
 }
 
