@@ -86,8 +86,8 @@ impl<T: Copy + Drop, S: TakesCopies<T>> FixedRing<T, S> {
         self.put_all(newest);
     }
 
-    // Pushes an item, and drops the one that it overwrites. No stretch of slots is found. Out of line, so that many items
-    // take no step for it.
+    // Pushes an item, and drops the one that it overwrites: to find its stretch of slots would cost more. Out of line, so
+    // that many items pay for a look at their number alone.
     #[inline(never)]
     fn push_one(&mut self, item: T)
         ensures { self.new ≡ after_push (S.limit self.old.capacity) self.old item }
@@ -182,7 +182,7 @@ impl<T: Copy + Drop, S: TakesCopies<T>> FixedRing<T, S> {
         let end = slots.place_after(span.start, span.len);
         let (first, second) = items.split_at(items.len().min(slots.size() - end));
         Self::put_copies(slots, span, end, first);
-        // A slice that ends before the last slot takes no step for a second stretch.
+        // A slice that ends before the last slot has no second stretch.
         if second.is_empty() {
             return;
         }

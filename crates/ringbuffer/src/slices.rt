@@ -94,7 +94,7 @@ impl<T: Copy + Drop, S: RingSlots<T>> FixedRing<T, S> {
         ensures copied { output.new ≡ take result self.old.items ++ drop result output.old }
         ensures rest { self.new ≡ after_takes result self.old }
     {
-        // Out of an array of Options few items are copied one at a time below.
+        // An array of Options shows no rows, and copies few items one at a time as it is.
         if S::goes_by_stretch() && output.len() == 1 {
             return self.dequeue_one_into(output);
         }
@@ -105,8 +105,8 @@ impl<T: Copy + Drop, S: RingSlots<T>> FixedRing<T, S> {
         count
     }
 
-    // Takes out the oldest item, if there is one, and copies it to the only place of a slice. No row is found. Out of line,
-    // so that many items take no step for it.
+    // Takes out the oldest item, if there is one, and puts it into the only place of a slice: to find the rows would cost
+    // more. Out of line, so that many items pay for a look at their number alone.
     #[inline(never)]
     fn dequeue_one_into(&mut self, output: &mut [T]) -> usize
         requires { length output.old ≡ 1 }

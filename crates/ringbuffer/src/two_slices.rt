@@ -27,7 +27,7 @@ fn copy_slice<T: Copy>(items: &[T], output: &mut [T]) -> usize
     ensures copied { output.new ≡ take result items.now ++ drop result output.old }
 {
     let count = items.len().min(output.len());
-    // The second of two slices often has none to copy, and a call for none takes as long as one for a few.
+    // The second of two slices is often empty, and to copy nothing takes as long as to copy a few items.
     if count > 0 {
         output[..count].copy_from_slice(&items[..count]);
     }
