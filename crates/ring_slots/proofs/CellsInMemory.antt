@@ -6,7 +6,7 @@ use denote.Struct.CellSteps.{only_out, BackTo}
 use denote.Struct.Declared.{shape}
 use denote.Struct.Members.{Member}
 use denote.Struct.Recorded.{Recorded-part}
-use Rattle.ring_slots.specs.contracts.array.Cells.{the_row, the_type}
+use Rattle.ring_slots.specs.contracts.cells.Cells.{the_row, the_type}
 
 module _ (X : RattleType) (n : ℕ) where
   -- the types of an element, of the length and of the struct, as the code of a function has them

@@ -6,7 +6,7 @@ use Rattle.std.proofs.lemmas.List.{append_assoc, drop-map, map-append, take-map,
 use Rattle.std.specs.List.{length_refill}
 use Rattle.std.specs.Prelude.{◌-◌}
 use Rattle.ring_slots.specs.Slots.{IsEmptyStretch, brought_first, moved_down}
-use Rattle.ring_slots.specs.array.Lends.{rewritten}
+use Rattle.ring_slots.specs.cells.Lends.{rewritten}
 use Rattle.ring_slots.specs.copies.Shown.{shown}
 use Rattle.ring_slots.proofs.Shown.{cells-long, in_three, length-over, length-shown, shown-append, shown-filled, shown-front, stretch-marked, stretch-shown}
 

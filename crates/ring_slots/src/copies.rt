@@ -2,11 +2,10 @@
 ghost use Rattle.std.specs.Prelude.{◌≡◌, ◌<◌, length, map, replicate, None, Some, refl};
 ghost use Rattle.ring_slots.specs.Slots.{HoldsStretch, IsEmptyStretch, IsFullStretch, changed, with_items, with_refilled};
 
-use crate::array::Cells;
+use crate::cells::Cells;
 use crate::change_count::ChangeCount;
 use crate::lends_rows::LendsRows;
 use crate::marks::Marks;
-use crate::place::{wrapped, wrapped_after, wrapped_next};
 use crate::slots::RingSlots;
 use std::marker::Model;
 
@@ -147,21 +146,6 @@ impl<T: Copy, const CAP: usize> RingSlots<T> for CopySlots<T, CAP> {
     #[inline]
     fn limit(&self) -> usize {
         self.size()
-    }
-
-    #[inline]
-    fn place(&self, start: usize, k: usize) -> usize {
-        wrapped(start, k, self.size())
-    }
-
-    #[inline]
-    fn place_after(&self, start: usize, len: usize) -> usize {
-        wrapped_after(start, len, self.size())
-    }
-
-    #[inline]
-    fn next(&self, place: usize) -> usize {
-        wrapped_next(place, self.size())
     }
 
     #[inline]

@@ -202,6 +202,12 @@ impl<T> RingSlots<T> for HeapSlots<T> {
         masked(start, k, self.mask)
     }
 
+    // A mask needs no test of whether the items fill all slots.
+    #[inline]
+    fn place_after(&self, start: usize, len: usize) -> usize {
+        masked(start, len, self.mask)
+    }
+
     #[inline]
     fn next(&self, place: usize) -> usize {
         masked(place, 1, self.mask)

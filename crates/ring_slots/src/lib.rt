@@ -4,6 +4,7 @@
 mod array;
 mod block;
 mod bytes;
+mod cells;
 mod change_count;
 mod copies;
 mod full;

@@ -3,6 +3,8 @@ ghost use Rattle.std.specs.Prelude.{◌≡◌, ◌+◌, ◌%◌, ◌<◌, ◌≤
 ghost use Rattle.std.specs.Borrow.{Lends, sem};
 ghost use Rattle.ring_slots.specs.Slots.{HoldsStretch, IsEmptyAt, IsFullAt, IsFullStretch, Passes, Slots, changed, passed_down, passed_up, slot_at};
 
+use crate::place::{wrapped, wrapped_after, wrapped_next};
+
 /// A row of slots, with a way to count places round it.
 pub trait RingSlots<T>: Sized {
     ghost seen: { Self → Slots T };
@@ -27,25 +29,34 @@ pub trait RingSlots<T>: Sized {
         ensures within { limit (seen self.now).capacity ≤ length (seen self.now).slots };
 
     /// Returns the place `k` after `start`, counted round the slots.
+    #[inline]
     fn place(&self, start: usize, k: usize) -> usize
         requires start { start < length (seen self.now).slots }
         requires count { k ≤ length (seen self.now).slots }
-        ensures { result ≡ (start + k) % length (seen self.now).slots };
+        ensures { result ≡ (start + k) % length (seen self.now).slots }
+    {
+        wrapped(start, k, self.size())
+    }
 
     /// Returns the place after `len` items that begin at `start`, counted round the slots. It is `start` where they
     /// fill all slots.
+    #[inline]
     fn place_after(&self, start: usize, len: usize) -> usize
         requires start { start < length (seen self.now).slots }
         requires len { len ≤ length (seen self.now).slots }
         ensures { result ≡ (start + len) % length (seen self.now).slots }
     {
-        self.place(start, len)
+        wrapped_after(start, len, self.size())
     }
 
     /// Returns the place after a place, counted round the slots.
+    #[inline]
     fn next(&self, place: usize) -> usize
         requires place { place < length (seen self.now).slots }
-        ensures { result ≡ (place + 1) % length (seen self.now).slots };
+        ensures { result ≡ (place + 1) % length (seen self.now).slots }
+    {
+        wrapped_next(place, self.size())
+    }
 
     /// Puts an item into an empty slot.
     fn put(&mut self, place: usize, item: T)

@@ -1,7 +1,7 @@
 use Rattle.std.proofs.Common.{rules}
 use Rattle.std.specs.List.{length_refill}
 use Rattle.ring_slots.proofs.Words.{◌≡◌, ◌+◌, ◌≤◌, refl, sym, ◌∙◌, arith, length, take, cut, HoldsStretch, refill, refilled}
-use Rattle.ring_slots.specs.array.Lends.{rewritten}
+use Rattle.ring_slots.specs.cells.Lends.{rewritten}
 use Rattle.ring_slots.specs.copies.Shown.{shown}
 use Rattle.ring_slots.proofs.Shown.{cells-long, length-over, length-shown, stretch-shown}
 use Rattle.ring_slots.proofs.ShownMoved.{shown-rewritten}

@@ -1,7 +1,7 @@
 use Rattle.ring_slots.proofs.Words.{◌≡◌, ◌+◌, arith}
 use Rattle.std.specs.Prelude.{◌-◌}
 use Rattle.std.proofs.lemmas.Grind.{common_steps}
-use Rattle.ring_slots.proofs.array.Cells.pass_down.Goals as goal
+use Rattle.ring_slots.proofs.cells.Cells.pass_down.Goals as goal
 
 -- The part that was lent is these.
 pub returns : goal.returns

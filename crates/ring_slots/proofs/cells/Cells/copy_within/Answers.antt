@@ -1,5 +1,5 @@
 use Rattle.ring_slots.proofs.Shown.{in_three}
-use Rattle.ring_slots.proofs.array.Cells.copy_within.Goals as goal
+use Rattle.ring_slots.proofs.cells.Cells.copy_within.Goals as goal
 
 -- Nothing moves.
 pub returns-then-from-to : goal.returns-then-from-to

@@ -9,10 +9,10 @@ use borrow.Table.Elements.{at, at_mul, cut_app, join_app}
 use Rattle.ring_slots.proofs.CellsInMemory.{Cells, Element, Shell, arguments, array_in, array_out}
 use Rattle.ring_slots.proofs.SlotsInMemory.{product_is}
 use Rattle.std.specs.Prelude.{◌-◌}
-use Rattle.ring_slots.specs.array.Lends.{rewritten}
-use Rattle.ring_slots.specs.contracts.array.Cells.slice_mut as contract
-use Rattle.ring_slots.proofs.array.Cells.slice_mut.Statement.{statement}
-use Rattle.ring_slots.proofs.array.Cells.slice_mut.Code as code
+use Rattle.ring_slots.specs.cells.Lends.{rewritten}
+use Rattle.ring_slots.specs.contracts.cells.Cells.slice_mut as contract
+use Rattle.ring_slots.proofs.cells.Cells.slice_mut.Statement.{statement}
+use Rattle.ring_slots.proofs.cells.Cells.slice_mut.Code as code
 
 module _ (X : RattleType) (n : ℕ) (L : Laws X) {M : Type 1} {𝓤 : Ura M} (𝓛 : Logic 𝓤) (b o from len : ℕ) (d : (Cells X n).Denot) where
   abbrev R : RattleType

@@ -8,9 +8,9 @@ use borrow.Table.Elements.{at, at_mul, focus_any}
 use Rattle.ring_slots.proofs.CellsInMemory.{Cells, Element, Shell, arguments, array_in, array_out}
 use Rattle.ring_slots.proofs.Filled.{first_item}
 use Rattle.ring_slots.proofs.SlotsInMemory.{product_is}
-use Rattle.ring_slots.specs.contracts.array.Cells.at_mut as contract
-use Rattle.ring_slots.proofs.array.Cells.at_mut.Statement.{statement}
-use Rattle.ring_slots.proofs.array.Cells.at_mut.Code as code
+use Rattle.ring_slots.specs.contracts.cells.Cells.at_mut as contract
+use Rattle.ring_slots.proofs.cells.Cells.at_mut.Statement.{statement}
+use Rattle.ring_slots.proofs.cells.Cells.at_mut.Code as code
 
 module _ (X : RattleType) (n : ℕ) (L : Laws X) {M : Type 1} {𝓤 : Ura M} (𝓛 : Logic 𝓤) (b o m : ℕ) (d : (Cells X n).Denot) where
   abbrev R : RattleType
