@@ -103,6 +103,11 @@ fn push_newest<R: RingBuffer<u8>>(ring: &mut R, bytes: &[u8])
         ≡ keep_last (R.limit ring.old) (R.contents ring.old ++ bytes.now) }
     ensures limit { R.limit ring.new ≡ R.limit ring.old }
 {
+    // A single byte needs no source to be made of it.
+    if let [byte] = bytes {
+        let _ = ring.push(*byte);
+        return;
+    }
     let (_, newest) = bytes.split_at(bytes.len().saturating_sub(ring.capacity()));
     if newest.len() < FEW {
         let _ = ring.extend(newest.iter().copied());

@@ -59,7 +59,7 @@ fn the_last_bytes_are_kept(rt: HostRuntime) {
 }
 
 // A piece of 16 bytes and more goes in at once, a shorter one byte by byte.
-const PIECES: &[usize] = &[1, 14, 15, 16, 17, 15, 16, 39, 40, 41, 16, 100, 7];
+const PIECES: &[usize] = &[1, 14, 15, 16, 17, 15, 16, 39, 40, 41, 16, 100, 1, 7];
 
 #[test]
 fn pieces_of_any_length_go_to_a_log(rt: HostRuntime) {
