@@ -7,6 +7,7 @@ pub mod commands;
 pub mod counted;
 pub mod drought;
 pub mod kinds;
+pub mod numbered;
 pub mod rings;
 pub mod steps;
 mod walks;

@@ -1,46 +1,11 @@
 //! Blocks of items into growable rings and out of them, on both sides of each choice that lengths and sizes make there.
 
 use super::assert_equal;
+use ring_test_support::numbered::{Numbered, block};
 use ringbuffer::{DoubleEndedRing, GrowableAllocRingBuffer, RingBuffer};
 use std::alloc::{AllocError, Global};
-use std::fmt::Debug;
 use std::io::BufRead;
 use std::process::Abort;
-
-/// An item by its number.
-trait Numbered: Copy + PartialEq + Debug + Drop {
-    fn numbered(number: usize) -> Self;
-}
-
-impl Numbered for u8 {
-    fn numbered(number: usize) -> u8 {
-        // No block's length is a multiple of 251, so an item that lies in another's place is seen.
-        (number % 251) as u8
-    }
-}
-
-impl Numbered for u64 {
-    fn numbered(number: usize) -> u64 {
-        number as u64
-    }
-}
-
-/// All alike, and no bytes.
-impl Numbered for () {
-    fn numbered(_number: usize) {}
-}
-
-impl Numbered for [u8; 17] {
-    fn numbered(number: usize) -> [u8; 17] {
-        [(number % 251) as u8; 17]
-    }
-}
-
-impl Numbered for [u64; 2] {
-    fn numbered(number: usize) -> [u64; 2] {
-        [number as u64; 2]
-    }
-}
 
 /// How many items a ring holds, and how many come or go: few or not, as many as it holds or not, and more or fewer than half
 /// of what it holds.
@@ -77,15 +42,6 @@ const ROWS: &[(usize, usize)] = &[
     (300, 299),
     (300, 300),
 ];
-
-/// Returns the items with the numbers from `first` on.
-fn block<T: Numbered>(alloc: Global, first: usize, count: usize) -> Result<Vec<T>, AllocError> {
-    let mut items = Vec::with_capacity(alloc, count)?;
-    for i in 0..count {
-        items.push(T::numbered(first.saturating_add(i)))?;
-    }
-    Ok(items)
-}
 
 /// Returns a ring of the items with the numbers from 0 on, which began with room for `capacity` items and as many pushes
 /// and dequeues as `start` says.

@@ -1,9 +1,12 @@
 //! Blocks and sources of more items than a small bound would let through, and many items that one more passes along.
 
-use super::{Numbered, assert_equal, assert_numbers, block};
+use super::{assert_equal, assert_numbers};
+use ring_slots::RingSlots;
+use ring_test_support::numbered::{Numbered, block};
+use ring_test_support::{on_array, on_copies, on_growable, on_heap};
 use ringbuffer::{
-    AllocRingBuffer, ConstGenericRingBuffer, CopyRingBuffer, DoubleEndedRing,
-    GrowableAllocRingBuffer, RingBuffer,
+    AllocRingBuffer, ConstGenericRingBuffer, CopyRingBuffer, DoubleEndedRing, FixedRing,
+    GrowableAllocRingBuffer, RingBuffer, TakesCopies,
 };
 use std::alloc::{AllocError, Global};
 use std::io::Write;
@@ -70,25 +73,11 @@ fn a_source_may_give_more_than_it_promises(rt: HostRuntime) -> Result<(), AllocE
     Ok(())
 }
 
-/// Brings more items than fit to a fixed ring: the last stay.
-fn assert_keeps_last<R: DoubleEndedRing<u64> + Drop>(
-    rt: &(impl Abort + AllocGlobal),
-    mut ring: R,
-    limit: usize,
-) {
-    let items = block::<u64>(rt.alloc(), 0, 150_000).expect(rt, "memory");
-    assert!(rt; ring.extend(items.iter().copied()).is_ok());
-    assert_numbers(rt, &ring, 150_000usize.saturating_sub(limit), limit);
-    let copies = ring.to_vec(rt.alloc()).expect(rt, "memory");
-    assert_equal(rt, copies.len(), limit);
-}
-
 #[test]
-fn fixed_rings_keep_the_last_of_many_items(rt: HostRuntime) -> Result<(), AllocError> {
-    assert_keeps_last(&rt, AllocRingBuffer::new(rt.alloc(), 70_001)?, 70_001);
-    assert_keeps_last(&rt, ConstGenericRingBuffer::<u64, 2001>::new(), 2001);
-    assert_keeps_last(&rt, CopyRingBuffer::<u64, 2001>::new(0), 2001);
-    Ok(())
+fn fixed_rings_keep_the_last_of_many_items(rt: HostRuntime) {
+    on_heap!(&rt, 70_001, assert_keeps_last, 70_001);
+    on_array!(&rt, 2001, assert_keeps_last, 2001);
+    on_copies!(&rt, 2001, assert_keeps_last, 2001);
 }
 
 #[test]
@@ -109,24 +98,12 @@ fn slices_longer_than_a_fixed_ring_are_taken(rt: HostRuntime) -> Result<(), Allo
     Ok(())
 }
 
-/// Writes many bytes at once, of which a ring takes as many as there is room for.
-fn assert_written<R: RingBuffer<u8> + Write + Drop>(
-    rt: &(impl Abort + AllocGlobal),
-    mut ring: R,
-    wanted: usize,
-) {
-    let bytes = block::<u8>(rt.alloc(), 0, 100_000).expect(rt, "memory");
-    assert_equal(rt, ring.write(bytes.as_slice()).ok(), Some(wanted));
-    assert_numbers(rt, &ring, 0, wanted);
-}
-
 #[test]
-fn many_bytes_are_written_at_once(rt: HostRuntime) -> Result<(), AllocError> {
-    assert_written(&rt, AllocRingBuffer::new(rt.alloc(), 70_001)?, 70_001);
-    assert_written(&rt, ConstGenericRingBuffer::<u8, 2001>::new(), 2001);
-    assert_written(&rt, CopyRingBuffer::<u8, 2001>::new(0), 2001);
-    assert_written(&rt, GrowableAllocRingBuffer::new(rt.alloc()), 100_000);
-    Ok(())
+fn many_bytes_are_written_at_once(rt: HostRuntime) {
+    on_heap!(&rt, 70_001, assert_written, 70_001);
+    on_array!(&rt, 2001, assert_written, 2001);
+    on_copies!(&rt, 2001, assert_written, 2001);
+    on_growable!(&rt, 0, assert_written, 100_000);
 }
 
 #[test]
@@ -150,63 +127,76 @@ fn many_items_are_cloned_onto_a_ring(rt: HostRuntime) -> Result<(), AllocError> 
 // How many items the rings below have overwritten, so that those held go round the slots.
 const OVERWRITTEN: usize = 700;
 
-/// Asserts that the ring holds `count` items numbered in order, but for the one that stood at an index.
-fn assert_lacks<T: Numbered, R: RingBuffer<T>>(
-    rt: &impl Abort,
-    ring: &R,
-    count: usize,
-    index: usize,
-) {
-    assert_equal(rt, ring.len(), count.saturating_sub(1));
-    for i in 0..ring.len() {
-        let number = if i < index { i } else { i.saturating_add(1) };
-        let wanted = T::numbered(OVERWRITTEN.saturating_add(number));
-        if ring.get(i).copied() != Some(wanted) {
-            panic!(rt; "{i} items come before one of another number");
-        }
-    }
-}
-
-/// Takes an item out of a full ring and puts it in again, with a few items before it or after it, with as many as make a
-/// piece, with one or two more, and with more than two pieces. These pass along.
-fn assert_passes_along<T: Numbered, R: DoubleEndedRing<T> + Drop>(
-    rt: &(impl Abort + AllocGlobal),
-    mut ring: R,
-    count: usize,
-    piece: usize,
-) {
-    let all = count.saturating_add(OVERWRITTEN);
-    let items = block::<T>(rt.alloc(), 0, all).expect(rt, "memory");
-    assert!(rt; ring.extend(items.iter().copied()).is_ok());
-    for (pieces, more) in [(0, 5), (1, 0), (1, 1), (1, 2), (2, 3)] {
-        let beside = piece.saturating_mul(pieces).saturating_add(more);
-        for index in [beside, count.saturating_sub(beside).saturating_sub(1)] {
-            let item = T::numbered(OVERWRITTEN.saturating_add(index));
-            assert_equal(rt, ring.remove(index), Some(item));
-            assert_lacks(rt, &ring, count, index);
-            assert!(rt; index <= ring.len());
-            assert!(rt; ring.insert(index, item).is_ok());
-            assert_numbers(rt, &ring, OVERWRITTEN, count);
-        }
-    }
-}
-
 #[test]
 fn many_items_pass_along(rt: HostRuntime) -> Result<(), AllocError> {
-    assert_passes_along(
-        &rt,
-        AllocRingBuffer::<u64>::new(rt.alloc(), 2001)?,
-        2001,
-        256,
-    );
-    assert_passes_along(
-        &rt,
-        AllocRingBuffer::<u8>::new(rt.alloc(), 9000)?,
-        9000,
-        2048,
-    );
-    assert_passes_along(&rt, CopyRingBuffer::<u64, 2001>::new(0), 2001, 256);
-    assert_passes_along(&rt, CopyRingBuffer::<u8, 9000>::new(0), 9000, 2048);
-    assert_passes_along(&rt, ConstGenericRingBuffer::<u64, 2001>::new(), 2001, 256);
+    AllocRingBuffer::<u64>::new(rt.alloc(), 2001)?.assert_passes_along(&rt, 2001, 256);
+    AllocRingBuffer::<u8>::new(rt.alloc(), 9000)?.assert_passes_along(&rt, 9000, 2048);
+    CopyRingBuffer::<u64, 2001>::new(0).assert_passes_along(&rt, 2001, 256);
+    CopyRingBuffer::<u8, 9000>::new(0).assert_passes_along(&rt, 9000, 2048);
+    ConstGenericRingBuffer::<u64, 2001>::new().assert_passes_along(&rt, 2001, 256);
     Ok(())
 }
+
+/// A ring of words that more items come to than fit.
+trait OfWords: RingBuffer<u64> + Drop {
+    /// Brings more items than fit to a fixed ring: the last stay.
+    fn assert_keeps_last(mut self, rt: &(impl Abort + AllocGlobal), limit: usize) {
+        let items = block::<u64>(rt.alloc(), 0, 150_000).expect(rt, "memory");
+        assert!(rt; self.extend(items.iter().copied()).is_ok());
+        assert_numbers(rt, &self, 150_000usize.saturating_sub(limit), limit);
+        let copies = self.to_vec(rt.alloc()).expect(rt, "memory");
+        assert_equal(rt, copies.len(), limit);
+    }
+}
+
+impl<S: RingSlots<u64>> OfWords for FixedRing<u64, S> {}
+
+/// A ring of bytes that is written to.
+trait OfBytes: RingBuffer<u8> + Write + Drop {
+    /// Writes many bytes at once, of which a ring takes as many as there is room for.
+    fn assert_written(mut self, rt: &(impl Abort + AllocGlobal), wanted: usize) {
+        let bytes = block::<u8>(rt.alloc(), 0, 100_000).expect(rt, "memory");
+        assert_equal(rt, self.write(bytes.as_slice()).ok(), Some(wanted));
+        assert_numbers(rt, &self, 0, wanted);
+    }
+}
+
+impl<S: TakesCopies<u8>> OfBytes for FixedRing<u8, S> {}
+
+impl OfBytes for GrowableAllocRingBuffer<u8> {}
+
+/// A ring of items that pass along.
+trait PassesAlong<T: Numbered>: DoubleEndedRing<T> + Drop {
+    /// Asserts that the ring holds `count` items numbered in order, but for the one that stood at an index.
+    fn assert_lacks(&self, rt: &impl Abort, count: usize, index: usize) {
+        assert_equal(rt, self.len(), count.saturating_sub(1));
+        for i in 0..self.len() {
+            let number = if i < index { i } else { i.saturating_add(1) };
+            let wanted = T::numbered(OVERWRITTEN.saturating_add(number));
+            if self.get(i).copied() != Some(wanted) {
+                panic!(rt; "{i} items come before one of another number");
+            }
+        }
+    }
+
+    /// Takes an item out of a full ring and puts it in again, with a few items before it or after it, with as many as make a
+    /// piece, with one or two more, and with more than two pieces. These pass along.
+    fn assert_passes_along(mut self, rt: &(impl Abort + AllocGlobal), count: usize, piece: usize) {
+        let all = count.saturating_add(OVERWRITTEN);
+        let items = block::<T>(rt.alloc(), 0, all).expect(rt, "memory");
+        assert!(rt; self.extend(items.iter().copied()).is_ok());
+        for (pieces, more) in [(0, 5), (1, 0), (1, 1), (1, 2), (2, 3)] {
+            let beside = piece.saturating_mul(pieces).saturating_add(more);
+            for index in [beside, count.saturating_sub(beside).saturating_sub(1)] {
+                let item = T::numbered(OVERWRITTEN.saturating_add(index));
+                assert_equal(rt, self.remove(index), Some(item));
+                self.assert_lacks(rt, count, index);
+                assert!(rt; index <= self.len());
+                assert!(rt; self.insert(index, item).is_ok());
+                assert_numbers(rt, &self, OVERWRITTEN, count);
+            }
+        }
+    }
+}
+
+impl<T: Numbered, S: RingSlots<T>> PassesAlong<T> for FixedRing<T, S> {}

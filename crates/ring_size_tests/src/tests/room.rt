@@ -1,6 +1,7 @@
 //! The room of growable rings: how it grows, and that it stays.
 
-use super::{assert_equal, assert_numbers, block};
+use super::{assert_equal, assert_numbers};
+use ring_test_support::numbered::block;
 use ringbuffer::{DoubleEndedRing, GrowableAllocRingBuffer, RingBuffer, dequeue_while, retain};
 use std::alloc::AllocError;
 use std::io::BufRead;

@@ -1,7 +1,8 @@
 //! Calls that need one block of memory, where there is one of that size and no other.
 
-use super::{assert_equal, assert_numbers, block};
+use super::{assert_equal, assert_numbers};
 use ring_test_support::drought::Drought;
+use ring_test_support::numbered::block;
 use ringbuffer::{AllocRingBuffer, DoubleEndedRing, GrowableAllocRingBuffer, RingBuffer};
 use std::alloc::AllocError;
 
