@@ -261,7 +261,7 @@ fn matrix_of(sample: i64) -> Matrix {
 }
 
 /// A window of samples, whose answer a walk over them finds too.
-trait Sliding {
+trait Sliding: Drop + Sized {
     type Answer: PartialEq + Debug + Drop;
 
     fn push(&mut self, rt: &impl Abort, sample: i64);
@@ -273,9 +273,44 @@ trait Sliding {
     fn answer(&self) -> Self::Answer;
 
     fn by_walk(samples: &VecDeque<i64>) -> Self::Answer;
+
+    /// After each of 10,000 random calls the window answers what a walk over the last `limit` samples finds. Dequeues keep
+    /// a window that doesn't overwrite to that length.
+    fn assert_agrees_with_walk(
+        mut self,
+        rt: &(impl Abort + AllocGlobal),
+        limit: usize,
+        overwrites: bool,
+    ) {
+        let mut samples = VecDeque::new(rt.alloc());
+        let mut state = 1u64;
+        for step in 0..10_000u32 {
+            let number = next_number(&mut state);
+            if number % 512 == 0 {
+                self.clear();
+                samples.clear();
+            } else if number % 8 == 1 {
+                self.dequeue();
+                let _ = samples.pop_front();
+            } else {
+                // Few numbers, so that many are equal.
+                let sample = ((number / 512) % 16).cast_signed().wrapping_sub(8);
+                if samples.len() >= limit {
+                    if !overwrites {
+                        self.dequeue();
+                    }
+                    let _ = samples.pop_front();
+                }
+                self.push(rt, sample);
+                samples.push_back(sample).expect(rt, "memory");
+            }
+            let wanted = Self::by_walk(&samples);
+            assert_equal(rt, (step, self.answer()), (step, wanted));
+        }
+    }
 }
 
-impl<R: RingBuffer<Candidate<i64>>> Sliding for WindowLeast<i64, Ascending, R> {
+impl<R: RingBuffer<Candidate<i64>> + Drop> Sliding for WindowLeast<i64, Ascending, R> {
     type Answer = Option<i64>;
 
     fn push(&mut self, rt: &impl Abort, sample: i64) {
@@ -299,7 +334,7 @@ impl<R: RingBuffer<Candidate<i64>>> Sliding for WindowLeast<i64, Ascending, R> {
     }
 }
 
-impl<R: RingBuffer<Candidate<i64>>> Sliding for WindowLeast<i64, Descending, R> {
+impl<R: RingBuffer<Candidate<i64>> + Drop> Sliding for WindowLeast<i64, Descending, R> {
     type Answer = Option<i64>;
 
     fn push(&mut self, rt: &impl Abort, sample: i64) {
@@ -323,7 +358,7 @@ impl<R: RingBuffer<Candidate<i64>>> Sliding for WindowLeast<i64, Descending, R> 
     }
 }
 
-impl<R: RingBuffer<i64>> Sliding for WindowTally<i64, Sum, R> {
+impl<R: RingBuffer<i64> + Drop> Sliding for WindowTally<i64, Sum, R> {
     type Answer = i128;
 
     fn push(&mut self, rt: &impl Abort, sample: i64) {
@@ -351,7 +386,7 @@ impl<R: RingBuffer<i64>> Sliding for WindowTally<i64, Sum, R> {
     }
 }
 
-impl<R: RingBuffer<Kept<Matrix>>> Sliding for WindowFold<Matrix, R> {
+impl<R: RingBuffer<Kept<Matrix>> + Drop> Sliding for WindowFold<Matrix, R> {
     type Answer = Matrix;
 
     fn push(&mut self, rt: &impl Abort, sample: i64) {
@@ -379,86 +414,34 @@ impl<R: RingBuffer<Kept<Matrix>>> Sliding for WindowFold<Matrix, R> {
     }
 }
 
-/// After each of 10,000 random calls the window answers what a walk over the last `limit` samples finds. Dequeues keep a
-/// window that doesn't overwrite to that length.
-fn agree_with_a_walk<W: Sliding + Drop>(
-    rt: &(impl Abort + AllocGlobal),
-    mut window: W,
-    limit: usize,
-    overwrites: bool,
-) {
-    let mut samples = VecDeque::new(rt.alloc());
-    let mut state = 1u64;
-    for step in 0..10_000u32 {
-        let number = next_number(&mut state);
-        if number % 512 == 0 {
-            window.clear();
-            samples.clear();
-        } else if number % 8 == 1 {
-            window.dequeue();
-            let _ = samples.pop_front();
-        } else {
-            // Few numbers, so that many are equal.
-            let sample = ((number / 512) % 16).cast_signed().wrapping_sub(8);
-            if samples.len() >= limit {
-                if !overwrites {
-                    window.dequeue();
-                }
-                let _ = samples.pop_front();
-            }
-            window.push(rt, sample);
-            samples.push_back(sample).expect(rt, "memory");
-        }
-        assert_equal(rt, (step, window.answer()), (step, W::by_walk(&samples)));
-    }
-}
-
 #[test]
 fn random_calls_on_array_rings(rt: HostRuntime) {
-    agree_with_a_walk(&rt, ConstGenericWindowMin::<i64, 7>::in_array(), 7, true);
-    agree_with_a_walk(&rt, ConstGenericWindowMax::<i64, 7>::in_array(), 7, true);
-    let sums = WindowSum::new(ConstGenericRingBuffer::<i64, 7>::new());
-    agree_with_a_walk(&rt, sums, 7, true);
-    agree_with_a_walk(
-        &rt,
-        ConstGenericWindowFold::<Matrix, 7>::in_array(),
-        7,
-        true,
-    );
+    ConstGenericWindowMin::<i64, 7>::in_array().assert_agrees_with_walk(&rt, 7, true);
+    ConstGenericWindowMax::<i64, 7>::in_array().assert_agrees_with_walk(&rt, 7, true);
+    WindowSum::new(ConstGenericRingBuffer::<i64, 7>::new()).assert_agrees_with_walk(&rt, 7, true);
+    ConstGenericWindowFold::<Matrix, 7>::in_array().assert_agrees_with_walk(&rt, 7, true);
 }
 
 #[test]
 fn random_calls_on_heap_rings(rt: HostRuntime) {
     let least = AllocWindowMin::<i64>::on_heap(rt.alloc(), 20).expect(&rt, "memory");
-    agree_with_a_walk(&rt, least, 20, true);
+    least.assert_agrees_with_walk(&rt, 20, true);
     let greatest = AllocWindowMax::<i64>::on_heap(rt.alloc(), 20).expect(&rt, "memory");
-    agree_with_a_walk(&rt, greatest, 20, true);
+    greatest.assert_agrees_with_walk(&rt, 20, true);
     let ring = AllocRingBuffer::<i64>::new(rt.alloc(), 20).expect(&rt, "memory");
-    agree_with_a_walk(&rt, WindowSum::new(ring), 20, true);
+    WindowSum::new(ring).assert_agrees_with_walk(&rt, 20, true);
     let product = AllocWindowFold::<Matrix>::on_heap(rt.alloc(), 20).expect(&rt, "memory");
-    agree_with_a_walk(&rt, product, 20, true);
+    product.assert_agrees_with_walk(&rt, 20, true);
 }
 
 #[test]
 fn random_calls_on_growable_rings(rt: HostRuntime) {
-    agree_with_a_walk(
-        &rt,
-        GrowableAllocWindowMin::<i64>::growable(rt.alloc()),
-        20,
-        false,
-    );
-    agree_with_a_walk(
-        &rt,
-        GrowableAllocWindowMax::<i64>::growable(rt.alloc()),
-        20,
-        false,
-    );
-    let sums = WindowSum::new(GrowableAllocRingBuffer::<i64>::new(rt.alloc()));
-    agree_with_a_walk(&rt, sums, 20, false);
-    agree_with_a_walk(
-        &rt,
-        GrowableAllocWindowFold::<Matrix>::growable(rt.alloc()),
-        20,
-        false,
-    );
+    let least = GrowableAllocWindowMin::<i64>::growable(rt.alloc());
+    least.assert_agrees_with_walk(&rt, 20, false);
+    let greatest = GrowableAllocWindowMax::<i64>::growable(rt.alloc());
+    greatest.assert_agrees_with_walk(&rt, 20, false);
+    let ring = GrowableAllocRingBuffer::<i64>::new(rt.alloc());
+    WindowSum::new(ring).assert_agrees_with_walk(&rt, 20, false);
+    let product = GrowableAllocWindowFold::<Matrix>::growable(rt.alloc());
+    product.assert_agrees_with_walk(&rt, 20, false);
 }

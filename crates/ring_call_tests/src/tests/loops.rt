@@ -1,67 +1,27 @@
 //! Callers that loop over the items of a ring.
 
 use super::assert_equal;
+use ring_slots::RingSlots;
+use ring_test_support::{on_array, on_growable, on_heap};
 use ring_uses::loops::{Event, forget_before, halve, has_above, third_newest};
 use ring_uses::walks::{greatest_mark, silence};
-use ringbuffer::{
-    AllocRingBuffer, ConstGenericRingBuffer, CopyRingBuffer, GrowableAllocRingBuffer, RingBuffer,
-};
+use ringbuffer::{AllocRingBuffer, CopyRingBuffer, FixedRing, GrowableAllocRingBuffer, RingBuffer};
 use std::alloc::AllocError;
 use std::process::Abort;
 
-/// Asserts that halving and searching reach each reading of a ring, whose items go round its end where it has one.
-fn assert_readings<R: RingBuffer<u32> + Drop>(rt: &impl Abort, mut ring: R) {
-    halve(&mut ring);
-    assert!(rt; ring.is_empty() && !has_above(&ring, 0));
-    for reading in [100, 100, 8, 5, 1, 0] {
-        assert!(rt; ring.push(reading).is_ok());
-    }
-    for _ in 4..ring.len() {
-        ring.skip();
-    }
-    assert!(rt; ring.len() > 2);
-    assert_equal(rt, third_newest(&ring).copied(), Some(5));
-    assert!(rt; has_above(&ring, 7) && !has_above(&ring, 8));
-    halve(&mut ring);
-    for reading in [Some(4), Some(2), Some(0), Some(0), None] {
-        assert_equal(rt, ring.dequeue(), reading);
-    }
+#[test]
+fn readings_are_halved_and_searched(rt: HostRuntime) {
+    on_array!(&rt, 4, assert_readings);
+    on_heap!(&rt, 4, assert_readings);
+    on_growable!(&rt, 4, assert_readings);
+    CopyRingBuffer::<u32, 4>::new(7).assert_readings(&rt);
 }
 
 #[test]
-fn readings_are_halved_and_searched(rt: HostRuntime) -> Result<(), AllocError> {
-    assert_readings(&rt, ConstGenericRingBuffer::<u32, 4>::new());
-    assert_readings(&rt, CopyRingBuffer::<u32, 4>::new(7));
-    assert_readings(&rt, AllocRingBuffer::new(rt.alloc(), 4)?);
-    assert_readings(&rt, GrowableAllocRingBuffer::new(rt.alloc()));
-    Ok(())
-}
-
-/// Asserts how many events before a time are forgotten, and which stay.
-fn assert_events<R: RingBuffer<Event> + Drop>(rt: &impl Abort, mut ring: R) {
-    assert_equal(rt, forget_before(&mut ring, 9), 0);
-    for time in [3, 5, 9, 4] {
-        assert!(rt; ring.push(Event { time, code: 0 }).is_ok());
-    }
-    assert_equal(rt, forget_before(&mut ring, 3), 0);
-    assert_equal(rt, forget_before(&mut ring, 6), 2);
-    for time in [9, 4] {
-        assert!(rt; ring.front().is_some_and(|event| event.time == time));
-        ring.skip();
-    }
-    for time in [1, 2] {
-        assert!(rt; ring.push(Event { time, code: 0 }).is_ok());
-    }
-    assert_equal(rt, forget_before(&mut ring, 3), 2);
-    assert!(rt; ring.is_empty());
-}
-
-#[test]
-fn old_events_are_forgotten(rt: HostRuntime) -> Result<(), AllocError> {
-    assert_events(&rt, ConstGenericRingBuffer::<Event, 4>::new());
-    assert_events(&rt, AllocRingBuffer::new(rt.alloc(), 4)?);
-    assert_events(&rt, GrowableAllocRingBuffer::new(rt.alloc()));
-    Ok(())
+fn old_events_are_forgotten(rt: HostRuntime) {
+    on_array!(&rt, 4, assert_events);
+    on_heap!(&rt, 4, assert_events);
+    on_growable!(&rt, 4, assert_events);
 }
 
 #[test]
@@ -78,3 +38,55 @@ fn marks_are_compared_and_cleared(rt: HostRuntime) -> Result<(), AllocError> {
     }
     Ok(())
 }
+
+/// A ring of readings.
+trait OfReadings: RingBuffer<u32> + Drop {
+    /// Asserts that halving and searching reach each reading of a ring, whose items go round its end where it has one.
+    fn assert_readings(mut self, rt: &impl Abort) {
+        halve(&mut self);
+        assert!(rt; self.is_empty() && !has_above(&self, 0));
+        for reading in [100, 100, 8, 5, 1, 0] {
+            assert!(rt; self.push(reading).is_ok());
+        }
+        for _ in 4..self.len() {
+            self.skip();
+        }
+        assert!(rt; self.len() > 2);
+        assert_equal(rt, third_newest(&self).copied(), Some(5));
+        assert!(rt; has_above(&self, 7) && !has_above(&self, 8));
+        halve(&mut self);
+        for reading in [Some(4), Some(2), Some(0), Some(0), None] {
+            assert_equal(rt, self.dequeue(), reading);
+        }
+    }
+}
+
+impl<S: RingSlots<u32>> OfReadings for FixedRing<u32, S> {}
+
+impl OfReadings for GrowableAllocRingBuffer<u32> {}
+
+/// A ring of events.
+trait OfEvents: RingBuffer<Event> + Drop {
+    /// Asserts how many events before a time are forgotten, and which stay.
+    fn assert_events(mut self, rt: &impl Abort) {
+        assert_equal(rt, forget_before(&mut self, 9), 0);
+        for time in [3, 5, 9, 4] {
+            assert!(rt; self.push(Event { time, code: 0 }).is_ok());
+        }
+        assert_equal(rt, forget_before(&mut self, 3), 0);
+        assert_equal(rt, forget_before(&mut self, 6), 2);
+        for time in [9, 4] {
+            assert!(rt; self.front().is_some_and(|event| event.time == time));
+            self.skip();
+        }
+        for time in [1, 2] {
+            assert!(rt; self.push(Event { time, code: 0 }).is_ok());
+        }
+        assert_equal(rt, forget_before(&mut self, 3), 2);
+        assert!(rt; self.is_empty());
+    }
+}
+
+impl<S: RingSlots<Event>> OfEvents for FixedRing<Event, S> {}
+
+impl OfEvents for GrowableAllocRingBuffer<Event> {}

@@ -1,40 +1,50 @@
 //! Callers of filters.
 
 use super::assert_equal;
+use ring_slots::RingSlots;
 use ring_uses::selection::{drop_above_in_array, drop_above_in_growable, drop_above_on_heap};
-use ringbuffer::{AllocRingBuffer, ConstGenericRingBuffer, GrowableAllocRingBuffer, RingBuffer};
+use ringbuffer::{
+    AllocRingBuffer, ConstGenericRingBuffer, FixedRing, GrowableAllocRingBuffer, RingBuffer,
+};
 use std::alloc::AllocError;
 use std::process::Abort;
-
-/// Pushes four readings. None is refused.
-fn push_readings<R: RingBuffer<u32>>(rt: &impl Abort, ring: &mut R) {
-    for reading in [3, 9, 4, 8] {
-        assert!(rt; ring.push(reading).is_ok());
-    }
-}
-
-/// Asserts that the ring holds the readings up to 4 and no other.
-fn assert_low<R: RingBuffer<u32> + Drop>(rt: &impl Abort, mut ring: R) {
-    for reading in [Some(3), Some(4), None] {
-        assert_equal(rt, ring.dequeue(), reading);
-    }
-}
 
 #[test]
 fn readings_above_a_limit_are_dropped(rt: HostRuntime) -> Result<(), AllocError> {
     let mut heap = AllocRingBuffer::new(rt.alloc(), 4)?;
-    push_readings(&rt, &mut heap);
+    heap.push_readings(&rt);
     drop_above_on_heap(&mut heap, 4);
-    assert_low(&rt, heap);
+    heap.assert_low(&rt);
 
     let mut array = ConstGenericRingBuffer::<u32, 4>::new();
-    push_readings(&rt, &mut array);
+    array.push_readings(&rt);
     drop_above_in_array(&mut array, 4);
-    assert_low(&rt, array);
+    array.assert_low(&rt);
 
     let mut growable = GrowableAllocRingBuffer::new(rt.alloc());
-    push_readings(&rt, &mut growable);
+    growable.push_readings(&rt);
     drop_above_in_growable(&mut growable, 4);
-    assert_low(&rt, growable);
+    growable.assert_low(&rt);
     Ok(())
 }
+
+/// A ring of readings.
+trait OfReadings: RingBuffer<u32> + Drop {
+    /// Pushes four readings. None is refused.
+    fn push_readings(&mut self, rt: &impl Abort) {
+        for reading in [3, 9, 4, 8] {
+            assert!(rt; self.push(reading).is_ok());
+        }
+    }
+
+    /// Asserts that the ring holds the readings up to 4 and no other.
+    fn assert_low(mut self, rt: &impl Abort) {
+        for reading in [Some(3), Some(4), None] {
+            assert_equal(rt, self.dequeue(), reading);
+        }
+    }
+}
+
+impl<S: RingSlots<u32>> OfReadings for FixedRing<u32, S> {}
+
+impl OfReadings for GrowableAllocRingBuffer<u32> {}

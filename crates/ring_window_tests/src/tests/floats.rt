@@ -2,9 +2,13 @@
 
 ghost use Rattle.std.specs.Prelude.{◌<◌};
 
-use super::{Sliding, agree_with_a_walk, assert_equal};
-use ring_test_support::{on_each_of_any, on_fixed_of_any};
-use ringbuffer::{ConstGenericRingBuffer, CopyRingBuffer, RingBuffer, RingBufferExt};
+use super::{Sliding, assert_equal};
+use ring_slots::RingSlots;
+use ring_test_support::{on_array, on_growable, on_heap};
+use ringbuffer::{
+    ConstGenericRingBuffer, CopyRingBuffer, FixedRing, GrowableAllocRingBuffer, RingBuffer,
+    RingBufferExt,
+};
 use std::collections::VecDeque;
 use std::num::nearest_i64_to_f64;
 use std::process::Abort;
@@ -20,114 +24,33 @@ fn plain<const CAP: usize>() -> CopyRingBuffer<Summand, CAP>
     CopyRingBuffer::new(Summand::new(7.0))
 }
 
-/// A window of three: each sum is of the samples held, and so what is large leaves no trace.
-fn assert_sums<R: RingBuffer<Summand> + Drop>(rt: &impl Abort, ring: R) {
-    let mut window = WindowFloatSum::new(ring);
-    assert_equal(rt, (window.mean(), window.is_empty()), (None, true));
-    for (sample, gives_way, sum) in [
-        (0.5, None, 0.5),
-        (0.25, None, 0.75),
-        (1e300, None, 1e300),
-        (2.0, Some(0.5), 1e300),
-        (4.0, Some(0.25), 1e300),
-        (-7.5, Some(1e300), -1.5),
-        (8.0, Some(2.0), 4.5),
-    ] {
-        assert_equal(rt, window.push(sample), Ok(gives_way));
-        assert_equal(rt, window.sum(), sum);
-    }
-    assert_equal(rt, (window.mean(), window.len()), (Some(1.5), 3));
-    assert_equal(rt, (window.dequeue(), window.sum()), (Some(4.0), 0.5));
-    assert_equal(rt, window.mean(), Some(0.25));
-    window.clear();
-    assert_equal(rt, (window.mean(), window.dequeue()), (None, None));
-    assert_equal(rt, (window.push(3.0), window.sum()), (Ok(None), 3.0));
-    let ring = window.into_ring();
-    assert_equal(rt, ring.front().map(|s| s.sample()), Some(3.0));
-}
-
 #[test]
 fn sums_of_the_last_three(rt: HostRuntime) {
-    on_fixed_of_any!(&rt, 3, assert_sums);
-    assert_sums(&rt, plain::<3>());
-}
-
-/// A window of two: an infinity and a NaN leave the sum with their samples, and so does what both infinities make.
-fn assert_recovers<R: RingBuffer<Summand> + Drop>(rt: &impl Abort, ring: R) {
-    let mut window = WindowFloatSum::new(ring);
-    for (sample, sum) in [
-        (1.0, Some(1.0)),
-        (f64::INFINITY, Some(f64::INFINITY)),
-        (2.0, Some(f64::INFINITY)),
-        (3.0, Some(5.0)),
-        (f64::NAN, None),
-        (4.0, None),
-        (5.0, Some(9.0)),
-        (f64::INFINITY, Some(f64::INFINITY)),
-        (f64::NEG_INFINITY, None),
-        (6.0, Some(f64::NEG_INFINITY)),
-        (7.0, Some(13.0)),
-    ] {
-        if window.len() == 2 {
-            window.dequeue();
-        }
-        assert_equal(rt, window.push(sample), Ok(None));
-        let found = window.sum();
-        assert_equal(rt, if found.is_nan() { None } else { Some(found) }, sum);
-    }
-    assert_equal(rt, window.mean(), Some(6.5));
+    on_array!(&rt, 3, assert_sums);
+    on_heap!(&rt, 3, assert_sums);
+    plain::<3>().assert_sums(&rt);
 }
 
 #[test]
 fn infinities_leave_with_their_samples(rt: HostRuntime) {
-    on_each_of_any!(&rt, 2, assert_recovers);
-    assert_recovers(&rt, plain::<2>());
-}
-
-/// Zeros keep the sign that std's sum gives them: no sample is -0.0, and so are negative zeros alone.
-fn assert_signs_of_zeros<R: RingBuffer<Summand> + Drop>(rt: &impl Abort, ring: R) {
-    let mut window = WindowFloatSum::new(ring);
-    assert_equal(rt, 1.0 / window.sum(), f64::NEG_INFINITY);
-    for (sample, inverse) in [
-        (-0.0, f64::NEG_INFINITY),
-        (-0.0, f64::NEG_INFINITY),
-        (0.0, f64::INFINITY),
-        (-0.0, f64::INFINITY),
-        (-0.0, f64::NEG_INFINITY),
-        (-0.0, f64::NEG_INFINITY),
-    ] {
-        let _ = window.push(sample);
-        assert_equal(rt, (window.sum(), 1.0 / window.sum()), (0.0, inverse));
-    }
-    let _ = (window.dequeue(), window.dequeue());
-    assert_equal(rt, 1.0 / window.sum(), f64::NEG_INFINITY);
+    on_array!(&rt, 2, assert_recovers);
+    on_heap!(&rt, 2, assert_recovers);
+    on_growable!(&rt, 2, assert_recovers);
+    plain::<2>().assert_recovers(&rt);
 }
 
 #[test]
 fn zeros_keep_their_sign(rt: HostRuntime) {
-    on_fixed_of_any!(&rt, 2, assert_signs_of_zeros);
-    assert_signs_of_zeros(&rt, plain::<2>());
-}
-
-/// Ten tenths: the first time as std adds them up, and never farther from 1 however many have passed.
-fn assert_ten_tenths<R: RingBuffer<Summand> + Drop>(rt: &impl Abort, ring: R) {
-    let mut window = WindowFloatSum::new(ring);
-    for _ in 0..10 {
-        let _ = window.push(0.1);
-    }
-    assert_equal(rt, window.sum(), 0.9999999999999999);
-    assert_equal(rt, window.mean(), Some(0.09999999999999999));
-    for _ in 0..10_000 {
-        let _ = window.push(0.1);
-        let sum = window.sum();
-        assert!(rt; 0.9999999999999999 <= sum && sum <= 1.0);
-    }
+    on_array!(&rt, 2, assert_signs_of_zeros);
+    on_heap!(&rt, 2, assert_signs_of_zeros);
+    plain::<2>().assert_signs_of_zeros(&rt);
 }
 
 #[test]
 fn ten_tenths_dont_drift(rt: HostRuntime) {
-    on_fixed_of_any!(&rt, 10, assert_ten_tenths);
-    assert_ten_tenths(&rt, plain::<10>());
+    on_array!(&rt, 10, assert_ten_tenths);
+    on_heap!(&rt, 10, assert_ten_tenths);
+    plain::<10>().assert_ten_tenths(&rt);
 }
 
 /// A ring that holds samples already is summed at once. It lends them as they are.
@@ -145,7 +68,100 @@ fn windows_over_rings_that_hold_samples(rt: HostRuntime) {
     }
 }
 
-impl<R: RingBuffer<Summand>> Sliding for WindowFloatSum<R> {
+/// A ring of the samples of a window that sums them.
+trait OfSummands: RingBuffer<Summand> + Drop {
+    /// A window of three: each sum is of the samples held, and so what is large leaves no trace.
+    fn assert_sums(self, rt: &impl Abort) {
+        let mut window = WindowFloatSum::new(self);
+        assert_equal(rt, (window.mean(), window.is_empty()), (None, true));
+        for (sample, gives_way, sum) in [
+            (0.5, None, 0.5),
+            (0.25, None, 0.75),
+            (1e300, None, 1e300),
+            (2.0, Some(0.5), 1e300),
+            (4.0, Some(0.25), 1e300),
+            (-7.5, Some(1e300), -1.5),
+            (8.0, Some(2.0), 4.5),
+        ] {
+            assert_equal(rt, window.push(sample), Ok(gives_way));
+            assert_equal(rt, window.sum(), sum);
+        }
+        assert_equal(rt, (window.mean(), window.len()), (Some(1.5), 3));
+        assert_equal(rt, (window.dequeue(), window.sum()), (Some(4.0), 0.5));
+        assert_equal(rt, window.mean(), Some(0.25));
+        window.clear();
+        assert_equal(rt, (window.mean(), window.dequeue()), (None, None));
+        assert_equal(rt, (window.push(3.0), window.sum()), (Ok(None), 3.0));
+        let ring = window.into_ring();
+        assert_equal(rt, ring.front().map(|s| s.sample()), Some(3.0));
+    }
+
+    /// A window of two: an infinity and a NaN leave the sum with their samples, and so does what both infinities make.
+    fn assert_recovers(self, rt: &impl Abort) {
+        let mut window = WindowFloatSum::new(self);
+        for (sample, sum) in [
+            (1.0, Some(1.0)),
+            (f64::INFINITY, Some(f64::INFINITY)),
+            (2.0, Some(f64::INFINITY)),
+            (3.0, Some(5.0)),
+            (f64::NAN, None),
+            (4.0, None),
+            (5.0, Some(9.0)),
+            (f64::INFINITY, Some(f64::INFINITY)),
+            (f64::NEG_INFINITY, None),
+            (6.0, Some(f64::NEG_INFINITY)),
+            (7.0, Some(13.0)),
+        ] {
+            if window.len() == 2 {
+                window.dequeue();
+            }
+            assert_equal(rt, window.push(sample), Ok(None));
+            let found = window.sum();
+            assert_equal(rt, if found.is_nan() { None } else { Some(found) }, sum);
+        }
+        assert_equal(rt, window.mean(), Some(6.5));
+    }
+
+    /// Zeros keep the sign that std's sum gives them: no sample is -0.0, and so are negative zeros alone.
+    fn assert_signs_of_zeros(self, rt: &impl Abort) {
+        let mut window = WindowFloatSum::new(self);
+        assert_equal(rt, 1.0 / window.sum(), f64::NEG_INFINITY);
+        for (sample, inverse) in [
+            (-0.0, f64::NEG_INFINITY),
+            (-0.0, f64::NEG_INFINITY),
+            (0.0, f64::INFINITY),
+            (-0.0, f64::INFINITY),
+            (-0.0, f64::NEG_INFINITY),
+            (-0.0, f64::NEG_INFINITY),
+        ] {
+            let _ = window.push(sample);
+            assert_equal(rt, (window.sum(), 1.0 / window.sum()), (0.0, inverse));
+        }
+        let _ = (window.dequeue(), window.dequeue());
+        assert_equal(rt, 1.0 / window.sum(), f64::NEG_INFINITY);
+    }
+
+    /// Ten tenths: the first time as std adds them up, and never farther from 1 however many have passed.
+    fn assert_ten_tenths(self, rt: &impl Abort) {
+        let mut window = WindowFloatSum::new(self);
+        for _ in 0..10 {
+            let _ = window.push(0.1);
+        }
+        assert_equal(rt, window.sum(), 0.9999999999999999);
+        assert_equal(rt, window.mean(), Some(0.09999999999999999));
+        for _ in 0..10_000 {
+            let _ = window.push(0.1);
+            let sum = window.sum();
+            assert!(rt; 0.9999999999999999 <= sum && sum <= 1.0);
+        }
+    }
+}
+
+impl<S: RingSlots<Summand>> OfSummands for FixedRing<Summand, S> {}
+
+impl OfSummands for GrowableAllocRingBuffer<Summand> {}
+
+impl<R: RingBuffer<Summand> + Drop> Sliding for WindowFloatSum<R> {
     type Answer = f64;
 
     fn push(&mut self, rt: &impl Abort, sample: i64) {
@@ -175,10 +191,10 @@ impl<R: RingBuffer<Summand>> Sliding for WindowFloatSum<R> {
 /// Sums of small whole numbers are exact, whichever are added first.
 #[test]
 fn random_whole_numbers(rt: HostRuntime) {
-    agree_with_a_walk(&rt, ConstGenericWindowFloatSum::<7>::in_array(), 7, true);
-    agree_with_a_walk(&rt, CopyWindowFloatSum::<12>::in_plain_array(), 12, true);
+    ConstGenericWindowFloatSum::<7>::in_array().assert_agrees_with_walk(&rt, 7, true);
+    CopyWindowFloatSum::<12>::in_plain_array().assert_agrees_with_walk(&rt, 12, true);
     let sums = AllocWindowFloatSum::on_heap(rt.alloc(), 20).expect(&rt, "memory");
-    agree_with_a_walk(&rt, sums, 20, true);
+    sums.assert_agrees_with_walk(&rt, 20, true);
     let sums = GrowableAllocWindowFloatSum::growable(rt.alloc());
-    agree_with_a_walk(&rt, sums, 20, false);
+    sums.assert_agrees_with_walk(&rt, 20, false);
 }
