@@ -1,11 +1,11 @@
 //! A script: a command a line, its words apart by ASCII white space. It is read from its front, a line at a time.
 
-ghost use Rattle.std.specs.Prelude.{◌≡◌, ℤ, ◌+◌, codes, List, Err, Ok, ◌-◌, ◌<◌, ◌≤◌, IfErr, IfOk, IfSome, IsTrue, MatchOption, None, OnOk, Some, length};
+ghost use Rattle.std.specs.Prelude.{◌≡◌, ℤ, ◌+◌, codes, count_by, List, Err, Ok, ◌-◌, ◌<◌, ◌≤◌, IfErr, IfOk, IfSome, IsTrue, MatchOption, None, OnOk, Some, length};
 ghost use Rattle.ringrun_service.specs.Fault.{NamesALine};
 ghost use Rattle.ringrun_service.specs.Line.{IsLine};
 ghost use Rattle.ringrun_service.specs.Parsing.{CommandAt, HasNoCommand, NumbersAt, after_blanks, after_end, after_name, number_at};
 ghost use Rattle.ringrun_service.specs.Rest.{IsRest, NamesFirstBad, next_number, script_left};
-ghost use Rattle.ringrun_service.specs.Script.{is_blank, script_of, with_front};
+ghost use Rattle.ringrun_service.specs.Script.{is_blank, is_line_feed, script_of, with_front};
 ghost use Rattle.ringbuffer.specs.declared.Command.{Command};
 
 use crate::fault::Fault;
@@ -116,12 +116,22 @@ impl<'a> Script<'a> {
         ensures { result ≡ Fault.NotACommand (next_number self.now) }
     {
         let read = self.text.len().saturating_sub(self.rest.len());
-        let before = self.text[..read]
-            .iter()
-            .filter(|byte| **byte == b'\n')
-            .count();
-        Fault::NotACommand { line: before + 1 }
+        Fault::NotACommand {
+            line: count_line_feeds(&self.text[..read]) + 1,
+        }
     }
+}
+
+/// Returns how many line feeds `text` has. No branch depends on a byte, so the compiler counts many at once.
+fn count_line_feeds(text: &[u8]) -> usize
+    ensures count { result ≡ count_by is_line_feed text.now }
+    ensures within { result ≤ length text.now }
+{
+    let mut count = 0;
+    for byte in text {
+        count += usize::from(*byte == b'\n');
+    }
+    count
 }
 
 /// Returns the command that begins `text`, if one does that is no extension, and what follows the words that belong to it.

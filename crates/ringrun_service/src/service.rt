@@ -153,9 +153,13 @@ fn run_script<R: MakesRoom>(ring: &mut R, alloc: Global, input: &[u8]) -> Result
     ensures faults { IfErr result IsInScript }
 {
     let mut script = Script::new(input);
-    let text = run_lines(ring, alloc, &mut script);
-    script.check()?;
-    text
+    match run_lines(ring, alloc, &mut script) {
+        Err(Fault::NoMemory) => {
+            script.check()?;
+            Err(Fault::NoMemory)
+        }
+        text => text,
+    }
 }
 
 /// Returns the text that the replies of `ring` to `script` make. Each line is run as it is read, so that no command and no
