@@ -12,6 +12,9 @@ use crate::fault::Fault;
 use decimal::read_decimal;
 use ringbuffer::Command;
 
+// As many bytes have at most as many line feeds as a byte counts.
+const BLOCK: usize = 255;
+
 /// What the next line of a script is.
 #[derive(Drop)]
 pub enum Line<'a> {
@@ -122,14 +125,31 @@ impl<'a> Script<'a> {
     }
 }
 
-/// Returns how many line feeds `text` has. No branch depends on a byte, so the compiler counts many at once.
+/// Returns how many line feeds `text` has.
 fn count_line_feeds(text: &[u8]) -> usize
     ensures count { result ≡ count_by is_line_feed text.now }
     ensures within { result ≤ length text.now }
 {
     let mut count = 0;
-    for byte in text {
-        count += usize::from(*byte == b'\n');
+    let mut rest = text;
+    while !rest.is_empty() {
+        let (block, after) = rest.split_at(rest.len().min(BLOCK));
+        count += usize::from(count_in_block(block));
+        rest = after;
+    }
+    count
+}
+
+/// Returns how many line feeds `block` has. Its count is a byte, and no branch depends on a byte, so the compiler counts 16
+/// bytes at once.
+#[inline]
+fn count_in_block(block: &[u8]) -> u8
+    requires { length block.now ≤ 255 }
+    ensures { result ≡ count_by is_line_feed block.now }
+{
+    let mut count = 0;
+    for byte in block {
+        count += u8::from(*byte == b'\n');
     }
     count
 }

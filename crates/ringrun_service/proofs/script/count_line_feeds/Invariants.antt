@@ -1,7 +1,13 @@
--- So far the bytes that were passed are counted.
-use Rattle.std.proofs.Common.{◌≡◌, take, count_by}
+-- What is counted so far, with what the rest has, is what the text has.
+use Rattle.std.proofs.Common.{◌≡◌, ◌+◌, ◌≤◌, length, count_by}
 use Rattle.ringrun_service.specs.Script.{is_line_feed}
 use Rattle.ringrun_service.proofs.script.count_line_feeds.Given as goal
 
-abbrev pub invariant-loop-byte : goal.invariant-loop-byte
-invariant-loop-byte l = l.count ≡ count_by is_line_feed (take l.byte-index l.text)
+abbrev pub invariant-loop-rest : goal.invariant-loop-rest
+invariant-loop-rest l = record {
+  count : l.count + count_by is_line_feed l.rest ≡ count_by is_line_feed l.text;
+  within : length l.rest ≤ length l.text;
+}
+
+abbrev pub decreases-loop-rest : goal.decreases-loop-rest
+decreases-loop-rest l = length l.rest
