@@ -1,4 +1,4 @@
--- What stands while the items of a ring are asked about in turn, and those picked come after the others.
+-- What stands while the items of a ring are asked about in turn.
 use Rattle.ring_core.proofs.Words.{◌≡◌, ℕ, ◌+◌, ◌<◌, ◌≤◌, Bool, true, false, List, [], ◌∷◌, ◌++◌, length, drop, slice_get, Option, None, Some, IsSome, refl, sym, ap, ◌∙◌, append-nil, append_assoc, arith, length-append, IsWithin, keep_last}
 use Rattle.std.specs.List.{items_where_true}
 use Rattle.std.specs.List.Retain.{IsFiltered, ReturnsInTurn}
@@ -47,8 +47,8 @@ module _ {A P : Type 0} (R : P → A → Bool → P → Type 0) where
   returns-push p q u (c ∷ bs) [] b x same told more = absurd told
   returns-push p q u (c ∷ bs) (y ∷ xs) b x same told more = (told.0, told.1, returns-push told.0 q u bs xs b x (omega arith) told.2 more)
 
-  -- of the items `old` the first ones were asked about, by a test that was p and is q, and those picked lie after the others
-  pub record Picks (p : P) (old now : List A) (q : P) (turns : ℕ) : Type 0 where
+  -- the first of the items `old` were asked about in turn, by a test that was p and is q
+  pub record Asks (p : P) (old : List A) (q : P) (turns : ℕ) : Type 0 where
     pub asked : List A
     pub rest : List A
     pub answers : List Bool
@@ -56,52 +56,87 @@ module _ {A P : Type 0} (R : P → A → Bool → P → Type 0) where
     pub counted : length asked ≡ turns
     pub answered : length answers ≡ length asked
     pub told : ReturnsInTurn R p answers asked q
-    pub left : now ≡ rest ++ items_where_true answers asked
+
+  abbrev pub asks_none : (p : P) (old : List A) → Asks p old p 0
+  asks_none p old = record { asked = []; rest = old; answers = []; parts = refl; counted = refl; answered = refl; told = refl }
+
+  -- the items picked so far
+  abbrev pub picked : {p q : P} {old : List A} {turns : ℕ} → Asks p old q turns → List A
+  picked at = items_where_true at.answers at.asked
+
+  module _ {p q : P} {old : List A} {turns : ℕ} (at : Asks p old q turns) where
+    pub picked_few : length (picked at) ≤ turns
+    picked_few = let few = pick-few at.answers at.asked in omega (arith, few, at.counted)
+
+    pub some_left : turns < length old → 0 < length at.rest
+    some_left more = omega (arith, at.counted, ap length at.parts, length-append at.asked at.rest)
+
+    pub none_left : length old ≤ turns → at.rest ≡ []
+    none_left all = nothing_in at.rest (omega (arith, at.counted, ap length at.parts, length-append at.asked at.rest))
+
+    -- all were asked about
+    pub asks_all : length old ≤ turns → IsFiltered R p old (picked at)
+    asks_all all =
+        let old_is : old ≡ at.asked = at.parts ∙ ap (λ l. at.asked ++ l) (none_left all) ∙ append-nil at.asked in
+        rw old_is (at.answers, q, at.answered, at.told, refl)
+
+    -- x is asked about next
+    module _ (x : A) (next : at.rest ≡ x ∷ drop 1 at.rest) where
+      pub parts_next : old ≡ at.asked ++ x ∷ drop 1 at.rest
+      parts_next = at.parts ∙ ap (λ l. at.asked ++ l) next
+
+      pub asks_more : (b : Bool) (u : P) → R q x b u → Asks p old u (turns + 1)
+      asks_more b u answer = record {
+        asked = at.asked ++ x ∷ [];
+        rest = drop 1 at.rest;
+        answers = at.answers ++ b ∷ [];
+        parts = parts_next ∙ sym (append_assoc at.asked (x ∷ []) (drop 1 at.rest));
+        counted = omega (arith, at.counted, length-append at.asked (x ∷ []));
+        answered = omega (arith, at.answered, length-append at.asked (x ∷ []), length-append at.answers (b ∷ []));
+        told = returns-push p q u at.answers at.asked b x at.answered at.told answer;
+      }
+
+      pub rest_more : (b : Bool) (u : P) (answer : R q x b u) → (asks_more b u answer).rest ≡ drop 1 at.rest
+      unfolding asks_more
+      rest_more b u answer = refl
+
+      pub picked_more : (b : Bool) (u : P) (answer : R q x b u) → picked (asks_more b u answer) ≡ picked at ++ items_where_true (b ∷ []) (x ∷ [])
+      unfolding asks_more
+      picked_more b u answer = pick-push at.answers at.asked b x at.answered
+
+  -- those picked lie after the others
+  pub record Picks (p : P) (old now : List A) (q : P) (turns : ℕ) : Type 0 where
+    pub asks : Asks p old q turns
+    pub left : now ≡ asks.rest ++ picked asks
 
   pub nothing_asked : (p : P) (old : List A) → Picks p old old p 0
-  nothing_asked p old =
-      record { asked = []; rest = old; answers = []; parts = refl; counted = refl; answered = refl; told = refl; left = sym (append-nil old) }
+  nothing_asked p old = record { asks = asks_none p old; left = sym (append-nil old) }
 
   module _ {p q : P} {old now : List A} {turns : ℕ} (at : Picks p old now q turns) where
     -- while not all were asked about, there is a first item
     pub first_is_some : turns < length old → IsSome (slice_get now 0)
-    first_is_some more = rw at.left (some_first at.rest _ (omega (arith, at.counted, ap length at.parts, length-append at.asked at.rest)))
+    first_is_some more = rw at.left (some_first at.asks.rest _ (some_left at.asks more))
 
     -- all were asked about
     pub all_asked : length old ≤ turns → IsFiltered R p old now
-    all_asked all =
-        let none : at.rest ≡ [] = nothing_in at.rest (omega (arith, at.counted, ap length at.parts, length-append at.asked at.rest)) in
-        let old_is : old ≡ at.asked = at.parts ∙ ap (λ l. at.asked ++ l) none ∙ append-nil at.asked in
-        rw old_is (at.answers, q, at.answered, at.told, at.left ∙ ap (λ l. l ++ items_where_true at.answers at.asked) none)
+    all_asked all = rw (at.left, none_left at.asks all) (asks_all at.asks all)
 
     -- x is the next item, which is taken out and asked about
     module _ (more : turns < length old) (x : A) (first : slice_get now 0 ≡ Some x) where
       abbrev others : List A
-      others = drop 1 at.rest
+      others = drop 1 at.asks.rest
 
-      abbrev picked : List A
-      picked = items_where_true at.answers at.asked
+      next : at.asks.rest ≡ x ∷ others
+      next = next_in at.asks.rest (picked at.asks) x (some_left at.asks more) (sym (ap (λ l. slice_get l 0) at.left) ∙ first)
 
-      next : at.rest ≡ x ∷ others
-      next = next_in at.rest picked x (omega (arith, at.counted, ap length at.parts, length-append at.asked at.rest)) (sym (ap (λ l. slice_get l 0) at.left) ∙ first)
-
-      parts : old ≡ at.asked ++ x ∷ others
-      parts = at.parts ∙ ap (λ l. at.asked ++ l) next
-
-      taken : drop 1 now ≡ others ++ picked
-      taken = ap (drop 1) at.left ∙ ap (λ l. drop 1 (l ++ picked)) next
+      taken : drop 1 now ≡ others ++ picked at.asks
+      taken = ap (drop 1) at.left ∙ ap (λ l. drop 1 (l ++ picked at.asks)) next
 
       -- the next turn, whatever the answer was
       turn : (b : Bool) (u : P) → R q x b u → Picks p old (drop 1 now ++ items_where_true (b ∷ []) (x ∷ [])) u (turns + 1)
       turn b u answer = record {
-        asked = at.asked ++ x ∷ [];
-        rest = others;
-        answers = at.answers ++ b ∷ [];
-        parts = parts ∙ sym (append_assoc at.asked (x ∷ []) others);
-        counted = omega (arith, at.counted, length-append at.asked (x ∷ []));
-        answered = omega (arith, at.answered, length-append at.asked (x ∷ []), length-append at.answers (b ∷ []));
-        told = returns-push p q u at.answers at.asked b x at.answered at.told answer;
-        left = rw (taken, append_assoc, ← pick-push at.answers at.asked b x at.answered) refl;
+        asks = asks_more at.asks x next b u answer;
+        left = rw (taken, append_assoc, rest_more at.asks x next b u answer, picked_more at.asks x next b u answer) refl;
       }
 
       pub kept : (u : P) → R q x true u → Picks p old (drop 1 now ++ x ∷ []) u (turns + 1)
@@ -112,20 +147,20 @@ module _ {A P : Type 0} (R : P → A → Bool → P → Type 0) where
 
       pub refused : (u : P) → R q x true u → FiltersPart R p old (drop 1 now) x
       refused u answer = (
-        at.asked,
-        picked,
+        at.asks.asked,
+        picked at.asks,
         others,
-        parts,
+        parts_next at.asks x next,
         (
-          at.answers ++ true ∷ [],
+          at.asks.answers ++ true ∷ [],
           u,
-          omega (arith, at.answered, length-append at.asked (x ∷ []), length-append at.answers (true ∷ [])),
-          returns-push p q u at.answers at.asked true x at.answered at.told answer,
-          sym (pick-push at.answers at.asked true x at.answered),
+          omega (arith, at.asks.answered, length-append at.asks.asked (x ∷ []), length-append at.asks.answers (true ∷ [])),
+          returns-push p q u at.asks.answers at.asks.asked true x at.asks.answered at.asks.told answer,
+          sym (pick-push at.asks.answers at.asks.asked true x at.asks.answered),
         ),
         taken,
       )
 
       -- a limit leaves the item that is put back
       pub put_back : (limit : Option ℕ) → IsWithin old limit → keep_last limit (drop 1 now ++ x ∷ []) ≡ drop 1 now ++ x ∷ []
-      put_back limit within = within_limit old _ limit within (omega (arith, ap length taken, length-append others picked, length-append (drop 1 now) (x ∷ []), ap length parts, length-append at.asked (x ∷ others), pick-few at.answers at.asked))
+      put_back limit within = within_limit old _ limit within (omega (arith, ap length taken, length-append others (picked at.asks), length-append (drop 1 now) (x ∷ []), ap length (parts_next at.asks x next), length-append at.asks.asked (x ∷ others), pick-few at.asks.answers at.asks.asked))

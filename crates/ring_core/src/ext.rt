@@ -1,13 +1,12 @@
 //! Calls by a dot on any ring.
 
-ghost use Rattle.std.specs.Prelude.{◌≡◌, ◌+◌, ◌-◌, ◌*◌, ◌≤◌, [], IfErr, IfOk, IfSome, IsOk, IsSome, OnErr, OnOk, drop, false, filter, length, map, min, slice_get, take};
+ghost use Rattle.std.specs.Prelude.{◌≡◌, ◌+◌, ◌-◌, ◌*◌, ◌≤◌, [], IfOk, IfSome, IsSome, OnErr, OnOk, drop, false, length, map, min, slice_get, take};
 ghost use Rattle.std.specs.Cmp.Lexicographic.{pointwise};
 ghost use Rattle.std.specs.Fn.{CalledAt};
 ghost use Rattle.std.specs.List.{prefix_len};
-ghost use Rattle.std.specs.List.Retain.{IsFiltered};
 ghost use Rattle.std.specs.Range.Bound.{end_index, start_index};
 ghost use Rattle.ring_core.specs.Contents.{Counts};
-ghost use Rattle.ring_core.specs.Filtering.{FiltersPart, PassesFirst};
+ghost use Rattle.ring_core.specs.Filtering.{PassesFirst};
 ghost use Rattle.ring_core.specs.Mapping.{ByMap, MapsEach};
 ghost use Rattle.ring_core.specs.Walk.{DrainsInOrder, DrainsInReverse, ReadsInOrder, ReadsInReverse, StartsOver, items_between, items_outside, iterator_to_come};
 
@@ -17,7 +16,7 @@ use crate::iter::RingBufferIterator;
 use crate::iter_mut::RingBufferMutIterator;
 use crate::mapping::map_each;
 use crate::range::range_within;
-use crate::retaining::{dequeue_while, retain};
+use crate::retaining::dequeue_while;
 use crate::ring::RingBuffer;
 use crate::taking::{split_off, take_all, take_between};
 use std::alloc::{AllocError, Global};
@@ -89,28 +88,6 @@ pub trait RingBufferExt<T: Drop>: RingBuffer<T> {
         ensures limit { Self.limit self.new ≡ Self.limit self.old }
         ensures changes { Counts Self.limit Self.contents Self.slot_changes self.old self.new 0 };
 
-    /// Calls the function `retain`: keeps the items for which `keep` returns `true`, in order, and drops the others.
-    ///
-    /// ```rust
-    /// readings.retain(|reading| *reading <= limit).unwrap();
-    /// ```
-    ///
-    /// # Errors
-    ///
-    /// As the function.
-    fn retain<F: FnMut(&T) -> bool>(&mut self, keep: F) -> Result<(), T>
-        requires { F.IsAlwaysCallable keep }
-        ensures filtered { OnOk result
-            (IsFiltered (CalledAt F.FnMut) keep (Self.contents self.old) (Self.contents self.new)) }
-        ensures value { OnOk result (ByMap (CalledAt F.FnMut) keep
-            (λ keeps. Self.contents self.new ≡ filter keeps (Self.contents self.old))) }
-        ensures refused { IfErr result
-            (FiltersPart (CalledAt F.FnMut) keep (Self.contents self.old) (Self.contents self.new)) }
-        ensures succeeds { IsSome (Self.limit self.old) → IsOk result }
-        ensures limit { Self.limit self.new ≡ Self.limit self.old }
-        ensures changes { Counts Self.limit Self.contents Self.slot_changes self.old self.new
-            (length (Self.contents self.new)) };
-
     /// Calls the function `dequeue_while`: drops the oldest items while `test` returns `true` of them, and returns how
     /// many.
     ///
@@ -178,11 +155,6 @@ impl<T: Drop, R: RingBuffer<T>> RingBufferExt<T> for R {
     #[inline]
     fn take_all(&mut self, alloc: Global) -> Result<Vec<T>, AllocError> {
         take_all(self, alloc)
-    }
-
-    #[inline]
-    fn retain<F: FnMut(&T) -> bool>(&mut self, keep: F) -> Result<(), T> {
-        retain(self, keep)
     }
 
     #[inline]

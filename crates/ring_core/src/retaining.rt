@@ -10,17 +10,14 @@ ghost use Rattle.ring_core.specs.Mapping.{ByMap};
 
 use crate::ring::RingBuffer;
 
-/// Keeps the items for which `keep` returns `true`, in order, and drops the others. It asks about each item once, oldest
-/// first. A kept item is taken out and pushed again, so it counts as two slot changes, and a dropped one as one. This call
-/// is the library's own: the Rust crate has none like it.
+/// Calls `retain` of a ring: keeps the items for which `keep` returns `true`, in order, and drops the others.
 ///
 /// # Errors
 ///
-/// The item that `ring` was refused memory for, which no ring with a limit meets. Those after it are then the oldest, and
-/// those kept before it the newest.
+/// As `RingBuffer::retain`.
 pub fn retain<T: Drop, R: RingBuffer<T>, F: FnMut(&T) -> bool>(
     ring: &mut R,
-    mut keep: F,
+    keep: F,
 ) -> Result<(), T>
     requires { F.IsAlwaysCallable keep }
     ensures filtered { OnOk result
@@ -33,17 +30,7 @@ pub fn retain<T: Drop, R: RingBuffer<T>, F: FnMut(&T) -> bool>(
     ensures limit { R.limit ring.new ≡ R.limit ring.old }
     ensures changes { Counts R.limit R.contents R.slot_changes ring.old ring.new (length (R.contents ring.new)) }
 {
-    for _ in 0..ring.len() {
-        let item = ring.dequeue().unwrap();
-        if !keep(&item) {
-            continue;
-        }
-        match ring.push(item) {
-            Ok(overwritten) => drop(overwritten),
-            Err(item) => return Err(item),
-        }
-    }
-    Ok(())
+    ring.retain(keep)
 }
 
 /// Drops the oldest items while `test` returns `true` of them, and returns how many. It asks about the items in order, and of

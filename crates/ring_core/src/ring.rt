@@ -1,12 +1,16 @@
 //! The trait that every ring buffer implements.
 
-ghost use Rattle.std.specs.Prelude.{◌≡◌, ℕ, ◌+◌, ◌-◌, ◌<◌, ◌≤◌, ◌↔◌, ◌++◌, List, [], drop, length, min, take, All, IfOk, IfSome, IsNone, IsOk, IsSome, IsTrue, OnErr, OnOk, Option, slice_get, slice_set};
+ghost use Rattle.std.specs.Prelude.{◌≡◌, ℕ, ◌+◌, ◌-◌, ◌<◌, ◌≤◌, ◌↔◌, ◌++◌, List, [], drop, filter, length, min, take, All, IfErr, IfOk, IfSome, IsNone, IsOk, IsSome, IsTrue, OnErr, OnOk, Option, slice_get, slice_set};
 ghost use Rattle.std.specs.Borrow.{LendsIf, sem};
+ghost use Rattle.std.specs.Fn.{CalledAt};
 ghost use Rattle.std.specs.Iterator.{IsFiniteIterable};
 ghost use Rattle.std.specs.List.{AllZip, FoldsTo, IsAnyAnswer, list_any};
+ghost use Rattle.std.specs.List.Retain.{IsFiltered};
 ghost use Rattle.std.specs.Option.{option_copied, option_copied_mut};
 ghost use Rattle.ring_core.specs.Contents.{Counts, IsInRange, IsWithin, Pushes, index_at, index_in_range, keep_last, signed_index_at};
 ghost use Rattle.ring_core.specs.Extension.{ClonesOut, Extends, ExtendsByClones};
+ghost use Rattle.ring_core.specs.Filtering.{FiltersPart};
+ghost use Rattle.ring_core.specs.Mapping.{ByMap};
 
 use std::alloc::{AllocError, Global};
 
@@ -223,6 +227,43 @@ pub trait RingBuffer<T: Drop>: Sized {
         for _ in 0..self.capacity() {
             if let Err(_) = self.push(value.clone()?) {
                 return Err(AllocError);
+            }
+        }
+        Ok(())
+    }
+
+    /// Keeps the items for which `keep` returns `true`, in order, and drops the others. It asks about each item once, oldest
+    /// first. A kept item counts as two slot changes at most, and a dropped one as one. Takes O(n). This call is the
+    /// library's own: the Rust crate has none like it.
+    ///
+    /// ```rust
+    /// readings.retain(|reading| *reading <= limit).unwrap();
+    /// ```
+    ///
+    /// # Errors
+    ///
+    /// The item that the ring was refused memory for, which none of this library's types is. Those after it are then the
+    /// oldest, and those kept before it the newest.
+    fn retain<F: FnMut(&T) -> bool>(&mut self, mut keep: F) -> Result<(), T>
+        requires { F.IsAlwaysCallable keep }
+        ensures filtered { OnOk result
+            (IsFiltered (CalledAt F.FnMut) keep (contents self.old) (contents self.new)) }
+        ensures value { OnOk result (ByMap (CalledAt F.FnMut) keep
+            (λ keeps. contents self.new ≡ filter keeps (contents self.old))) }
+        ensures refused { IfErr result
+            (FiltersPart (CalledAt F.FnMut) keep (contents self.old) (contents self.new)) }
+        ensures succeeds { IsSome (limit self.old) → IsOk result }
+        ensures limit { limit self.new ≡ limit self.old }
+        ensures changes { Counts limit contents slot_changes self.old self.new (length (contents self.new)) }
+    {
+        for _ in 0..self.len() {
+            let item = self.dequeue().unwrap();
+            if !keep(&item) {
+                continue;
+            }
+            match self.push(item) {
+                Ok(overwritten) => drop(overwritten),
+                Err(item) => return Err(item),
             }
         }
         Ok(())

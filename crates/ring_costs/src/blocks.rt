@@ -42,6 +42,22 @@ pub fn extend_more<T: Item, R: Measured<T>>(ring: &mut R, items: &[T], times: u3
     ring.len() as u64
 }
 
+// Drops about one item in five, and pushes as many.
+#[inline(never)]
+pub fn retain_push<T: Item, R: Measured<T>>(ring: &mut R, times: u32) -> u64 {
+    let len = ring.len();
+    let mut pushed = 0u64;
+    for round in 0..times {
+        let dropped = u64::from(round) % 8;
+        let _ = ring.retain(|item| item.number() % 8 != dropped);
+        for _ in ring.len()..len {
+            let _ = ring.push(T::numbered(pushed));
+            pushed = pushed.wrapping_add(1);
+        }
+    }
+    ring.len() as u64
+}
+
 #[inline(never)]
 pub fn drain_extend<T: Item, R: Measured<T>>(ring: &mut R, items: &[T], times: u32) -> u64 {
     let mut sum = 0u64;

@@ -2,7 +2,7 @@
 
 use crate::blocks::{
     bring, bring_clones, bring_contiguous, clear_extend, copy, drain_extend, extend, extend_more,
-    fill, keep_newest_in, remove_range_extend, take_in, truncate_in,
+    fill, keep_newest_in, remove_range_extend, retain_push, take_in, truncate_in,
 };
 use crate::case::Case;
 use crate::item::Item;
@@ -42,6 +42,7 @@ pub fn repeat<T: Item, R: Measured<T> + Drop>(
         "extend" => extend(ring, items, times),
         "extend_more" => extend_more(ring, items, times),
         "drain_extend" => drain_extend(ring, items, times),
+        "retain_push" => retain_push(ring, times),
         "in" => bring(ring, items, times),
         "clones_in" => bring_clones(ring, items, times),
         "in_contiguous" => bring_contiguous(ring, items, times),

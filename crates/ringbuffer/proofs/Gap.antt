@@ -7,7 +7,7 @@ use Rattle.ringbuffer.proofs.SlotsHold.{count_on, same_count}
 
 -- what a slot holds once another, or itself, has changed
 module _ {X : Type 0} (slots : List (Option X)) (start j k : ℕ) (slot : Option X) (within : start < length slots) (there : j < length slots) (here : k < length slots) where
-  read_set : slot_after (set slots ((start + j) % length slots) slot) start k ≡ (if nat_eq k j then slot else slot_after slots start k)
+  pub read_set : slot_after (set slots ((start + j) % length slots) slot) start k ≡ (if nat_eq k j then slot else slot_after slots start k)
   read_set =
       let same = same_count start k j (length slots) within here there in
       rw (length-set slots ((start + j) % length slots) slot) (grind (arith, nat_tests, same, get_or-set_same, get_or-set_other, mod-lt))
@@ -87,6 +87,45 @@ module _ {X : Type 0} (s a : Slots X) (start index gap : ℕ) (v : View X) (fit 
         emptied = λ k late below. grind (arith, same, sizes, m.left, m.others k, apart.emptied k);
         behind = λ k late below. m.others k below (λ is. omega (arith, is)) (λ is. omega (arith, is)) ∙ apart.behind k (omega arith) (omega (arith, same, sizes));
       } in subst (λ n. LaysApart s b start n gap w) at (subst (LaysApart s b start (index + 1) gap) shows lies)
+
+-- the first item after the gap is taken, so the gap grows, or it is the next before a gap of no slots
+module _ {X : Type 0} (s a : Slots X) (start index gap : ℕ) (v : View X) (apart : LaysApart s a start index gap v) where
+  pub next_held : index + gap < length s.slots → slot_after a.slots start (index + gap) ≡ slice_get v.items index
+  next_held low =
+      let same = apart.same_size in let back : index + gap - gap ≡ index = omega arith in
+      apart.behind (index + gap) (omega arith) (omega (arith, same)) ∙ ap (slice_get v.items) back
+
+  pub gap_grows : (b : Slots X) (place : ℕ) (w : View X) → start < length s.slots → index + gap < length s.slots → place ≡ (start + (index + gap)) % length a.slots → b ≡ changed a place None
+      → w.changes ≡ v.changes + 1 → ((k : ℕ) → k < index → slice_get w.items k ≡ slice_get v.items k) → ((k : ℕ) → index ≤ k → slice_get w.items k ≡ slice_get v.items (k + 1)) → LaysApart s b start index (gap + 1) w
+  gap_grows b place w starts low found taken counts before after =
+      let same = apart.same_size in
+      let sizes : length b.slots ≡ length a.slots = rw taken (length-set a.slots place None) in
+      let read : (k : ℕ) → k < length a.slots → slot_after b.slots start k ≡ (if nat_eq k (index + gap) then None else slot_after a.slots start k) =
+      λ k here. rw (taken, found) (read_set a.slots start (index + gap) k None (rw same starts) (rw same low) here) in
+      record {
+        same_size = sizes ∙ same;
+        same_capacity = rw taken apart.same_capacity;
+        counted = rw taken (omega (arith, apart.counted, counts));
+        before = λ k below. grind (arith, nat_tests, read k (omega (arith, same)), apart.before k below, before k below);
+        emptied = λ k late below. grind (arith, nat_tests, read k (omega (arith, same)), apart.emptied k late);
+        behind = λ k late below.
+            let here : k < length a.slots = rw sizes at below in
+            let next : k - (gap + 1) + 1 ≡ k - gap = omega arith in
+            grind (arith, nat_tests, read k here, apart.behind k (omega arith) here, after (k - (gap + 1)) (omega arith), next);
+      }
+
+  pub no_gap_passes : index < length s.slots → gap ≡ 0 → LaysApart s a start (index + 1) gap v
+  no_gap_passes low none =
+      let at : (k : ℕ) → k - gap ≡ k = λ k. omega (arith, none) in
+      let same = apart.same_size in
+      record {
+        same_size = apart.same_size;
+        same_capacity = apart.same_capacity;
+        counted = apart.counted;
+        before = λ k below. grind (arith, same, low, none, at k, below, apart.before k, apart.behind k);
+        emptied = λ k late below. absurd (omega (arith, none, late, below));
+        behind = λ k late below. apart.behind k (omega arith) below;
+      }
 
 -- with all items on one side there is no gap between them
 module _ {X : Type 0} (s a : Slots X) (start index gap : ℕ) (v : View X) (laid_out : IsLaidOut s start) (fit : length v.items + gap ≤ length s.slots) (same_capacity : v.capacity ≡ s.capacity) (apart : LaysApart s a start index gap v) where

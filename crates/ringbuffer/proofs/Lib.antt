@@ -5,6 +5,7 @@ pub mod Copies
 pub mod EmptiedStretches
 pub mod FromSource
 pub mod Gap
+pub mod KeptItems
 pub mod LaysOut
 pub mod LentItem
 pub mod MadeContiguous

@@ -2,6 +2,7 @@ pub mod Clones
 pub mod Conversion
 pub mod Layout
 pub mod Pushing
+pub mod Retaining
 pub mod Somes
 pub mod Sources
 pub mod View

@@ -208,6 +208,10 @@ impl<T: Drop> RingBuffer<T> for GrowableAllocRingBuffer<T> {
         filled
     }
 
+    fn retain<F: FnMut(&T) -> bool>(&mut self, keep: F) -> Result<(), T> {
+        GrowableAllocRingBuffer::retain(self, keep)
+    }
+
     fn to_vec(&self, alloc: Global) -> Result<Vec<T>, AllocError>
     where
         T: Clone,

@@ -129,7 +129,7 @@ impl<T: Drop, S: RingSlots<T>> FixedRing<T, S> {
 
     // Moves an item into an empty slot. Both are found by their counts from the start.
     #[inline]
-    fn move_item(slots: &mut S, start: usize, from: usize, to: usize)
+    pub(crate) fn move_item(slots: &mut S, start: usize, from: usize, to: usize)
         requires start { start < length (S.seen slots.old).slots }
         requires from { from < length (S.seen slots.old).slots }
         requires to { to < length (S.seen slots.old).slots }

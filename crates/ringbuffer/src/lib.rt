@@ -21,6 +21,7 @@ mod iter;
 mod plain;
 mod position;
 mod pushes;
+mod retaining;
 mod ring;
 mod rotate;
 mod slices;

@@ -128,6 +128,15 @@ impl<T: Drop, S: RingSlots<T>> RingBuffer<T> for FixedRing<T, S> {
         }
     }
 
+    fn retain<F: FnMut(&T) -> bool>(&mut self, keep: F) -> Result<(), T> {
+        if S::goes_by_value() {
+            replace_with(self, keep, Self::retain_owned);
+        } else {
+            self.retain_in_place(keep);
+        }
+        Ok(())
+    }
+
     fn to_vec(&self, alloc: Global) -> Result<Vec<T>, AllocError>
     where
         T: Clone,

@@ -38,8 +38,7 @@ impl<T: Drop> GrowableAllocRingBuffer<T> {
     }
 
     /// Keeps the items for which `keep` returns `true`, in order, and drops the others. It asks about each item once, oldest
-    /// first. This call is the library's own: the Rust crate has none like it. It is never refused, unlike `retain` of any
-    /// ring without a limit, which it answers as.
+    /// first. It is never refused. This call is the library's own: the Rust crate has none like it.
     pub fn retain<F: FnMut(&T) -> bool>(&mut self, keep: F) -> Result<(), T>
         requires { F.IsAlwaysCallable keep }
         ensures filtered { IsFiltered (CalledAt F.FnMut) keep self.old self.new }

@@ -3,7 +3,7 @@ use Rattle.std.proofs.Common.{of_calls}
 use Rattle.std.specs.Fn.{CalledAt}
 use Rattle.std.proofs.lemmas.Fn.{called_at, filter_same}
 use Rattle.ring_core.proofs.RetainedItems.{all_asked, dropped, first_is_some, kept, nothing_asked, put_back, refused}
-use Rattle.ring_core.proofs.retaining.retain.Goals as goal
+use Rattle.ring_core.proofs.ring.RingBuffer.retain.Goals as goal
 
 pub loop-init : goal.loop-init
 loop-init g c = record { picks = nothing_asked _ _ _; callable = search of_calls; limit = search rules; changes = λ some. (omega arith, omega arith) }
@@ -22,20 +22,20 @@ loop-preserved-then-not-keep g c =
       changes = λ some.
           let before = at.changes some in
           let taken = (rw at.limit at c.dequeue.ensures.changes) some in
-          (omega arith, omega (arith, ap length c.dequeue.ensures.rest, length-drop 1 (g.R.RingBuffer.contents c.loop.ring)));
+          (omega arith, omega (arith, ap length c.dequeue.ensures.rest, length-drop 1 (g.Self.RingBuffer.contents c.loop.self)));
     }
 
 pub loop-preserved : goal.loop-preserved
 loop-preserved g c =
-    let R = g.R.RingBuffer in
+    let R = g.Self.RingBuffer in
     let at = c.loop.invariant in
-    let now = R.contents c.loop.ring in
+    let now = R.contents c.loop.self in
     let item = c.unwrap-item.result in
-    let more : c.loop.counter < length (R.contents c.args.ring.now) = omega arith in
+    let more : c.loop.counter < length (R.contents c.args.self.now) = omega arith in
     let first = sym c.dequeue.ensures.value ∙ c.unwrap-item.ensures in
     let limit = c.dequeue.ensures.limit ∙ at.limit in
     let pushed : R.contents c.push.new.self ≡ drop 1 now ++ item ∷ [] =
-    c.push.ensures.ok (ap is_ok c.in-Ok.is) ∙ rw (limit, c.dequeue.ensures.rest) (put_back _ at.picks more item first (R.limit c.args.ring.now) c.len-end.ensures.within) in
+    c.push.ensures.ok (ap is_ok c.in-Ok.is) ∙ rw (limit, c.dequeue.ensures.rest) (put_back _ at.picks more item first (R.limit c.args.self.now) c.len-end.ensures.within) in
     record {
       picks = rw pushed (kept _ at.picks more item first _ (called_at g.F.FnMut c.keep.ensures c.if-not-keep.false));
       callable = search of_calls;
