@@ -4,8 +4,8 @@ ghost use Rattle.std.specs.Prelude.{◌≡◌, ℕ, ◌<◌, ◌≤◌, IfErr, I
 ghost use Rattle.std.specs.List.Sorted.{IsNonDecreasing};
 
 use ringbuffer::{
-    AllocRingBuffer, ConstGenericRingBuffer, GrowableAllocRingBuffer, RingBuffer, RingBufferExt,
-    binary_search, dequeue_while, partition_point, retain,
+    AllocRingBuffer, ConstGenericRingBuffer, GrowableAllocRingBuffer, RingBuffer, binary_search,
+    dequeue_while, partition_point, retain,
 };
 
 /// Drops the readings above a limit.
