@@ -242,8 +242,8 @@ pub trait RingBuffer<T: Drop>: Sized {
     ///
     /// # Errors
     ///
-    /// The item that the ring was refused memory for, which none of this library's types is. Those after it are then the
-    /// oldest, and those kept before it the newest.
+    /// The item that memory was refused for, which no ring type of this library meets. Those after it are then the oldest,
+    /// and those kept before it the newest.
     fn retain<F: FnMut(&T) -> bool>(&mut self, mut keep: F) -> Result<(), T>
         requires { F.IsAlwaysCallable keep }
         ensures filtered { OnOk result
