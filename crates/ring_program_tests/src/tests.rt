@@ -412,6 +412,23 @@ fn names_the_first_line_that_is_no_command(rt: HostRuntime) {
     }
 }
 
+// The line feeds before a bad line are counted in blocks of 255 bytes.
+#[test]
+fn names_a_line_on_both_sides_of_a_block(rt: HostRuntime) {
+    let rows = [
+        (254, "ringrun: line 255: not a command\n"),
+        (255, "ringrun: line 256: not a command\n"),
+        (256, "ringrun: line 257: not a command\n"),
+        (510, "ringrun: line 511: not a command\n"),
+        (511, "ringrun: line 512: not a command\n"),
+    ];
+    for (blanks, want) in rows {
+        let script = repeated(&rt, &[("\n", blanks), ("push x\n", 1)]);
+        let outcome = run_script(&rt, &["array", "3"], script.as_bytes());
+        assert_ended(&rt, blanks, &outcome, fails(1, want));
+    }
+}
+
 #[test]
 fn refuses_arguments_before_it_reads(rt: HostRuntime) {
     let cases: [&[&str]; 3] = [&["array", "5"], &["heap", "0"], &["heap"]];

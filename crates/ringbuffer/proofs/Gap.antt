@@ -7,7 +7,7 @@ use Rattle.ringbuffer.proofs.SlotsHold.{count_on, same_count}
 
 -- what a slot holds once another, or itself, has changed
 module _ {X : Type 0} (slots : List (Option X)) (start j k : ℕ) (slot : Option X) (within : start < length slots) (there : j < length slots) (here : k < length slots) where
-  pub read_set : slot_after (set slots ((start + j) % length slots) slot) start k ≡ (if nat_eq k j then slot else slot_after slots start k)
+  read_set : slot_after (set slots ((start + j) % length slots) slot) start k ≡ (if nat_eq k j then slot else slot_after slots start k)
   read_set =
       let same = same_count start k j (length slots) within here there in
       rw (length-set slots ((start + j) % length slots) slot) (grind (arith, nat_tests, same, get_or-set_same, get_or-set_other, mod-lt))

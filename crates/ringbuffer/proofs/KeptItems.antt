@@ -7,6 +7,7 @@ use Rattle.ringbuffer.proofs.Gap.{all_before, gap_grows, moved_down, next_held, 
 use Rattle.ringbuffer.proofs.LaysOut.{slice_get_some}
 use Rattle.ringbuffer.proofs.RepeatedSteps.{view_is}
 
+-- the rest begins with what comes first after the others
 first_after : {A : Type 0} (xs rest : List A) (x : A) → 0 < length rest → slice_get (xs ++ rest) (length xs) ≡ Some x → rest ≡ x ∷ drop 1 rest
 first_after xs [] x some is = absurd (omega (arith, some))
 first_after xs (y ∷ ys) x some is = let same : Some y ≡ Some x = sym (slice_get-at xs y ys) ∙ is in cc
