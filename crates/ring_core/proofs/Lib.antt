@@ -4,7 +4,6 @@ pub mod BothMeanings
 pub mod Callers
 pub mod Cloned
 pub mod CommandLoop
-pub mod ComparedWalks
 pub mod Filling
 pub mod HeldRange
 pub mod Items

@@ -1,10 +1,15 @@
 -- What a walk over a ring by position reads: at each index below the length, the item that the contents have there.
 use Rattle.ring_core.proofs.Words.{◌≡◌, ℕ, suc, ◌+◌, ◌<◌, List, [], ◌∷◌, ◌++◌, length, take, drop, Option, Some, sym, ap, ◌∙◌, Bor, add-one, slice_get, option_copied, option_to_list, get_or_from_slice_get, mod-eq_of_lt, drop-cons, index_at}
+use Rattle.std.proofs.Common.{slice_index_or}
 use Rattle.ring_core.proofs.Items.{take-suc_get}
 
 -- a position below the length is the index itself
 pub slice_get-index_at : {A : Type 0} (xs : List A) (i : ℕ) → i < length xs → slice_get xs (index_at (length xs) i) ≡ slice_get xs i
 slice_get-index_at xs i below = ap (slice_get xs) (mod-eq_of_lt below)
+
+-- the items of a slice from an index on begin with the one there
+pub drop_at : {A : Type 0} (ys : List A) (i : ℕ) (y : A) → i < length ys → y ≡ slice_index_or ys i y → drop i ys ≡ y ∷ drop (i + 1) ys
+drop_at ys i y below is = rw add-one (drop-cons ys i y below ∙ ap (λ x. x ∷ drop (suc i) ys) (sym is))
 
 module _ {A : Type 0} (xs : List A) (i : ℕ) (o : Option (Bor A)) (x : Bor A) (below : i < length xs)
     (copied : option_copied o ≡ slice_get xs (index_at (length xs) i)) (is_some : o ≡ Some x) where

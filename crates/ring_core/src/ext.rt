@@ -1,7 +1,6 @@
 //! Calls by a dot on any ring.
 
 ghost use Rattle.std.specs.Prelude.{◌≡◌, ◌+◌, ◌-◌, ◌*◌, ◌≤◌, [], IfOk, IfSome, IsSome, OnErr, OnOk, drop, false, length, map, min, slice_get, take};
-ghost use Rattle.std.specs.Cmp.Lexicographic.{pointwise};
 ghost use Rattle.std.specs.Fn.{CalledAt};
 ghost use Rattle.std.specs.List.{prefix_len};
 ghost use Rattle.std.specs.Range.Bound.{end_index, start_index};
@@ -60,16 +59,6 @@ pub trait RingBufferExt<T: Drop>: RingBuffer<T> {
         ensures ring { result.ring.now ≡ self.entry.now }
         ensures runs { DrainsInOrder Self.contents Self.limit Self.slot_changes }
         ensures runs_back { DrainsInReverse Self.contents Self.limit Self.slot_changes };
-
-    /// Returns whether the items equal those of a slice, place by place. `==` compares a ring with one of its type alone.
-    ///
-    /// ```rust
-    /// ring.eq_slice(&[1, 2])
-    /// ```
-    fn eq_slice(&self, items: &[T]) -> bool
-    where
-        T: PartialEq,
-        ensures { result ≡ pointwise T.eq (Self.contents self.now) items.now };
 
     /// Takes out all items, oldest first, in new memory, and leaves the ring empty. Takes O(n). This call is the
     /// library's own: the Rust crate has none like it.
@@ -142,14 +131,6 @@ impl<T: Drop, R: RingBuffer<T>> RingBufferExt<T> for R {
     #[inline]
     fn drain(&mut self) -> RingBufferDrainingIterator<'_, T, R> {
         RingBufferDrainingIterator::new(self)
-    }
-
-    #[inline]
-    fn eq_slice(&self, items: &[T]) -> bool
-    where
-        T: PartialEq,
-    {
-        RingBufferIterator::new(self).eq(items.iter())
     }
 
     #[inline]

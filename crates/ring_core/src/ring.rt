@@ -2,6 +2,7 @@
 
 ghost use Rattle.std.specs.Prelude.{◌≡◌, ℕ, ◌+◌, ◌-◌, ◌<◌, ◌≤◌, ◌↔◌, ◌++◌, List, [], drop, filter, length, min, take, All, IfErr, IfOk, IfSome, IsNone, IsOk, IsSome, IsTrue, OnErr, OnOk, Option, slice_get, slice_set};
 ghost use Rattle.std.specs.Borrow.{LendsIf, sem};
+ghost use Rattle.std.specs.Cmp.Lexicographic.{pointwise};
 ghost use Rattle.std.specs.Fn.{CalledAt};
 ghost use Rattle.std.specs.Iterator.{IsFiniteIterable};
 ghost use Rattle.std.specs.List.{AllZip, FoldsTo, IsAnyAnswer, list_any};
@@ -417,6 +418,29 @@ pub trait RingBuffer<T: Drop>: Sized {
             }
         }
         false
+    }
+
+    /// Returns whether the items equal those of a slice, place by place. `==` compares a ring with one of its type alone.
+    /// Takes O(n).
+    ///
+    /// ```rust
+    /// ring.eq_slice(&[1, 2])
+    /// ```
+    fn eq_slice(&self, items: &[T]) -> bool
+    where
+        T: PartialEq,
+        ensures { result ≡ pointwise T.eq (contents self.now) items.now }
+    {
+        if self.len() != items.len() {
+            return false;
+        }
+        for i in 0..items.len() {
+            let same = *self.get(i).unwrap() == items[i];
+            if !same {
+                return false;
+            }
+        }
+        true
     }
 
     // What a write at an index does to the contents.

@@ -37,6 +37,7 @@ pub fn repeat<T: Item, R: Measured<T> + Drop>(
         "clone" => clone(ring, times),
         "clone_into" => clone_into(ring, times),
         "eq" => eq(ring, times),
+        "eq_slice" => eq_slice(alloc, ring, times),
         "fill" => fill(ring, times),
         "clear_extend" => clear_extend(ring, items, times),
         "extend" => extend(ring, items, times),
@@ -232,6 +233,22 @@ fn eq<T: Item, R: Measured<T> + Drop>(ring: &R, times: u32) -> u64 {
             *newest = T::numbered(u64::from(number));
         }
         sum = sum.wrapping_add(u64::from(*ring == other));
+    }
+    sum
+}
+
+#[inline(never)]
+fn eq_slice<T: Item, R: Measured<T>>(alloc: Global, ring: &R, times: u32) -> u64 {
+    let Ok(mut items) = ring.to_vec(alloc) else {
+        return 0;
+    };
+    let mut sum = 0u64;
+    // The newest item changes between two calls, so that none can be left out.
+    for number in 0..times {
+        if let Some(newest) = items.last_mut() {
+            *newest = T::numbered(u64::from(number));
+        }
+        sum = sum.wrapping_add(u64::from(ring.eq_slice(&items)));
     }
     sum
 }

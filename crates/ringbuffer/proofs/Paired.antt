@@ -1,8 +1,8 @@
 -- What stretches of full slots hold, read from the front, and compared pair by pair.
-use Rattle.ringbuffer.proofs.Words.{◌≡◌, ℕ, ◌+◌, ◌<◌, ◌≤◌, ◌-◌, ◌%◌, ◌⊎◌, inl, inr, zero, dec_lt, min, List, [], ◌∷◌, Bool, length, length-drop, length-take-le, take, drop, drop-drop, get_or, nat_eq, Option, None, Some, IsSome, refl, sym, subst, ap, ◌∙◌, add-one, suc, arith, drop-cons, drop-length, slice_get, pointwise, HoldsStretch, IsFullStretch, IsLaidOut, Slots, items_from}
+use Rattle.ringbuffer.proofs.Words.{◌≡◌, ℕ, ◌+◌, ◌<◌, ◌≤◌, ◌-◌, ◌%◌, ◌⊎◌, inl, inr, zero, dec_lt, min, List, [], ◌∷◌, ◌++◌, Bool, ◌&&◌, length, length-drop, length-take-le, take, take-append-drop, drop, drop-drop, get_or, nat_eq, Option, None, Some, IsSome, refl, sym, subst, ap, ◌∙◌, add-one, suc, arith, drop-cons, drop-length, slice_get, pointwise, HoldsStretch, IsFullStretch, IsLaidOut, Slots, items_from}
 use Prim.Native.Nat.compare
 use Rattle.std.specs.Prelude.{max}
-use Rattle.std.proofs.Math.Bool.{cond}
+use Rattle.std.proofs.Math.Bool.{and_assoc, cond}
 use Rattle.std.proofs.lemmas.Bool.{cases_Bool, cases_lt}
 use Rattle.std.proofs.lemmas.List.Sums.{common_prefix_len-le}
 use Rattle.std.proofs.lemmas.Option.{get_or_from_slice_get}
@@ -33,6 +33,22 @@ pub next_pair : {X : Type 0} (eq : X → X → Bool) (cs ds : List (Option X)) (
     → (same : Bool) → same ≡ eq x y → common_prefix_len eq (drop k xs) (drop k ys) ≡ cond same (1 + common_prefix_len eq (drop (k + 1) xs) (drop (k + 1) ys)) 0
 next_pair eq cs ds from other n full others_full xs ys held others_held k low x y is other_is same answered =
     rw (ahead cs from n full xs held k x low is, ahead ds other n others_full ys others_held k y low other_is, answered) refl
+
+-- beginnings of equal length are compared apart from what follows them
+pub pointwise-append : {A : Type 0} (eq : A → A → Bool) (xs ys vs ws : List A) → length xs ≡ length ys
+    → pointwise eq (xs ++ vs) (ys ++ ws) ≡ (pointwise eq xs ys && pointwise eq vs ws)
+pointwise-append eq [] [] vs ws same = refl
+pointwise-append eq [] (y ∷ ys) vs ws same = cc
+pointwise-append eq (x ∷ xs) [] vs ws same = cc
+pointwise-append eq (x ∷ xs) (y ∷ ys) vs ws same =
+    ap (λ k. eq x y && k) (pointwise-append eq xs ys vs ws (omega arith)) ∙ rw and_assoc refl
+
+-- a list that is cut in two is compared part by part
+pub pointwise-cut : {A : Type 0} (eq : A → A → Bool) (xs vs ys front back : List A) (n : ℕ) → front ≡ take n ys → back ≡ drop n ys → length xs ≡ length front
+    → pointwise eq (xs ++ vs) ys ≡ (pointwise eq xs front && pointwise eq vs back)
+pointwise-cut eq xs vs ys front back n first second long =
+    let whole : front ++ back ≡ ys = rw (first, second) (take-append-drop n ys) in let parts = pointwise-append eq xs front vs back long in
+    rw whole at parts
 
 module _ {X : Type 0} (eq : X → X → Bool) where
   prefix_nil : (xs : List X) → common_prefix_len eq xs [] ≡ 0

@@ -1,7 +1,7 @@
 //! Walks over the items of rings of a fixed capacity by stretches of slots that lie side by side: up to the last slot,
 //! and on from the first. No place is counted round in a loop here.
-ghost use Rattle.std.specs.Prelude.{◌≡◌, ◌≤◌, List, fold};
-ghost use Rattle.std.specs.Cmp.Lexicographic.{slice_partial_cmp};
+ghost use Rattle.std.specs.Prelude.{◌≡◌, ◌≤◌, List, fold, length};
+ghost use Rattle.std.specs.Cmp.Lexicographic.{pointwise, slice_partial_cmp};
 ghost use Rattle.std.specs.Hash as fed;
 ghost use Rattle.std.specs.List.{common_prefix_len, flat_map, list_any};
 ghost use Rattle.ring_slots.specs.Slots.{HoldsStretch, IsFullStretch};
@@ -141,6 +141,39 @@ impl<T: Drop, S: RingSlots<T>> FixedRing<T, S> {
             }
         }
         false
+    }
+
+    // Returns whether the items equal those of a slice of as many, place by place.
+    pub(crate) fn equals_by_stretch(&self, items: &[T]) -> bool
+    where
+        T: PartialEq,
+        requires { length self.now.items ≡ length items.now }
+        ensures { result ≡ pointwise T.eq self.now.items items.now }
+    {
+        let first = self.span.len.min(self.slots.size() - self.span.start);
+        let (before, after) = items.split_at(first);
+        Self::stretch_equals(&self.slots, self.span.start, before)
+            && Self::stretch_equals(&self.slots, 0, after)
+    }
+
+    // Returns whether the items of slots side by side equal those of a slice, place by place.
+    #[inline]
+    fn stretch_equals(slots: &S, from: usize, items: &[T]) -> bool
+    where
+        T: PartialEq,
+        requires { IsFullStretch (S.seen slots.now).slots from (length items.now) }
+        ensures { (xs : List T) → HoldsStretch (S.seen slots.now).slots from (length items.now) xs
+            → result ≡ pointwise T.eq xs items.now }
+    {
+        // For the proof: the number of slots fits a word.
+        let _ = slots.size();
+        for k in 0..items.len() {
+            let same = *slots.get(from + k) == items[k];
+            if !same {
+                return false;
+            }
+        }
+        true
     }
 
     // Feeds the number of items to a hasher, and then each item.

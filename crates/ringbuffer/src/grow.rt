@@ -17,7 +17,7 @@ mod slices;
 use self::extend::pour;
 use self::fill::clones;
 use crate::position::{index_at, signed_index_at};
-use crate::two_slices::{clone_slices, clone_slices_into};
+use crate::two_slices::{clone_slices, clone_slices_into, equal_to_slice};
 use ring_core::RingBuffer;
 use std::alloc::{AllocError, Global};
 use std::collections::VecDeque;
@@ -231,6 +231,13 @@ impl<T: Drop> RingBuffer<T> for GrowableAllocRingBuffer<T> {
         T: PartialEq,
     {
         self.deque.contains(x)
+    }
+
+    fn eq_slice(&self, items: &[T]) -> bool
+    where
+        T: PartialEq,
+    {
+        self.deque.len() == items.len() && equal_to_slice(self.deque.as_slices(), items)
     }
 
     fn get(&self, index: usize) -> Option<&T> {

@@ -7,7 +7,7 @@ ghost use Rattle.ringbuffer.specs.View.{View, after_push, after_write};
 use crate::by_stretch::FEW;
 use crate::fixed::{FixedRing, Span};
 use crate::position::{index_at, signed_index_at};
-use crate::two_slices::{clone_slices, clone_slices_into};
+use crate::two_slices::{clone_slices, clone_slices_into, equal_to_slice};
 use core::mem::replace_with;
 use ring_core::RingBuffer;
 use ring_slots::RingSlots;
@@ -165,6 +165,19 @@ impl<T: Drop, S: RingSlots<T>> RingBuffer<T> for FixedRing<T, S> {
             Some((first, second)) => first.contains(x) || second.contains(x),
             None if self.span.len > FEW => self.holds_by_stretch(x),
             None => self.holds(x),
+        }
+    }
+
+    fn eq_slice(&self, items: &[T]) -> bool
+    where
+        T: PartialEq,
+    {
+        if self.span.len != items.len() {
+            return false;
+        }
+        match self.rows() {
+            Some(rows) => equal_to_slice(rows, items),
+            None => self.equals_by_stretch(items),
         }
     }
 

@@ -119,3 +119,13 @@ pub fn same_in_slices<T: PartialEq>(a: (&[T], &[T]), b: (&[T], &[T])) -> bool
     let (b_beside, b_last) = b.1.split_at(a_middle.len());
     a_first == b_first && a_middle == b_beside && a_beside == b_middle && a_last == b_last
 }
+
+/// Returns whether the items of two slices equal those of a third, place by place.
+pub fn equal_to_slice<T: PartialEq>(items: (&[T], &[T]), others: &[T]) -> bool
+    requires { length items.0.now + length items.1.now ≡ length others.now }
+    ensures { result ≡ pointwise T.eq (items.entry.0.now ++ items.entry.1.now) others.now }
+{
+    let (first, second) = items;
+    let (front, back) = others.split_at(first.len());
+    first == front && second == back
+}

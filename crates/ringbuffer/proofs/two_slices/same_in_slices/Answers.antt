@@ -1,17 +1,8 @@
 -- The parts of both lists have equal lengths pair by pair, except the middles, of which one is empty.
-use Rattle.ringbuffer.proofs.Words.{◌≡◌, ◌∙◌, ap, refl, arith, ℕ, ◌+◌, ◌-◌, ◌⊎◌, inl, inr, length, List, [], ◌∷◌, ◌++◌, take, drop, take-append-drop, length-take-le, length-drop, Bool, ◌&&◌, append_assoc, sym, dec_lt, common_steps, nil_from_length, min, pointwise}
-use Rattle.std.proofs.Math.Bool.{and_assoc}
+use Rattle.ringbuffer.proofs.Words.{◌≡◌, ◌∙◌, ap, arith, ℕ, ◌+◌, ◌-◌, ◌⊎◌, inl, inr, length, List, ◌++◌, take, drop, take-append-drop, length-take-le, length-drop, Bool, ◌&&◌, append_assoc, sym, dec_lt, common_steps, nil_from_length, min, pointwise}
+use Rattle.ringbuffer.proofs.Paired.{pointwise-append}
 use Rattle.ringbuffer.proofs.two_slices.same_in_slices.Goals as goal
 use Rattle.ringbuffer.proofs.two_slices.same_in_slices.Goals.{then-eq, else-eq, then-eq-2, else-eq-2}
-
--- beginnings of equal length are compared apart from what follows them
-pointwise-append : {A : Type 0} (eq : A → A → Bool) (xs ys vs ws : List A) → length xs ≡ length ys
-    → pointwise eq (xs ++ vs) (ys ++ ws) ≡ (pointwise eq xs ys && pointwise eq vs ws)
-pointwise-append eq [] [] vs ws same = refl
-pointwise-append eq [] (y ∷ ys) vs ws same = cc
-pointwise-append eq (x ∷ xs) [] vs ws same = cc
-pointwise-append eq (x ∷ xs) (y ∷ ys) vs ws same =
-    ap (λ k. eq x y && k) (pointwise-append eq xs ys vs ws (omega arith)) ∙ rw and_assoc refl
 
 -- a middle is compared with what lies beside it in the other list
 pointwise-beside : {A : Type 0} (eq : A → A → Bool) (am ab al bm bb bl : List A) → length am ≡ length bb → length ab ≡ length bm
