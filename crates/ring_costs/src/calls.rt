@@ -7,7 +7,7 @@ use crate::blocks::{
 use crate::case::Case;
 use crate::item::Item;
 use crate::ring::Measured;
-use ringbuffer::RingBufferIterator;
+use ringbuffer::{RingBufferIterator, partition_point};
 use std::alloc::{AllocError, Global};
 
 /// Makes the call of a case, and returns what it found, as a number.
@@ -32,6 +32,7 @@ pub fn repeat<T: Item, R: Measured<T> + Drop>(
         "get_mut" => get_mut(ring, case.count, times),
         "front_back" => front_back(ring, times),
         "contains" => contains(ring, times),
+        "partition_point" => point(ring, times),
         "iter" => iter(ring, times),
         "to_vec" => to_vec(alloc, ring, times),
         "clone" => clone(ring, times),
@@ -169,6 +170,21 @@ fn contains<T: Item, R: Measured<T>>(ring: &R, times: u32) -> u64 {
     for number in 0..times {
         let item = T::numbered(u64::from(number).wrapping_add(1 << 32));
         sum = sum.wrapping_add(u64::from(ring.contains(&item)));
+    }
+    sum
+}
+
+#[inline(never)]
+fn point<T: Item, R: Measured<T>>(ring: &R, times: u32) -> u64 {
+    let oldest = found(ring.front().copied());
+    let mut sum = 0u64;
+    for number in 0..times {
+        // The bits are mixed twice, so that no branch on what a search finds is foretold.
+        let once = u64::from(number).wrapping_mul(0x9E37_79B9_7F4A_7C15);
+        let twice = (once ^ (once >> 32)).wrapping_mul(0xD6E8_FEB8_6659_FD93);
+        let wanted = oldest.wrapping_add((twice >> 40).wrapping_mul(ring.len() as u64) >> 24);
+        let index = partition_point(ring, |item: &T| item.number() < wanted);
+        sum = sum.wrapping_add(index as u64);
     }
     sum
 }

@@ -24,7 +24,7 @@ use std::collections::VecDeque;
 use std::marker::Model;
 use std::mem;
 
-// Fewer items go into the deque one at a time: a block costs some steps of its own.
+// Fewer items go into the deque, and are compared, one at a time: a block costs some steps of its own.
 const FEW: usize = 16;
 
 // Fewer items are popped straight to where they are copied: a copy of the slices costs some steps of its own.
@@ -237,7 +237,19 @@ impl<T: Drop> RingBuffer<T> for GrowableAllocRingBuffer<T> {
     where
         T: PartialEq,
     {
-        self.deque.len() == items.len() && equal_to_slice(self.deque.as_slices(), items)
+        if self.deque.len() != items.len() {
+            return false;
+        }
+        if items.len() >= FEW {
+            return equal_to_slice(self.deque.as_slices(), items);
+        }
+        for i in 0..items.len() {
+            let same = self.deque[i] == items[i];
+            if !same {
+                return false;
+            }
+        }
+        true
     }
 
     fn get(&self, index: usize) -> Option<&T> {

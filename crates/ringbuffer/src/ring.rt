@@ -176,8 +176,8 @@ impl<T: Drop, S: RingSlots<T>> RingBuffer<T> for FixedRing<T, S> {
             return false;
         }
         match self.rows() {
-            Some(rows) => equal_to_slice(rows, items),
-            None => self.equals_by_stretch(items),
+            Some(rows) if self.span.len > FEW => equal_to_slice(rows, items),
+            _ => self.equals_by_stretch(items),
         }
     }
 
