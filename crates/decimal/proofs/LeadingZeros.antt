@@ -1,8 +1,10 @@
 -- Digits without the zeros in front are the text of their number.
-use Rattle.std.proofs.Common.{◌≡◌, ℕ, zero, suc, ◌+◌, ◌-◌, ◌*◌, ◌/◌, ◌%◌, ◌^◌, ◌<◌, ◌≤◌, List, [], ◌∷◌, ◌++◌, length, get_or, drop, map, max, refl, sym, ap, ◌∙◌, subst, arith, ◌⊎◌, inl, inr}
+use Rattle.std.proofs.Common.{◌≡◌, ℕ, zero, suc, ◌+◌, ◌-◌, ◌*◌, ◌/◌, ◌%◌, ◌^◌, ◌<◌, ◌≤◌, List, [], ◌∷◌, ◌++◌, length, get_or, take, drop, map, max, refl, sym, ap, ◌∙◌, subst, arith, ◌⊎◌, inl, inr}
 use Rattle.std.proofs.lemmas.Bool.Decides.{nat_tests}
 use Rattle.std.proofs.lemmas.Fmt.{decimal-digits_value, decimal_nonempty, digits_decimal, digits_value-decimal, first_decimal}
-use Rattle.std.proofs.lemmas.List.{drop-append-le, length-append, length-map}
+use Rattle.std.proofs.Math.Seq.{take-append-add}
+use Rattle.std.proofs.lemmas.List.{length-append, length-map, length-take-le, take-append-le}
+use borrow.Rule.Slice.PartMut.{post_of, put_mid}
 use Rattle.std.proofs.lemmas.Nat.{le_bytes_8, or_lt}
 use Rattle.std.proofs.lemmas.Nat.Bits.{bit_at-pow_other, bit_at-pow_same, bit_at-trailing_zeros, bit_at-zero, bit_at_cat_high, bit_at_cat_low, bit_at_or, same_from_bits_below}
 use Rattle.std.proofs.lemmas.Str.Parse.{numerals_by_value, tells_digits}
@@ -160,6 +162,45 @@ spelled n word bytes h e b =
       within = omega (arith, place.within);
     }
 
+-- ---- the same with the zeros in front shifted out
+
+below_small : (ds : List ℕ) → Below 256 ds → (i : ℕ) → get_or ds i 0 < 256
+below_small [] h i = omega arith
+below_small (d ∷ ds) (h, hs) zero = omega (arith, h)
+below_small (d ∷ ds) (h, hs) (suc i) = below_small ds hs i
+
+ascii_below : (ds : List ℕ) → Below 10 ds → Below 256 (ascii ds)
+ascii_below [] h = tt
+ascii_below (d ∷ ds) (h, hs) = (omega (arith, h), ascii_below ds hs)
+
+-- a shift by bytes drops those in front
+abbrev ShiftedOut : ℕ → List ℕ → Type 0
+ShiftedOut k ds = (more : List ℕ) → Below 256 ds → take (8 - k) (to_le_bytes w64 (from_le_bytes w64 ds / 2 ^ (8 * k)) ++ more) ≡ drop k ds
+
+-- what is left is eight bytes, too
+left : (k n : ℕ) (kept : List ℕ) → length kept ≡ 8 → Below 256 kept → n ≡ from_le_bytes w64 kept → (more : List ℕ) → take (8 - k) (to_le_bytes w64 n ++ more) ≡ take (8 - k) (kept ++ more)
+left k n kept long h e more = ap (λ bs. take (8 - k) (bs ++ more)) (le_bytes_8 kept n long (below_small kept h) e)
+
+shifted_out : (k : ℕ) → k < 8 → (ds : List ℕ) → length ds ≡ 8 → ShiftedOut k ds
+shifted_out zero low = by_eight (ShiftedOut 0) (λ b0 b1 b2 b3 b4 b5 b6 b7. λ more h. left 0 _ (b0 ∷ b1 ∷ b2 ∷ b3 ∷ b4 ∷ b5 ∷ b6 ∷ b7 ∷ []) refl (h.0, (h.1.0, (h.1.1.0, (h.1.1.1.0, (h.1.1.1.1.0, (h.1.1.1.1.1.0, (h.1.1.1.1.1.1.0, (h.1.1.1.1.1.1.1.0, tt)))))))) (omega (arith, h)) more)
+shifted_out (suc zero) low = by_eight (ShiftedOut 1) (λ b0 b1 b2 b3 b4 b5 b6 b7. λ more h. left 1 _ (b1 ∷ b2 ∷ b3 ∷ b4 ∷ b5 ∷ b6 ∷ b7 ∷ 0 ∷ []) refl (h.1.0, (h.1.1.0, (h.1.1.1.0, (h.1.1.1.1.0, (h.1.1.1.1.1.0, (h.1.1.1.1.1.1.0, (h.1.1.1.1.1.1.1.0, (omega arith, tt)))))))) (omega (arith, h)) more)
+shifted_out (suc (suc zero)) low = by_eight (ShiftedOut 2) (λ b0 b1 b2 b3 b4 b5 b6 b7. λ more h. left 2 _ (b2 ∷ b3 ∷ b4 ∷ b5 ∷ b6 ∷ b7 ∷ 0 ∷ 0 ∷ []) refl (h.1.1.0, (h.1.1.1.0, (h.1.1.1.1.0, (h.1.1.1.1.1.0, (h.1.1.1.1.1.1.0, (h.1.1.1.1.1.1.1.0, (omega arith, (omega arith, tt)))))))) (omega (arith, h)) more)
+shifted_out (suc (suc (suc zero))) low = by_eight (ShiftedOut 3) (λ b0 b1 b2 b3 b4 b5 b6 b7. λ more h. left 3 _ (b3 ∷ b4 ∷ b5 ∷ b6 ∷ b7 ∷ 0 ∷ 0 ∷ 0 ∷ []) refl (h.1.1.1.0, (h.1.1.1.1.0, (h.1.1.1.1.1.0, (h.1.1.1.1.1.1.0, (h.1.1.1.1.1.1.1.0, (omega arith, (omega arith, (omega arith, tt)))))))) (omega (arith, h)) more)
+shifted_out (suc (suc (suc (suc zero)))) low = by_eight (ShiftedOut 4) (λ b0 b1 b2 b3 b4 b5 b6 b7. λ more h. left 4 _ (b4 ∷ b5 ∷ b6 ∷ b7 ∷ 0 ∷ 0 ∷ 0 ∷ 0 ∷ []) refl (h.1.1.1.1.0, (h.1.1.1.1.1.0, (h.1.1.1.1.1.1.0, (h.1.1.1.1.1.1.1.0, (omega arith, (omega arith, (omega arith, (omega arith, tt)))))))) (omega (arith, h)) more)
+shifted_out (suc (suc (suc (suc (suc zero))))) low = by_eight (ShiftedOut 5) (λ b0 b1 b2 b3 b4 b5 b6 b7. λ more h. left 5 _ (b5 ∷ b6 ∷ b7 ∷ 0 ∷ 0 ∷ 0 ∷ 0 ∷ 0 ∷ []) refl (h.1.1.1.1.1.0, (h.1.1.1.1.1.1.0, (h.1.1.1.1.1.1.1.0, (omega arith, (omega arith, (omega arith, (omega arith, (omega arith, tt)))))))) (omega (arith, h)) more)
+shifted_out (suc (suc (suc (suc (suc (suc zero)))))) low = by_eight (ShiftedOut 6) (λ b0 b1 b2 b3 b4 b5 b6 b7. λ more h. left 6 _ (b6 ∷ b7 ∷ 0 ∷ 0 ∷ 0 ∷ 0 ∷ 0 ∷ 0 ∷ []) refl (h.1.1.1.1.1.1.0, (h.1.1.1.1.1.1.1.0, (omega arith, (omega arith, (omega arith, (omega arith, (omega arith, (omega arith, tt)))))))) (omega (arith, h)) more)
+shifted_out (suc (suc (suc (suc (suc (suc (suc zero))))))) low = by_eight (ShiftedOut 7) (λ b0 b1 b2 b3 b4 b5 b6 b7. λ more h. left 7 _ (b7 ∷ 0 ∷ 0 ∷ 0 ∷ 0 ∷ 0 ∷ 0 ∷ 0 ∷ []) refl (h.1.1.1.1.1.1.1.0, (omega arith, (omega arith, (omega arith, (omega arith, (omega arith, (omega arith, (omega arith, tt)))))))) (omega (arith, h)) more)
+shifted_out (suc (suc (suc (suc (suc (suc (suc (suc k)))))))) low = absurd (omega (arith, low))
+
+pub shifted_text : (n word : ℕ) (bytes more : List ℕ) → let k = trailing_zeros w64 (bit_or word 72057594037927936) / 8 in n < 10 ^ 8 → word ≡ from_le_bytes w64 (last_eight n) → bytes ≡ to_le_bytes w64 ((word + 3472328296227680304) / 2 ^ (8 * k)) → take (8 - k) (bytes ++ more) ≡ decimal n
+shifted_text n word bytes more h e b =
+    let k = trailing_zeros w64 (bit_or word 72057594037927936) / 8 in let ds = ascii (last_eight n) in let below = below_ten n in
+    let s = spelled n word (to_le_bytes w64 (word + 3472328296227680304)) h e refl in
+    let sum : word + 3472328296227680304 ≡ from_le_bytes w64 ds = omega (arith, e) in
+    let is = le_bytes_8 ds (word + 3472328296227680304) refl (ascii_small (last_eight n) below) sum in
+    ap (λ bs. take (8 - k) (bs ++ more)) (b ∙ ap (λ x. to_le_bytes w64 (x / 2 ^ (8 * k))) sum)
+    ∙ shifted_out k s.within ds refl more (ascii_below (last_eight n) below) ∙ ap (drop k) (sym is) ∙ s.text
+
 -- ---- eights after a number
 
 all_digits : (xs ys : List ℕ) → AllDigits 10 xs → AllDigits 10 ys → AllDigits 10 (xs ++ ys)
@@ -185,5 +226,12 @@ eight_more n low size ds some small e fits all long value =
       value = value_after-append 0 (decimal n) ds ∙ ap (λ v. digits_value_after 10 v ds) (digits_value-decimal own n small) ∙ shifted n ds long ∙ omega (arith, value, e);
     }) fits
 
-pub drop_front : (k : ℕ) (xs ys : List ℕ) (text : List ℕ) → k < length xs → drop k xs ≡ text → drop k (xs ++ ys) ≡ text ++ ys
-drop_front k xs ys text h e = drop-append-le k xs ys (omega (arith, h)) ∙ ap (λ t. t ++ ys) e
+-- they are written after the characters of that number
+pub eight_after : (count k size : ℕ) (xs ys : List ℕ) → 10 ^ 8 ≤ size → size < 2 ^ 64 → count ≤ length xs → 8 ≤ length ys → take count xs ≡ decimal (size / 100000000) → AllDigits 10 (take 8 ys) → digits_value 10 (take 8 ys) ≡ size % 100000000
+    → take (count + 8) (put_mid count k xs ys) ≡ decimal size
+eight_after count k size xs ys large fits within room front all value =
+    let long : length (take count xs) ≡ count = length-take-le count xs within in
+    let cut : take (length (take count xs) + 8) (put_mid count k xs ys) ≡ take count xs ++ take 8 (ys ++ post_of count k xs) = take-append-add (take count xs) (ys ++ post_of count k xs) 8 in
+    let cut_here : take (count + 8) (put_mid count k xs ys) ≡ take count xs ++ take 8 (ys ++ post_of count k xs) = rw long at cut in
+    cut_here ∙ ap (λ bs. take count xs ++ bs) (take-append-le 8 ys _ room) ∙ ap (λ bs. bs ++ take 8 ys) front
+    ∙ eight_more (size / 100000000) (size % 100000000) size (take 8 ys) (omega arith) (omega arith) (omega arith) fits all (length-take-le 8 ys room) value

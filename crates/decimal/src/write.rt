@@ -1,9 +1,8 @@
 //! The text of a number.
 
-ghost use Rattle.std.specs.Prelude.{◌≡◌, ◌++◌, ◌^◌, ◌<◌, OnOk, drop};
+ghost use Rattle.std.specs.Prelude.{◌≡◌, ◌++◌, ◌^◌, ◌<◌, ◌≤◌, OnOk, length, take};
 ghost use Rattle.std.specs.Fmt.{decimal, signed_decimal};
 ghost use Rattle.std.specs.Int.{from_le_bytes, w64};
-ghost use Rattle.std.specs.List.{flat_map};
 ghost use Rattle.std.specs.Str.Parse.{AllDigits, digits_value};
 ghost use Rattle.decimal.specs.LastEight.{last_eight};
 
@@ -12,7 +11,11 @@ use std::alloc::AllocError;
 // Eight digits write numbers below it.
 const EIGHT_DIGITS: u64 = 100_000_000;
 
-const ZEROS: [u8; 8] = *b"00000000";
+// ASCII zeros, which make characters of eight digits.
+const ZEROS: u64 = 0x3030_3030_3030_3030;
+
+// As many characters are room for any number: the most that one takes are 20, and eight are written at once.
+const ROOM: usize = 32;
 
 /// Puts `number` at the end of `text`, as `{}` writes it.
 ///
@@ -22,50 +25,100 @@ const ZEROS: [u8; 8] = *b"00000000";
 pub fn push_decimal(text: &mut Vec<u8>, number: i64) -> Result<(), AllocError>
     ensures { OnOk result (text.new.items ≡ text.old.items ++ signed_decimal number) }
 {
-    let (mut eights, start) = spell(number.unsigned_abs());
-    let digits = eights.as_flattened_mut();
-    // The place of the sign is always written, so that no branch hangs on it.
-    digits[start - 1] = b'-';
-    text.extend_from_slice(&digits[start - usize::from(number < 0)..])
+    let len = text.len();
+    if text.capacity() - len < ROOM {
+        return push_exactly(text, number);
+    }
+    // What is too much is cut off: to copy just as many characters as there are takes a call that branches on their number.
+    text.extend_from_slice(&[0; ROOM])?;
+    let count = write_signed(&mut text.as_mut_slice()[len..], number);
+    text.truncate(len + count);
+    Ok(())
 }
 
-/// Returns digits, eight at a time, that end with those of `size`, and where these begin.
+/// Does what `push_decimal` does, and asks for no more room than the number takes.
+#[inline(never)]
+fn push_exactly(text: &mut Vec<u8>, number: i64) -> Result<(), AllocError>
+    ensures { OnOk result (text.new.items ≡ text.old.items ++ signed_decimal number) }
+{
+    let mut characters = [0; ROOM];
+    let count = write_signed(&mut characters, number);
+    text.extend_from_slice(&characters[..count])
+}
+
+/// Writes `number` to the front of `output`, and returns how many characters it takes.
 #[inline(always)]
-fn spell(size: u64) -> ([[u8; 8]; 3], usize)
-    ensures size { drop result.1 (flat_map (λ eight. eight) result.0) ≡ decimal size }
-    ensures room { 0 < result.1 }
-    ensures within { result.1 < 24 }
+fn write_signed(output: &mut [u8], number: i64) -> usize
+    requires { 32 ≤ length output.old }
+    ensures long { length output.new ≡ length output.old }
+    ensures written { take result output.new ≡ signed_decimal number }
+    ensures within { result ≤ 32 }
+{
+    // The place of the sign is always written, so that no branch hangs on it.
+    output[0] = b'-';
+    let start = usize::from(number < 0);
+    start + write_size(&mut output[start..], number.unsigned_abs())
+}
+
+/// Writes `size` to the front of `output`, and returns how many characters it takes.
+#[inline(always)]
+fn write_size(output: &mut [u8], size: u64) -> usize
+    requires { 24 ≤ length output.old }
+    ensures long { length output.new ≡ length output.old }
+    ensures written { take result output.new ≡ decimal size }
+    ensures within { result ≤ 24 }
 {
     if size < EIGHT_DIGITS {
-        let (last, start) = spell_eight(size);
-        return ([ZEROS, ZEROS, last], 16 + start);
+        return write_first(output, size);
     }
-    let rest = size / EIGHT_DIGITS;
-    let (last, _) = spell_eight(size % EIGHT_DIGITS);
-    let (middle, start) = spell_eight(rest % EIGHT_DIGITS);
-    if rest < EIGHT_DIGITS {
-        return ([ZEROS, middle, last], 8 + start);
-    }
-    let (first, start) = spell_eight(rest / EIGHT_DIGITS);
-    ([first, middle, last], start)
+    let count = write_sixteen(output, size / EIGHT_DIGITS);
+    write_eight(&mut output[count..], size % EIGHT_DIGITS);
+    count + 8
 }
 
-/// Returns the eight digits of `number`, and where the first stands that is no leading zero.
+/// Writes a `size` of at most 16 digits to the front of `output`, and returns how many it has.
 #[inline(always)]
-fn spell_eight(number: u64) -> ([u8; 8], usize)
-    requires { number < 10 ^ 8 }
-    ensures digits { AllDigits 10 result.0 }
-    ensures value { digits_value 10 result.0 ≡ number }
-    ensures number { drop result.1 result.0 ≡ decimal number }
-    ensures within { result.1 < 8 }
+fn write_sixteen(output: &mut [u8], size: u64) -> usize
+    requires room { 16 ≤ length output.old }
+    requires sixteen { size < 10 ^ 16 }
+    ensures long { length output.new ≡ length output.old }
+    ensures written { take result output.new ≡ decimal size }
+    ensures within { result ≤ 16 }
+{
+    if size < EIGHT_DIGITS {
+        return write_first(output, size);
+    }
+    let count = write_first(output, size / EIGHT_DIGITS);
+    write_eight(&mut output[count..], size % EIGHT_DIGITS);
+    count + 8
+}
+
+/// Writes `number` to the front of `output`, and returns how many characters it takes. It writes eight bytes in any case.
+#[inline(always)]
+fn write_first(output: &mut [u8], number: u64) -> usize
+    requires room { 8 ≤ length output.old }
+    requires eight { number < 10 ^ 8 }
+    ensures long { length output.new ≡ length output.old }
+    ensures written { take result output.new ≡ decimal number }
+    ensures within { result ≤ 8 }
 {
     let digits = split_eight(number);
     // A last digit counts as one also where it is zero.
     let start = (digits | 1 << 56).trailing_zeros() / 8;
-    (
-        (digits + 0x3030_3030_3030_3030).to_le_bytes(),
-        start as usize,
-    )
+    output[..8].copy_from_slice(&(digits + ZEROS >> 8 * start).to_le_bytes());
+    8 - start as usize
+}
+
+/// Writes the eight digits of `number`, zeros in front among them, to the front of `output`.
+#[inline(always)]
+fn write_eight(output: &mut [u8], number: u64)
+    requires room { 8 ≤ length output.old }
+    requires eight { number < 10 ^ 8 }
+    ensures digits { AllDigits 10 (take 8 output.new) }
+    ensures value { digits_value 10 (take 8 output.new) ≡ number }
+    ensures long { length output.new ≡ length output.old }
+{
+    output[..8].copy_from_slice(&(split_eight(number) + ZEROS).to_le_bytes());
 }
 
 /// Returns the eight digits of `number`, the first in the lowest byte. They are made together: in fours, then in pairs.

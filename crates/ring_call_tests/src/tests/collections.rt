@@ -22,6 +22,16 @@ fn a_ring_is_compared_with_slices(rt: HostRuntime) {
     on_each!(&rt, 4, assert_equals_slices);
 }
 
+#[test]
+fn many_items_are_compared_with_slices(rt: HostRuntime) {
+    on_each!(&rt, 20, assert_equals_many);
+}
+
+/// Items, of which a ring takes in the first.
+const ITEMS: [i64; 20] = [
+    0, 1, 2, 3, 4, 5, 6, 7, 8, 9, 10, 11, 12, 13, 14, 15, 16, 17, 18, 19,
+];
+
 /// A ring that is compared with slices.
 trait Compared: RingBuffer<i64> + Drop {
     /// Compares a ring of three items, in memory that they go round in, with slices that differ at each place and in length.
@@ -48,6 +58,27 @@ trait Compared: RingBuffer<i64> + Drop {
             );
             let _ = self.dequeue();
             assert_equal(rt, self.eq_slice(&items[1..]), true);
+        }
+    }
+
+    /// Compares a ring with room for 20 with slices that differ at one place. Its items go on at the first slot; the fewest
+    /// are compared one by one, more by stretches of slots.
+    fn assert_equals_many(mut self, rt: &impl Abort) {
+        for count in 12..21 {
+            self.clear();
+            for item in &ITEMS[..15] {
+                let _ = self.push(*item);
+                let _ = self.dequeue();
+            }
+            for item in &ITEMS[..count] {
+                let _ = self.push(*item);
+            }
+            assert_equal(rt, self.eq_slice(&ITEMS[..count]), true);
+            for k in 0..count {
+                let mut others = ITEMS;
+                others[k] = -1;
+                assert_equal(rt, self.eq_slice(&others[..count]), false);
+            }
         }
     }
 }
