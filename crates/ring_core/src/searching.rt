@@ -30,13 +30,14 @@ pub fn partition_point<T: Drop, R: RingBuffer<T>, P: FnMut(&T) -> bool>(
         → IsPartitionedBy p (R.contents ring.now)
         → IsPartitionPoint (λ y. p y ≡ true) (λ y. p y ≡ false) (R.contents ring.now) result }
 {
-    let (mut low, mut left) = (0, ring.len());
-    // Branches on what the calls return would be foretold wrongly half of the time, so this computes with them as numbers.
-    while left > 0 {
-        let half = left / 2;
-        let passed = usize::from(is_before(item_at(ring, low + half)));
-        low += passed * (half + 1);
-        left = (left - passed) / 2;
+    let (mut low, mut high) = (0, ring.len());
+    while low < high {
+        let middle = low + (high - low) / 2;
+        if is_before(item_at(ring, middle)) {
+            low = middle + 1;
+        } else {
+            high = middle;
+        }
     }
     low
 }
