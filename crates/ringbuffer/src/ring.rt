@@ -175,6 +175,7 @@ impl<T: Drop, S: RingSlots<T>> RingBuffer<T> for FixedRing<T, S> {
         if self.span.len != items.len() {
             return false;
         }
+        // Few items are read slot by slot, since slices cost some steps of their own.
         match self.rows() {
             Some(rows) if self.span.len > FEW => equal_to_slice(rows, items),
             _ => self.equals_by_stretch(items),

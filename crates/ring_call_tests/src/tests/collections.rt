@@ -61,8 +61,8 @@ trait Compared: RingBuffer<i64> + Drop {
         }
     }
 
-    /// Compares a ring with room for 20 with slices that differ at one place. Its items go on at the first slot; the fewest
-    /// are compared one by one, more by stretches of slots.
+    /// Compares a ring with room for 20 with slices that differ at one place. Its items go on at the first slot; few are
+    /// compared one by one, more by slices.
     fn assert_equals_many(mut self, rt: &impl Abort) {
         for count in 12..21 {
             self.clear();
