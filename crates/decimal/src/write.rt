@@ -1,6 +1,6 @@
 //! The text of a number.
 
-ghost use Rattle.std.specs.Prelude.{◌≡◌, ◌++◌, ◌^◌, ◌<◌, ◌≤◌, OnOk, length, take};
+ghost use Rattle.std.specs.Prelude.{◌≡◌, ◌+◌, ◌++◌, ◌^◌, ◌<◌, ◌≤◌, IsOk, OnErr, OnOk, length, take, vec_capacity, vec_len};
 ghost use Rattle.std.specs.Fmt.{decimal, signed_decimal};
 ghost use Rattle.std.specs.Int.{from_le_bytes, w64};
 ghost use Rattle.std.specs.Str.Parse.{AllDigits, digits_value};
@@ -21,9 +21,11 @@ const ROOM: usize = 32;
 ///
 /// # Errors
 ///
-/// Where memory was refused.
+/// Where memory was refused. The text is as it was.
 pub fn push_decimal(text: &mut Vec<u8>, number: i64) -> Result<(), AllocError>
-    ensures { OnOk result (text.new.items ≡ text.old.items ++ signed_decimal number) }
+    ensures appended { OnOk result (text.new.items ≡ text.old.items ++ signed_decimal number) }
+    ensures refused { OnErr result (text.new.items ≡ text.old.items) }
+    ensures succeeds { vec_len text.old + length (signed_decimal number) ≤ vec_capacity text.old → IsOk result }
 {
     let len = text.len();
     if text.capacity() - len < ROOM {
@@ -39,7 +41,9 @@ pub fn push_decimal(text: &mut Vec<u8>, number: i64) -> Result<(), AllocError>
 /// Does what `push_decimal` does, and asks for no more room than the number takes.
 #[inline(never)]
 fn push_exactly(text: &mut Vec<u8>, number: i64) -> Result<(), AllocError>
-    ensures { OnOk result (text.new.items ≡ text.old.items ++ signed_decimal number) }
+    ensures appended { OnOk result (text.new.items ≡ text.old.items ++ signed_decimal number) }
+    ensures refused { OnErr result (text.new.items ≡ text.old.items) }
+    ensures succeeds { vec_len text.old + length (signed_decimal number) ≤ vec_capacity text.old → IsOk result }
 {
     let mut characters = [0; ROOM];
     let count = write_signed(&mut characters, number);

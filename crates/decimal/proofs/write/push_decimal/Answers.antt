@@ -12,8 +12,8 @@ kept count all text out after more fits few =
     let joined : (text ++ (out ++ after)) ++ more ≡ text ++ (out ++ (after ++ more)) = append_assoc text (out ++ after) more ∙ ap (λ l. text ++ l) (append_assoc out after more) in
     take-take (length text + count) all _ fits ∙ ap (take (length text + count)) joined ∙ take-append-add text (out ++ (after ++ more)) count ∙ ap (λ l. text ++ l) (take-append-le count out (after ++ more) few)
 
-pub returns : goal.returns
-returns c =
+pub returns-clause-appended : goal.returns-clause-appended
+returns-clause-appended c =
     let text = c.args.text.now.items in let out = c.write_signed-count.new.output in let count = c.write_signed-count.result in
     let held = c.as_mut_slice.ensures.value ∙ c.in_ok-extend_from_slice.ensures.items in
     let long : c.len-len.result ≡ length text = omega (arith, ap length held, c.as_mut_slice.ensures.len, c.in_ok-extend_from_slice.ensures.len, c.len-len.ensures) in
