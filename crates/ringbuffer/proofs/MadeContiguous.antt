@@ -66,11 +66,16 @@ module _ {X : Type 0} (s : Slots X) (start : ℕ) (laid_out : IsLaidOut s start)
       let found : len - first ≡ (start + len) % size = elim (wrap start len size laid_out.start_within (omega arith)) [ inl a ↦ let none = a.0 in absurd (omega arith) | inr a ↦ sym (a.1 ∙ omega arith) ] in
       (omega arith, empty_behind s start laid_out (len - first) len (start - (len - first)) counted (λ _. found) (omega arith) (omega arith))
 
+  -- what the first slots hold, and the last ones
+  low : take (len - first) s.slots ≡ map Some (drop first items)
+  low = second_held s start laid_out len first counted least
+
+  high : drop start s.slots ≡ map Some (take first items)
+  high = sym (take_all first (drop start s.slots) (omega (arith, length-drop start s.slots))) ∙ first_held s start laid_out len first counted least
+
   pub moved_down_contiguous : moved_down s.slots start (len - first) ≡ beside (length s.slots) 0 (rotated first items)
   moved_down_contiguous =
       let fit = laid_out.fit in let size = length s.slots in
-      let low : take (len - first) s.slots ≡ map Some (drop first items) = second_held s start laid_out len first counted least in
-      let high : drop start s.slots ≡ map Some (take first items) = sym (take_all first (drop start s.slots) (omega (arith, length-drop start s.slots))) ∙ first_held s start laid_out len first counted least in
       let long : length (rotated first items) ≡ len = length-rotated first items (omega arith) ∙ sym counted in
       let left : start - (len - first) ≡ size - (0 + length (rotated first items)) = omega arith in
       rw (low, high, left) (sym (append_assoc (map Some (drop first items)) (map Some (take first items)) _) ∙ ap (λ l. l ++ replicate (size - (0 + length (rotated first items))) None) (sym (map-append Some (drop first items) (take first items))))
@@ -83,8 +88,6 @@ module _ {X : Type 0} (s : Slots X) (start : ℕ) (laid_out : IsLaidOut s start)
   pub brought_contiguous : len ≤ start → brought_first s.slots start (len - first) ≡ beside (length s.slots) 0 items
   brought_contiguous room =
       let fit = laid_out.fit in let size = length s.slots in
-      let low : take (len - first) s.slots ≡ map Some (drop first items) = second_held s start laid_out len first counted least in
-      let high : drop start s.slots ≡ map Some (take first items) = sym (take_all first (drop start s.slots) (omega (arith, length-drop start s.slots))) ∙ first_held s start laid_out len first counted least in
       let left : start - (len - first) ≡ size - (0 + length items) = omega arith in
       rw (low, high, left) (sym (append_assoc (map Some (take first items)) (map Some (drop first items)) _) ∙ ap (λ l. l ++ replicate (size - (0 + length items)) None) (sym (map-append Some (take first items) (drop first items)) ∙ ap (λ l. map Some l) (take-append-drop first items)))
 

@@ -1,14 +1,12 @@
 -- What stretches of full slots hold, read from the front, and compared pair by pair.
-use Rattle.ringbuffer.proofs.Words.{◌≡◌, ℕ, ◌+◌, ◌<◌, ◌≤◌, ◌-◌, ◌%◌, ◌⊎◌, inl, inr, zero, dec_lt, min, List, [], ◌∷◌, ◌++◌, Bool, ◌&&◌, length, length-drop, length-take-le, take, take-append-drop, drop, drop-drop, get_or, nat_eq, Option, None, Some, IsSome, refl, sym, subst, ap, ◌∙◌, add-one, suc, arith, drop-cons, drop-length, slice_get, pointwise, HoldsStretch, IsFullStretch, IsLaidOut, Slots, items_from}
+use Rattle.ringbuffer.proofs.Words.{◌≡◌, ℕ, ◌+◌, ◌<◌, ◌≤◌, inl, inr, zero, min, List, [], ◌∷◌, ◌++◌, Bool, ◌&&◌, length, length-drop, take, take-append-drop, drop, drop-drop, get_or, nat_eq, Option, None, Some, IsSome, refl, sym, subst, ap, ◌∙◌, add-one, suc, arith, drop-cons, drop-length, slice_get, pointwise, HoldsStretch, IsFullStretch}
 use Prim.Native.Nat.compare
-use Rattle.std.specs.Prelude.{max}
 use Rattle.std.proofs.Math.Bool.{and_assoc, cond}
-use Rattle.std.proofs.lemmas.Bool.{cases_Bool, cases_lt}
-use Rattle.std.proofs.lemmas.List.Sums.{common_prefix_len-le}
+use Rattle.std.proofs.lemmas.Bool.{cases_Bool}
 use Rattle.std.proofs.lemmas.Option.{get_or_from_slice_get}
 use Rattle.std.specs.List.{common_prefix_len}
 use Rattle.ringbuffer.proofs.LaysOut.{slice_get_some}
-use Rattle.ringbuffer.proofs.Stretches.{between_held, between_stretch, front_held, front_stretch, stretch_at, stretch_long}
+use Rattle.ringbuffer.proofs.Stretches.{stretch_at, stretch_long}
 
 module _ {X : Type 0} (cs : List (Option X)) (from n : ℕ) where
   -- each slot of a full stretch holds an item
@@ -27,11 +25,14 @@ module _ {X : Type 0} (cs : List (Option X)) (from n : ℕ) where
     pub none_left : drop n xs ≡ []
     none_left = rw (sym (stretch_long cs from n xs holds full.0)) (drop-length xs)
 
--- the pair at a place of two stretches
+-- the answer for the pair at index k, and the pairs after it, are the pairs from there on of two stretches
+abbrev pub ComparesAt : {X : Type 0} → (X → X → Bool) → List (Option X) → List (Option X) → ℕ → ℕ → ℕ → ℕ → Bool → Type 0
+ComparesAt {X} eq cs ds from other n k same = (xs ys : List X) → HoldsStretch cs from n xs → HoldsStretch ds other n ys
+    → common_prefix_len eq (drop k xs) (drop k ys) ≡ cond same (1 + common_prefix_len eq (drop (k + 1) xs) (drop (k + 1) ys)) 0
+
 pub next_pair : {X : Type 0} (eq : X → X → Bool) (cs ds : List (Option X)) (from other n : ℕ) → IsFullStretch cs from n → IsFullStretch ds other n
-    → (xs ys : List X) → HoldsStretch cs from n xs → HoldsStretch ds other n ys → (k : ℕ) → k < n → (x y : X) → get_or cs (from + k) None ≡ Some x → get_or ds (other + k) None ≡ Some y
-    → (same : Bool) → same ≡ eq x y → common_prefix_len eq (drop k xs) (drop k ys) ≡ cond same (1 + common_prefix_len eq (drop (k + 1) xs) (drop (k + 1) ys)) 0
-next_pair eq cs ds from other n full others_full xs ys held others_held k low x y is other_is same answered =
+    → (k : ℕ) → k < n → {x y : X} → get_or cs (from + k) None ≡ Some x → get_or ds (other + k) None ≡ Some y → {same : Bool} → same ≡ eq x y → ComparesAt eq cs ds from other n k same
+next_pair eq cs ds from other n full others_full k low {x} {y} is other_is answered = λ xs ys held others_held.
     rw (ahead cs from n full xs held k x low is, ahead ds other n others_full ys others_held k y low other_is, answered) refl
 
 -- beginnings of equal length are compared apart from what follows them
@@ -65,7 +66,7 @@ module _ {X : Type 0} (eq : X → X → Bool) where
   prefix_past (suc n) (x ∷ xs) (y ∷ ys) past = prefix_past n xs ys (omega (arith, past))
 
   -- Lists are compared by their first parts, and where all pairs of these are equal, by what follows.
-  pub prefix_short : (n : ℕ) (xs ys : List X) → n ≤ length xs → n ≤ length ys → common_prefix_len eq (take n xs) (take n ys) < n
+  prefix_short : (n : ℕ) (xs ys : List X) → n ≤ length xs → n ≤ length ys → common_prefix_len eq (take n xs) (take n ys) < n
       → common_prefix_len eq xs ys ≡ common_prefix_len eq (take n xs) (take n ys)
   prefix_short zero xs ys low other_low short = absurd (omega (arith, short))
   prefix_short (suc n) [] ys low other_low short = absurd (omega (arith, low))
@@ -75,7 +76,7 @@ module _ {X : Type 0} (eq : X → X → Bool) where
     | inr apart ↦ rw apart refl
   ]
 
-  pub prefix_on : (n : ℕ) (xs ys : List X) → n ≤ length xs → n ≤ length ys → n ≤ common_prefix_len eq (take n xs) (take n ys)
+  prefix_on : (n : ℕ) (xs ys : List X) → n ≤ length xs → n ≤ length ys → n ≤ common_prefix_len eq (take n xs) (take n ys)
       → common_prefix_len eq xs ys ≡ n + common_prefix_len eq (drop n xs) (drop n ys)
   prefix_on zero xs ys low other_low long = omega arith
   prefix_on (suc n) [] ys low other_low long = absurd (omega (arith, low))
@@ -85,12 +86,17 @@ module _ {X : Type 0} (eq : X → X → Bool) where
     | inr apart ↦ let none = rw apart at long in absurd (omega (arith, none))
   ]
 
-  -- what lies after the pairs doesn't count
-  pub prefix_all : (n : ℕ) (xs ys : List X) → n ≡ min (length xs) (length ys) → common_prefix_len eq xs ys ≡ common_prefix_len eq (take n xs) (take n ys)
-  prefix_all n xs ys is = elim (cases_lt (common_prefix_len eq (take n xs) (take n ys)) n) [
-    | inl short ↦ prefix_short n xs ys (omega (arith, is)) (omega (arith, is)) short
-    | inr long ↦ omega (arith, long, prefix_on n xs ys (omega (arith, is)) (omega (arith, is)) long, prefix_past n xs ys (omega (arith, is)), (common_prefix_len-le eq (take n xs) (take n ys)).0, length-take-le n xs (omega (arith, is)))
-  ]
+  -- The n pairs after the first k, which are equal, are compared: what follows these counts where all of them are equal.
+  module _ (xs ys : List X) (k n more : ℕ) (low : k + n ≤ length xs) (other_low : k + n ≤ length ys) (so_far : common_prefix_len eq xs ys ≡ k + common_prefix_len eq (drop k xs) (drop k ys))
+      (compared : more ≡ common_prefix_len eq (take n (drop k xs)) (take n (drop k ys))) where
+    pub prefix_ends : more < n → common_prefix_len eq xs ys ≡ k + more
+    prefix_ends short =
+        let here = prefix_short n (drop k xs) (drop k ys) (omega (arith, length-drop k xs)) (omega (arith, length-drop k ys)) (rw compared at short) in omega (arith, so_far, here, compared)
+
+    pub prefix_goes_on : n ≤ more → common_prefix_len eq xs ys ≡ k + n + common_prefix_len eq (drop (k + n) xs) (drop (k + n) ys)
+    prefix_goes_on long =
+        let on = prefix_on n (drop k xs) (drop k ys) (omega (arith, length-drop k xs)) (omega (arith, length-drop k ys)) (rw compared at long) in
+        let after = rw (drop-drop n k xs, drop-drop n k ys) at on in omega (arith, so_far, after)
 
   -- lists of one length are equal where all their pairs are
   pub pointwise_prefix : (xs ys : List X) → length xs ≡ length ys → pointwise eq xs ys ≡ nat_eq (common_prefix_len eq xs ys) (length xs)
@@ -102,57 +108,3 @@ module _ {X : Type 0} (eq : X → X → Bool) where
         rw (equal, one, compare.suc-suc (common_prefix_len eq xs ys) (length xs)) (pointwise_prefix xs ys (omega (arith, same)))
     | inr apart ↦ rw (apart, compare.zero-suc) refl
   ]
-
--- what the three parts hold in which a ring is compared with another
-pub record InThree {X : Type 0} (s : Slots X) (start len first second : ℕ) : Type 0 where
-  pub first_full : IsFullStretch s.slots start first
-  pub first_held : HoldsStretch s.slots start first (take first (items_from s.slots start))
-  pub middle_full : IsFullStretch s.slots ((start + first) % length s.slots) (second - first)
-  pub middle_held : HoldsStretch s.slots ((start + first) % length s.slots) (second - first) (take (second - first) (drop first (items_from s.slots start)))
-  pub last_full : IsFullStretch s.slots ((start + second) % length s.slots) (len - second)
-  pub last_held : HoldsStretch s.slots ((start + second) % length s.slots) (len - second) (take (len - second) (drop second (items_from s.slots start)))
-
--- Each part ends where one of the rings goes on at its first slot, or where the pairs end.
-pub in_three : {X : Type 0} (s : Slots X) (start : ℕ) → IsLaidOut s start → (len before other first second : ℕ) → len ≤ length (items_from s.slots start)
-    → before ≡ min len (length s.slots - start) → other ≤ len → first ≡ min before other → second ≡ max before other → InThree s start len first second
-in_three s start laid_out len before other first second counted least within low high =
-    let shorter : first ≡ min first (length s.slots - start) = omega arith in
-    let middle_within : first + (second - first) ≤ length (items_from s.slots start) = omega arith in
-    let last_within : second + (len - second) ≤ length (items_from s.slots start) = omega arith in
-    let middle_contiguous : (start + first + (second - first) ≤ length s.slots) ⊎ (length s.slots ≤ start + first) = elim (dec_lt (length s.slots) (start + first + (second - first))) [ yes over ↦ inr (omega arith) | no under ↦ inl (omega arith) ] in
-    let last_contiguous : (start + second + (len - second) ≤ length s.slots) ⊎ (length s.slots ≤ start + second) = elim (dec_lt (length s.slots) (start + second + (len - second))) [ yes over ↦ inr (omega arith) | no under ↦ inl (omega arith) ] in
-    record {
-      first_full = front_stretch s start laid_out first first (omega arith) shorter;
-      first_held = front_held s start laid_out first first (omega arith) shorter;
-      middle_full = between_stretch s start laid_out first (second - first) middle_within middle_contiguous;
-      middle_held = between_held s start laid_out first (second - first) middle_within middle_contiguous;
-      last_full = between_stretch s start laid_out second (len - second) last_within last_contiguous;
-      last_held = between_held s start laid_out second (len - second) last_within last_contiguous;
-    }
-
--- Pairs are counted in the three parts.
-module _ {X : Type 0} (eq : X → X → Bool) (xs ys : List X) (len first second : ℕ) (counted : len ≡ min (length xs) (length ys)) (low : first ≤ second) (high : second ≤ len) where
-  abbrev in_first : ℕ
-  in_first = common_prefix_len eq (take first xs) (take first ys)
-
-  abbrev in_middle : ℕ
-  in_middle = common_prefix_len eq (take (second - first) (drop first xs)) (take (second - first) (drop first ys))
-
-  abbrev in_last : ℕ
-  in_last = common_prefix_len eq (take (len - second) (drop second xs)) (take (len - second) (drop second ys))
-
-  pub ends_in_first : in_first < first → common_prefix_len eq xs ys ≡ in_first
-  ends_in_first short = prefix_short eq first xs ys (omega arith) (omega arith) short
-
-  pub ends_in_middle : first ≤ in_first → in_middle < second - first → common_prefix_len eq xs ys ≡ first + in_middle
-  ends_in_middle long short =
-      let rest = prefix_short eq (second - first) (drop first xs) (drop first ys) (omega (arith, length-drop first xs)) (omega (arith, length-drop first ys)) short in
-      let on = prefix_on eq first xs ys (omega arith) (omega arith) long in omega (arith, on, rest)
-
-  pub ends_in_last : first ≤ in_first → second - first ≤ in_middle → common_prefix_len eq xs ys ≡ second + in_last
-  ends_in_last long long_too =
-      let at : first + (second - first) ≡ second = omega arith in
-      let on = prefix_on eq first xs ys (omega arith) (omega arith) long in
-      let more = prefix_on eq (second - first) (drop first xs) (drop first ys) (omega (arith, length-drop first xs)) (omega (arith, length-drop first ys)) long_too in
-      let then_on = rw (drop-drop (second - first) first xs, drop-drop (second - first) first ys, at) at more in
-      let last = prefix_all eq (len - second) (drop second xs) (drop second ys) (omega (arith, counted, length-drop second xs, length-drop second ys)) in omega (arith, on, then_on, last)

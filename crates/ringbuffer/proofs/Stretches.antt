@@ -1,5 +1,5 @@
 -- The items of a ring are two stretches of full slots: those up to the last slot, and those that go on at the first.
-use Rattle.ringbuffer.proofs.Words.{◌≡◌, ℕ, ◌+◌, ◌-◌, ◌<◌, ◌≤◌, ◌%◌, ◌⊎◌, List, [], ◌∷◌, ◌++◌, length, map, take, drop, get_or, Option, None, Some, refl, sym, ap, ◌∙◌, arith, slice_get, min, mod-eq_of_lt, ext_get_or, get_or-take, get_or-drop, length-map, length-take, length-drop, take-append-drop, slice_get-drop, slice_get-take, Slots, HoldsStretch, IsFullStretch, items_from, IsLaidOut, somes}
+use Rattle.ringbuffer.proofs.Words.{◌≡◌, ℕ, ◌+◌, ◌-◌, ◌<◌, ◌≤◌, ◌%◌, List, [], ◌∷◌, ◌++◌, length, map, take, drop, get_or, Option, None, Some, refl, sym, ap, ◌∙◌, arith, slice_get, min, mod-eq_of_lt, mod-lt, ext_get_or, get_or-take, get_or-drop, length-map, length-take, length-drop, take_all, slice_get-drop, slice_get-take, Slots, HoldsStretch, IsFullStretch, items_from, IsLaidOut, somes}
 use Rattle.std.proofs.Math.Seq.{take-add}
 use Rattle.ring_slots.proofs.Filled.{get_or-map_some}
 use Rattle.ringbuffer.proofs.SlotsHold.{contiguous_on, wrap}
@@ -53,50 +53,37 @@ module _ {X : Type 0} (s : Slots X) (start : ℕ) (laid_out : IsLaidOut s start)
       rw (stretch_is s.slots start first xs (take first items) before front_held, stretch_is s.slots 0 (count - first) ys (take (count - first) (drop first items)) after rest_held)
       (sym (take-add first (count - first) items) ∙ ap (λ n. take n items) all)
 
+-- so do all of them
 module _ {X : Type 0} (s : Slots X) (start : ℕ) (laid_out : IsLaidOut s start) (len first : ℕ)
     (counted : len ≡ length (items_from s.slots start)) (least : first ≡ min len (length s.slots - start)) where
   abbrev items : List X
   items = items_from s.slots start
 
-  -- those up to the last slot
   pub first_held : HoldsStretch s.slots start first (take first items)
-  first_held =
-      let within = laid_out.start_within in
-      stretch_of s.slots start first (take first items) (omega (arith, length-take first items)) (omega arith) (λ k low. grind (arith, laid_out.layout k, mod-eq_of_lt, slice_get-take))
+  first_held = front_held s start laid_out len first (omega (arith, counted)) least
 
-  -- those that go on at the first
   pub second_held : HoldsStretch s.slots 0 (len - first) (drop first items)
   second_held =
-      let within = laid_out.start_within in let fit = laid_out.fit in let round = λ (k : ℕ). wrap start (first + k) (length s.slots) within in
-      stretch_of s.slots 0 (len - first) (drop first items) (omega (arith, length-drop first items)) (omega arith) (λ k low. grind (arith, laid_out.layout (first + k), round k, slice_get-drop))
+      let all = take_all (len - first) (drop first items) (omega (arith, counted, length-drop first items)) in
+      rw all at (rest_held s start laid_out len first (omega (arith, counted)) least)
 
   pub first_stretch : IsFullStretch s.slots start first
-  first_stretch = let within = laid_out.start_within in (omega arith, (take first items, first_held))
+  first_stretch = front_stretch s start laid_out len first (omega (arith, counted)) least
 
   pub second_stretch : IsFullStretch s.slots 0 (len - first)
-  second_stretch = let fit = laid_out.fit in (omega arith, (drop first items, second_held))
+  second_stretch = rest_stretch s start laid_out len first (omega (arith, counted)) least
 
   pub both_stretches : (xs ys : List X) → HoldsStretch s.slots start first xs → HoldsStretch s.slots 0 (len - first) ys → xs ++ ys ≡ items
   both_stretches xs ys before after =
-      rw (stretch_is s.slots start first xs (take first items) before first_held, stretch_is s.slots 0 (len - first) ys (drop first items) after second_held) (take-append-drop first items)
+      fronts_held s start laid_out len first (omega (arith, counted)) least xs ys before after ∙ take_all len items (omega (arith, counted))
 
--- items between two indices lie in one stretch where they don't go on at the first slot
-module _ {X : Type 0} (s : Slots X) (start : ℕ) (laid_out : IsLaidOut s start) (index n : ℕ)
-    (some : index + n ≤ length (items_from s.slots start)) (contiguous : (start + index + n ≤ length s.slots) ⊎ (length s.slots ≤ start + index)) where
-  abbrev from : ℕ
-  from = (start + index) % length s.slots
-
-  reach : (from + n ≤ length s.slots) × ((k : ℕ) → k < n → from + k ≡ (start + (index + k)) % length s.slots)
-  reach =
-      let within = laid_out.start_within in let fit = laid_out.fit in let size = length s.slots in
-      let at = wrap start index size within (omega arith) in
-      let ends : from + n ≤ size = grind (arith, at, contiguous) in
-      (ends, λ k low. contiguous_on start index from size k refl (omega arith))
-
-  pub between_held : HoldsStretch s.slots from n (take n (drop index (items_from s.slots start)))
-  between_held =
-      let items = items_from s.slots start in let fit = laid_out.fit in
-      stretch_of s.slots from n (take n (drop index items)) (omega (arith, length-take n (drop index items), length-drop index items)) reach.0 (λ k low. grind (arith, laid_out.layout (index + k), reach.1 k low, slice_get-take, slice_get-drop))
-
-  pub between_stretch : IsFullStretch s.slots from n
-  between_stretch = (reach.0, (take n (drop index (items_from s.slots start)), between_held))
+-- the n items from an index on lie side by side where they reach no further than the last slot
+pub onward : {X : Type 0} (s : Slots X) (start : ℕ) → IsLaidOut s start → (index n place : ℕ) → place ≡ (start + index) % length s.slots
+    → index + n ≤ length (items_from s.slots start) → n ≤ length s.slots - place → (place + n ≤ length s.slots) × HoldsStretch s.slots place n (take n (drop index (items_from s.slots start)))
+onward s start laid_out index n place at some room =
+    let items = items_from s.slots start in let below = mod-lt (start + index) {m = length s.slots} (omega (arith, laid_out.start_within)) in
+    let fit : place + n ≤ length s.slots = omega (arith, at, below, room) in (
+      fit,
+      stretch_of s.slots place n (take n (drop index items)) (omega (arith, length-take n (drop index items), length-drop index items)) fit
+          (λ k low. grind (arith, laid_out.layout (index + k), contiguous_on start index place (length s.slots) k at (omega arith), slice_get-take, slice_get-drop)),
+    )

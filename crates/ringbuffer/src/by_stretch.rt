@@ -11,8 +11,11 @@ use ring_slots::RingSlots;
 use std::cmp::Ordering;
 use std::hash::{Hash, Hasher};
 
-// As many items, and fewer, are read index by index: their stretches cost more to find.
+// As many items, and fewer, are compared index by index: their stretches cost more to find.
 pub(crate) const FEW: usize = 12;
+
+// As many items, and fewer, are searched index by index, by a loop that the compiler unrolls.
+pub(crate) const FEW_SEARCHED: usize = 6;
 
 impl<T: Drop, S: RingSlots<T>> FixedRing<T, S> {
     // Returns how many items in front of two rings are equal, place by place.
@@ -34,8 +37,8 @@ impl<T: Drop, S: RingSlots<T>> FixedRing<T, S> {
         len
     }
 
-    // Does what `common_prefix_len` does, in three stretches. Each ends where one of the rings goes on at its first slot, or
-    // ends. Out of line, so that few items take no step for it.
+    // Does what `common_prefix_len` does, stretch by stretch. Each ends where one of the rings goes on at its first slot, or
+    // where the pairs end, so there are three at most. Out of line, so that few items take no step for it.
     #[inline(never)]
     fn prefix_by_stretch(&self, other: &Self) -> usize
     where
@@ -43,22 +46,19 @@ impl<T: Drop, S: RingSlots<T>> FixedRing<T, S> {
         ensures { result ≡ common_prefix_len T.eq self.now.items other.now.items }
     {
         let len = self.span.len.min(other.span.len);
-        let (a, b) = (self.span.start, other.span.start);
-        let before_a = len.min(self.slots.size() - a);
-        let before_b = len.min(other.slots.size() - b);
-        let first = before_a.min(before_b);
-        let second = before_a.max(before_b);
-        let found = Self::stretch_prefix(&self.slots, a, &other.slots, b, first);
-        if found < first {
-            return found;
+        let mut equal = 0;
+        while equal < len {
+            let place = self.slots.place(self.span.start, equal);
+            let other_place = other.slots.place(other.span.start, equal);
+            let room = self.slots.size() - place;
+            let count = room.min(other.slots.size() - other_place).min(len - equal);
+            let more = Self::stretch_prefix(&self.slots, place, &other.slots, other_place, count);
+            equal += more;
+            if more < count {
+                return equal;
+            }
         }
-        let (a_on, b_on) = (self.slots.place(a, first), other.slots.place(b, first));
-        let more = Self::stretch_prefix(&self.slots, a_on, &other.slots, b_on, second - first);
-        if more < second - first {
-            return first + more;
-        }
-        let (a_last, b_last) = (self.slots.place(a, second), other.slots.place(b, second));
-        second + Self::stretch_prefix(&self.slots, a_last, &other.slots, b_last, len - second)
+        len
     }
 
     // Returns how many items in front of slots side by side equal those of others, place by place.

@@ -4,7 +4,7 @@ ghost use Rattle.ring_core.specs.Contents.{overwritten, IsWithin, Pushes, index_
 ghost use Rattle.ring_core.proofs.Limits.{counts_one};
 ghost use Rattle.ringbuffer.specs.View.{View, after_push, after_write};
 
-use crate::by_stretch::FEW;
+use crate::by_stretch::{FEW, FEW_SEARCHED};
 use crate::fixed::{FixedRing, Span};
 use crate::position::{index_at, signed_index_at};
 use crate::two_slices::{clone_slices, clone_slices_into, equal_to_slice};
@@ -163,7 +163,7 @@ impl<T: Drop, S: RingSlots<T>> RingBuffer<T> for FixedRing<T, S> {
     {
         match self.rows() {
             Some((first, second)) => first.contains(x) || second.contains(x),
-            None if self.span.len > FEW => self.holds_by_stretch(x),
+            None if self.span.len > FEW_SEARCHED => self.holds_by_stretch(x),
             None => self.holds(x),
         }
     }

@@ -23,8 +23,8 @@ fn a_ring_is_compared_with_slices(rt: HostRuntime) {
 }
 
 #[test]
-fn many_items_are_compared_with_slices(rt: HostRuntime) {
-    on_each!(&rt, 20, assert_equals_many);
+fn many_items_are_found_and_compared_with_slices(rt: HostRuntime) {
+    on_each!(&rt, 20, assert_finds_and_equals_many);
 }
 
 /// Items, of which a ring takes in the first.
@@ -61,10 +61,10 @@ trait Compared: RingBuffer<i64> + Drop {
         }
     }
 
-    /// Compares a ring with room for 20 with slices that differ at one place. Its items go on at the first slot; few are
-    /// compared one by one, more by slices.
-    fn assert_equals_many(mut self, rt: &impl Abort) {
-        for count in 12..21 {
+    /// Looks for the items of a ring with room for 20, and compares it with slices that differ at one place. Its items go on at
+    /// the first slot; few are read one by one, more by stretches of slots and by slices.
+    fn assert_finds_and_equals_many(mut self, rt: &impl Abort) {
+        for count in 5..21 {
             self.clear();
             for item in &ITEMS[..15] {
                 let _ = self.push(*item);
@@ -74,7 +74,9 @@ trait Compared: RingBuffer<i64> + Drop {
                 let _ = self.push(*item);
             }
             assert_equal(rt, self.eq_slice(&ITEMS[..count]), true);
+            assert_equal(rt, self.contains(&-1), false);
             for k in 0..count {
+                assert_equal(rt, self.contains(&ITEMS[k]), true);
                 let mut others = ITEMS;
                 others[k] = -1;
                 assert_equal(rt, self.eq_slice(&others[..count]), false);

@@ -7,26 +7,13 @@ loop-moved-init g c =
     let old = g.S.RingSlots.seen c.args.slots.now in let from = c.args.from in let to = c.args.to in let start = c.args.span.start in
     subst (λ n. LaysApart old (g.S.RingSlots.seen c.drop_items.new.slots) start n (to - from) (after_cut from to 0 (view_from old start))) {x = from} {y = from + 0} (omega arith) c.drop_items.ensures.apart
 
-pub move_item-requires-clause-start : goal.move_item-requires-clause-start
-move_item-requires-clause-start g c = rw c.loop-moved.invariant.same_size c.requires.span.laid_out.start_within
-
-pub move_item-requires-clause-from : goal.move_item-requires-clause-from
-move_item-requires-clause-from g c = let fit = c.requires.span.laid_out.fit in omega (arith, c.loop-moved.invariant.same_size, c.requires.span.len, c.requires.within, c.loop-moved-test.true)
-
-pub move_item-requires-clause-to : goal.move_item-requires-clause-to
-move_item-requires-clause-to g c = let fit = c.requires.span.laid_out.fit in omega (arith, c.loop-moved.invariant.same_size, c.requires.span.len, c.requires.within, c.loop-moved-test.true)
-
-pub move_item-requires-clause-full : goal.move_item-requires-clause-full
-move_item-requires-clause-full g c =
-    let v = view_from (g.S.RingSlots.seen c.args.slots.now) c.args.span.start in let from = c.args.from in let to = c.args.to in let n = c.loop-moved.moved in
-    let r = c.requires in let fit = r.span.laid_out.fit in let long = cut_fits from to n v (omega arith) (omega (arith, r.span.len)) in let apart = c.loop-moved.invariant in let same = apart.same_size in
-    (first_of_back _ _ c.args.span.start (from + n) (to - from) _ (omega (arith, long)) (omega arith) apart (omega (arith, long, r.span.len, c.loop-moved-test.true))).0
-
-pub move_item-requires-clause-empty : goal.move_item-requires-clause-empty
-move_item-requires-clause-empty g c =
-    let v = view_from (g.S.RingSlots.seen c.args.slots.now) c.args.span.start in let from = c.args.from in let to = c.args.to in let n = c.loop-moved.moved in
-    let r = c.requires in let fit = r.span.laid_out.fit in let long = cut_fits from to n v (omega arith) (omega (arith, r.span.len)) in let apart = c.loop-moved.invariant in let same = apart.same_size in
-    (first_of_back _ _ c.args.span.start (from + n) (to - from) _ (omega (arith, long)) (omega arith) apart (omega (arith, long, r.span.len, c.loop-moved-test.true))).1
+-- The next item lies after the gap, whose first slot is empty.
+pub move_item-requires : goal.move_item-requires
+move_item-requires g c =
+    let v = view_from (g.S.RingSlots.seen c.args.slots.now) c.args.span.start in let from = c.args.from in let to = c.args.to in
+    let r = c.requires in let fit = r.span.laid_out.fit in let long = cut_fits from to c.loop-moved.moved v (omega arith) (omega (arith, r.span.len)) in let apart = c.loop-moved.invariant in let same = apart.same_size in
+    let (full, empty) = first_of_back _ _ c.args.span.start (from + c.loop-moved.moved) (to - from) _ (omega (arith, long)) (omega arith) apart (omega (arith, long, r.span.len, c.loop-moved-test.true)) in
+    record { start = rw same r.span.laid_out.start_within; from = omega (arith, same, r.span.len, r.within, c.loop-moved-test.true); to = omega (arith, same, r.span.len, r.within, c.loop-moved-test.true); full = full; empty = empty }
 
 -- One more item is on the other side.
 pub loop-moved-preserved : goal.loop-moved-preserved

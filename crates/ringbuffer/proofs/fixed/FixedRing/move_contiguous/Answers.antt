@@ -4,26 +4,22 @@ use Rattle.ringbuffer.proofs.Stretches.{stretch_is}
 use Rattle.ringbuffer.proofs.MadeContiguous.{beside-refilled, beside-stretch, between_empty, brought_contiguous, first_full, last_full, contiguous_fits}
 use Rattle.ringbuffer.proofs.fixed.FixedRing.move_contiguous.Goals as goal
 
-pub bring_first-requires-clause-last : goal.bring_first-requires-clause-last
-bring_first-requires-clause-last g c =
-    let s = g.S.RingSlots.seen c.args.slots.now in let start = c.args.span.start in let len = c.args.span.len in let within = c.requires.span.laid_out.start_within in
-    last_full s start c.requires.span.laid_out len (c.size.result - start) c.requires.span.len (omega (arith, c.size.ensures.value)) c.if-first-span.true
-
-pub bring_first-requires-clause-first : goal.bring_first-requires-clause-first
-bring_first-requires-clause-first g c =
-    let s = g.S.RingSlots.seen c.args.slots.now in let start = c.args.span.start in let len = c.args.span.len in let within = c.requires.span.laid_out.start_within in
-    first_full s start c.requires.span.laid_out len (c.size.result - start) c.requires.span.len (omega (arith, c.size.ensures.value)) c.if-first-span.true
-
-pub bring_first-requires-clause-empty : goal.bring_first-requires-clause-empty
-bring_first-requires-clause-empty g c =
-    let s = g.S.RingSlots.seen c.args.slots.now in let start = c.args.span.start in let len = c.args.span.len in let within = c.requires.span.laid_out.start_within in
-    between_empty s start c.requires.span.laid_out len (c.size.result - start) c.requires.span.len (omega (arith, c.size.ensures.value)) c.if-first-span.true
+pub bring_first-requires : goal.bring_first-requires
+bring_first-requires g c =
+    let s = g.S.RingSlots.seen c.args.slots.now in let start = c.args.span.start in let len = c.args.span.len in let at = c.requires.span in
+    record {
+      some = at.laid_out.start_within;
+      room = omega (arith, c.size.ensures.value, c.if-span.true, c.if-first-span.true);
+      last = last_full s start at.laid_out len (c.size.result - start) at.len (omega (arith, c.size.ensures.value)) c.if-first-span.true;
+      first = first_full s start at.laid_out len (c.size.result - start) at.len (omega (arith, c.size.ensures.value)) c.if-first-span.true;
+      empty = between_empty s start at.laid_out len (c.size.result - start) at.len (omega (arith, c.size.ensures.value)) c.if-first-span.true;
+    }
 
 -- Each item moved once.
 pub returns-then-span-clause-contiguous : goal.returns-then-span-clause-contiguous
 returns-then-span-clause-contiguous g c =
-    let s = g.S.RingSlots.seen c.args.slots.now in let start = c.args.span.start in let len = c.args.span.len in let within = c.requires.span.laid_out.start_within in
-    ap (λ (s : Slots _). s.slots) c.bring_first.ensures ∙ brought_contiguous s start c.requires.span.laid_out len (c.size.result - start) c.requires.span.len (omega (arith, c.size.ensures.value)) c.if-first-span.true c.if-span.true
+    let s = g.S.RingSlots.seen c.args.slots.now in let at = c.requires.span in
+    ap (λ (s : Slots _). s.slots) c.bring_first.ensures ∙ brought_contiguous s c.args.span.start at.laid_out c.args.span.len (c.size.result - c.args.span.start) at.len (omega (arith, c.size.ensures.value)) c.if-first-span.true c.if-span.true
 
 -- The items that were rotated are rotated back.
 pub returns-clause-contiguous : goal.returns-clause-contiguous
