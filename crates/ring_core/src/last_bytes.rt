@@ -10,7 +10,7 @@ use std::io::{Result, Write};
 use std::marker::Model;
 use std::snapshot::Snapshot;
 
-// Fewer bytes than these are pushed one at a time.
+/// Fewer bytes than these are pushed one at a time.
 const FEW: usize = 16;
 
 /// A writer that takes all bytes and keeps the newest, as many as the limit of its ring: the last bytes of a stream.
@@ -96,7 +96,7 @@ impl<R: RingBuffer<u8>> Write for LastBytes<R> {
     }
 }
 
-// Pushes bytes onto a ring that has a limit, as if one at a time. Those that later ones would overwrite are passed over.
+/// Pushes bytes onto a ring that has a limit, as if one at a time. Those that later ones would overwrite are passed over.
 fn push_newest<R: RingBuffer<u8>>(ring: &mut R, bytes: &[u8])
     requires { IsSome (R.limit ring.old) }
     ensures contents { R.contents ring.new

@@ -5,7 +5,7 @@ ghost use Rattle.std.specs.Range.Bound.{end_index, start_index};
 
 use std::ops::{Bound, Range, RangeBounds};
 
-// Returns the first index of a range, or `len` if that is less.
+/// Returns the first index of a range, or `len` if that is less.
 pub(crate) fn start_within<X: RangeBounds<usize>>(range: &X, len: usize) -> usize
     requires { X.has_bounds range.now }
     ensures { result ≡ min (start_index (X.start_bound range.now)) len }
@@ -17,7 +17,7 @@ pub(crate) fn start_within<X: RangeBounds<usize>>(range: &X, len: usize) -> usiz
     }
 }
 
-// Returns the index after the last of a range, or `len` if that is less.
+/// Returns the index after the last of a range, or `len` if that is less.
 pub(crate) fn end_within<X: RangeBounds<usize>>(range: &X, len: usize) -> usize
     requires { X.has_bounds range.now }
     ensures { result ≡ min (end_index (X.end_bound range.now) len) len }

@@ -49,7 +49,7 @@ pub fn apply<T: Drop, R: RingBuffer<T>>(
     }
 }
 
-// Empties every place.
+/// Empties every place.
 fn empty<T: Drop>(replies: &mut [Option<Reply<T>>])
     ensures { replies.new ≡ replicate (length replies.old) None }
 {
@@ -58,7 +58,7 @@ fn empty<T: Drop>(replies: &mut [Option<Reply<T>>])
     }
 }
 
-// What a run stores its replies in.
+/// What a run stores its replies in.
 trait Replies<T: Drop>: Sized {
     ghost use Rattle.std.specs.Prelude.{ℕ, List};
     ghost use Rattle.ring_core.specs.declared.command.Reply.{Reply};
@@ -87,7 +87,7 @@ impl<T: Drop> Replies<T> for Vec<Reply<T>> {
     }
 }
 
-// Places for replies, empty at first.
+/// Places for replies, empty at first.
 #[derive(Drop)]
 struct Places<'a, T> {
     places: &'a mut [Option<Reply<T>>],
@@ -108,7 +108,7 @@ impl<'a, T: Drop> Replies<T> for Places<'a, T> {
     }
 }
 
-// Does the commands in order, and stores the reply to each.
+/// Does the commands in order, and stores the reply to each.
 fn run_all<T: Drop, R: RingBuffer<T>, P: Replies<T>>(
     ring: &mut R,
     commands: Vec<Command<T>>,

@@ -9,7 +9,7 @@ ghost use Rattle.std.specs.Ordering.{is_lt, ordering_index};
 use crate::ring::RingBuffer;
 use std::cmp::Ordering;
 
-// Returns the item at an index below the length.
+/// Returns the item at an index below the length.
 fn item_at<T: Drop, R: RingBuffer<T>>(ring: &R, index: usize) -> &T
     requires { index < length (R.contents ring.now) }
     ensures { slice_get (R.contents ring.now) index ≡ Some result.now }

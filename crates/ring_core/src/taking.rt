@@ -10,7 +10,7 @@ use crate::double_ended::DoubleEndedRing;
 use crate::ring::RingBuffer;
 use std::alloc::{AllocError, Global};
 
-// Moves the oldest items, as many as `count` says, into the memory of an empty vector.
+/// Moves the oldest items, as many as `count` says, into the memory of an empty vector.
 fn move_oldest<T: Drop, R: RingBuffer<T>>(ring: &mut R, count: usize, items: Vec<T>) -> Vec<T>
     requires within { count ≤ length (R.contents ring.old) }
     requires empty { items.items ≡ [] }
@@ -27,8 +27,8 @@ fn move_oldest<T: Drop, R: RingBuffer<T>>(ring: &mut R, count: usize, items: Vec
     items
 }
 
-// Moves the newest items, as many as `count` says, into the memory of an empty vector. They come newest first, and are
-// reversed there, where no slot changes.
+/// Moves the newest items, as many as `count` says, into the memory of an empty vector. They come newest first, and are
+/// reversed there, where no slot changes.
 fn move_newest<T: Drop, R: DoubleEndedRing<T>>(ring: &mut R, count: usize, items: Vec<T>) -> Vec<T>
     requires within { count ≤ length (R.contents ring.old) }
     requires empty { items.items ≡ [] }
@@ -48,7 +48,7 @@ fn move_newest<T: Drop, R: DoubleEndedRing<T>>(ring: &mut R, count: usize, items
     items
 }
 
-// Moves the items from `start` up to `end` out, after a rotation that makes them the oldest.
+/// Moves the items from `start` up to `end` out, after a rotation that makes them the oldest.
 fn move_between_as_oldest<T: Drop, R: DoubleEndedRing<T>>(
     ring: &mut R,
     start: usize,
@@ -70,7 +70,7 @@ fn move_between_as_oldest<T: Drop, R: DoubleEndedRing<T>>(
     items
 }
 
-// Moves the items from `start` up to `end` out, after a rotation that makes them the newest.
+/// Moves the items from `start` up to `end` out, after a rotation that makes them the newest.
 fn move_between_as_newest<T: Drop, R: DoubleEndedRing<T>>(
     ring: &mut R,
     start: usize,
@@ -94,7 +94,7 @@ fn move_between_as_newest<T: Drop, R: DoubleEndedRing<T>>(
     items
 }
 
-// Takes out all items, oldest first, in new memory.
+/// Takes out all items, oldest first, in new memory.
 pub(crate) fn take_all<T: Drop, R: RingBuffer<T>>(
     ring: &mut R,
     alloc: Global,
@@ -110,7 +110,7 @@ pub(crate) fn take_all<T: Drop, R: RingBuffer<T>>(
     Ok(move_oldest(ring, len, items))
 }
 
-// Takes out the items from an index on, in new memory.
+/// Takes out the items from an index on, in new memory.
 pub(crate) fn split_off<T: Drop, R: DoubleEndedRing<T>>(
     ring: &mut R,
     at: usize,
@@ -128,8 +128,8 @@ pub(crate) fn split_off<T: Drop, R: DoubleEndedRing<T>>(
     Ok(move_newest(ring, count, items))
 }
 
-// Takes out the items from `start` up to `end`, in new memory. Rotates by the fewer of the items before and after, and not
-// at all where nothing is taken out.
+/// Takes out the items from `start` up to `end`, in new memory. Rotates by the fewer of the items before and after, and not
+/// at all where nothing is taken out.
 pub(crate) fn take_between<T: Drop, R: DoubleEndedRing<T>>(
     ring: &mut R,
     start: usize,

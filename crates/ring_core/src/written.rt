@@ -4,7 +4,7 @@ ghost use Rattle.std.specs.Borrow.{ftrue};
 
 use std::marker::Model;
 
-// The bytes that were written, in order. It takes no bytes, and no code reads it.
+/// The bytes that were written, in order. It takes no bytes, and no code reads it.
 #[derive(Drop)]
 pub(crate) struct WrittenBytes {
     pub(crate) ghost bytes: { List ℕ },
@@ -21,7 +21,7 @@ impl WrittenBytes {
         WrittenBytes {}
     }
 
-    // Returns these bytes and then others.
+    /// Returns these bytes and then others.
     #[inline]
     pub(crate) fn and(&self, bytes: &[u8]) -> WrittenBytes
         ensures { result.bytes ≡ self.now.bytes ++ bytes.now }

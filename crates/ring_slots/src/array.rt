@@ -43,7 +43,7 @@ impl<T, const CAP: usize> ArraySlots<T, CAP> {
         }
     }
 
-    // Lends the slot at a place for one change, and counts it.
+    /// Lends the slot at a place for one change, and counts it.
     #[inline]
     fn slot_mut(&mut self, place: usize) -> &mut Option<T>
         requires { place < length self.old.slots }

@@ -234,8 +234,8 @@ impl<T> Owner<T> {
         self.attach(row, count + len);
     }
 
-    // Takes the slots out as a row of core's, which `attach` puts back. An empty slot has a value in the logic, so `T`
-    // must have one.
+    /// Takes the slots out as a row of core's, which `attach` puts back. An empty slot has a value in the logic, so `T`
+    /// must have one.
     fn detach(&mut self, ptr: *mut T, size: usize) -> Slots<T>
         requires at { ptr ≡ self.old.at }
         requires size { size ≡ length self.old.slots }
@@ -246,7 +246,7 @@ impl<T> Owner<T> {
         unsafe { Slots::from_raw_parts(ptr, size) }
     }
 
-    // Puts the slots back, of which those from `len` on are empty then, whatever they held.
+    /// Puts the slots back, of which those from `len` on are empty then, whatever they held.
     fn attach(&mut self, row: Slots<T>, len: usize)
         requires at { slots_ptr row ≡ self.old.at }
         requires out { self.old.slots ≡ [] }

@@ -12,7 +12,7 @@ pub fn item_size<T>() -> usize
     size_of::<T>()
 }
 
-// Returns whether a block for `size` items can be asked for.
+/// Returns whether a block for `size` items can be asked for.
 pub(crate) fn may_hold<T>(size: usize) -> bool
     ensures { IsTrue result ↔ FitsInBlock T.row size }
 {

@@ -5,7 +5,7 @@ ghost use Rattle.ring_slots.specs.Slots.{IsFullStretch, passed_down, passed_up};
 
 use crate::passing::{pass_down, pass_full_down, pass_full_up, pass_up};
 
-// An array in a struct of its own, so that a contract can say what a loan of one element leaves.
+/// An array in a struct of its own, so that a contract can say what a loan of one element leaves.
 #[derive(Drop)]
 pub(crate) struct Cells<X, const N: usize> {
     pub(crate) xs: [X; N],
@@ -31,7 +31,7 @@ impl<X, const N: usize> Cells<X, N> {
         &mut self.xs[place]
     }
 
-    // Lends `len` elements from a place on, for writing.
+    /// Lends `len` elements from a place on, for writing.
     #[inline]
     pub(crate) fn slice_mut(&mut self, from: usize, len: usize) -> &mut [X]
         requires { from + len ≤ N }
@@ -41,7 +41,7 @@ impl<X, const N: usize> Cells<X, N> {
         &mut self.xs[from..from + len]
     }
 
-    // Puts an element before `len` of them from a place on, each of which moves one up, and returns the one that was last.
+    /// Puts an element before `len` of them from a place on, each of which moves one up, and returns the one that was last.
     #[inline]
     pub(crate) fn pass_up(&mut self, from: usize, len: usize, x: X) -> X
         requires { from + len ≤ N }
@@ -51,8 +51,8 @@ impl<X, const N: usize> Cells<X, N> {
         pass_up(&mut xs[from..from + len], x)
     }
 
-    // Puts an element after `len` of them from a place on, each of which moves one down, and returns the one that was
-    // first.
+    /// Puts an element after `len` of them from a place on, each of which moves one down, and returns the one that was
+    /// first.
     #[inline]
     pub(crate) fn pass_down(&mut self, from: usize, len: usize, x: X) -> X
         requires { from + len ≤ N }
@@ -64,7 +64,7 @@ impl<X, const N: usize> Cells<X, N> {
 }
 
 impl<X: Copy, const N: usize> Cells<X, N> {
-    // Makes cells that all hold one element.
+    /// Makes cells that all hold one element.
     pub(crate) fn of(x: X) -> Self
         ensures { result.xs ≡ replicate N x }
     {
@@ -85,7 +85,7 @@ impl<X: Copy, const N: usize> Cells<X, N> {
         self.xs[place] = x;
     }
 
-    // Returns `len` elements from a place on.
+    /// Returns `len` elements from a place on.
     #[inline]
     pub(crate) fn slice(&self, from: usize, len: usize) -> &[X]
         requires { from + len ≤ N }
@@ -95,7 +95,7 @@ impl<X: Copy, const N: usize> Cells<X, N> {
         &xs[from..from + len]
     }
 
-    // Writes copies of some elements over those from a place on.
+    /// Writes copies of some elements over those from a place on.
     #[inline]
     pub(crate) fn put_slice(&mut self, from: usize, items: &[X])
         requires { from + length items.now ≤ N }
@@ -106,7 +106,7 @@ impl<X: Copy, const N: usize> Cells<X, N> {
         xs[from..from + items.len()].copy_from_slice(items);
     }
 
-    // Copies `count` elements from a place on to those from the place `to` on, which may be some of them.
+    /// Copies `count` elements from a place on to those from the place `to` on, which may be some of them.
     pub(crate) fn copy_within(&mut self, from: usize, to: usize, count: usize)
         requires from { from + count ≤ N }
         requires to { to + count ≤ N }
@@ -133,8 +133,8 @@ impl<T, const N: usize> Cells<Option<T>, N> {
         }
     }
 
-    // Puts an item before those of `len` full cells from a place on, each of which moves one up, and returns the one that
-    // was last.
+    /// Puts an item before those of `len` full cells from a place on, each of which moves one up, and returns the one that
+    /// was last.
     #[inline]
     pub(crate) fn pass_item_up(&mut self, from: usize, len: usize, item: T) -> T
         requires { IsFullStretch self.old.xs from len }
@@ -144,8 +144,8 @@ impl<T, const N: usize> Cells<Option<T>, N> {
         pass_full_up(&mut xs[from..from + len], item)
     }
 
-    // Puts an item after those of `len` full cells from a place on, each of which moves one down, and returns the one that
-    // was first.
+    /// Puts an item after those of `len` full cells from a place on, each of which moves one down, and returns the one that
+    /// was first.
     #[inline]
     pub(crate) fn pass_item_down(&mut self, from: usize, len: usize, item: T) -> T
         requires { IsFullStretch self.old.xs from len }

@@ -3,7 +3,7 @@ ghost use Rattle.std.specs.Prelude.{◌≡◌, IsSome, None, Some};
 ghost use Rattle.std.specs.Borrow.{sem};
 ghost use Rattle.ring_slots.specs.full.Lends.{lends_item};
 
-// Lends the item of a full cell. It reads no mark: the item lies as far behind it as an item is aligned.
+/// Lends the item of a full cell. It reads no mark: the item lies as far behind it as an item is aligned.
 #[inline]
 pub(crate) fn item<T>(cell: &Option<T>) -> &T
     requires { IsSome cell.now }
@@ -12,7 +12,7 @@ pub(crate) fn item<T>(cell: &Option<T>) -> &T
     unsafe { &*((cell as *const Option<T> as *const u8).add(align_of::<T>()) as *const T) }
 }
 
-// Lends the item of a full cell for writing, as `item` does.
+/// Lends the item of a full cell for writing, as `item` does.
 #[inline]
 pub(crate) fn item_mut<T>(cell: &mut Option<T>) -> &mut T
     requires { IsSome cell.old }
@@ -22,7 +22,7 @@ pub(crate) fn item_mut<T>(cell: &mut Option<T>) -> &mut T
     unsafe { &mut *((cell as *mut Option<T> as *mut u8).add(align_of::<T>()) as *mut T) }
 }
 
-// Takes the item out of a full cell, and reads no mark.
+/// Takes the item out of a full cell, and reads no mark.
 #[inline]
 pub(crate) fn take<T>(cell: &mut Option<T>) -> T
     requires { IsSome cell.old }

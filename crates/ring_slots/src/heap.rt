@@ -114,7 +114,7 @@ impl<T> HeapSlots<T> {
         self.changes = ChangeCount::new();
     }
 
-    // Returns the number of slots.
+    /// Returns the number of slots.
     #[inline]
     fn size(&self) -> usize
         ensures value { result ≡ length self.now.slots }
@@ -130,7 +130,7 @@ impl<T> HeapSlots<T> {
     }
 }
 
-// Makes `size` empty slots, with the right to give their memory back.
+/// Makes `size` empty slots, with the right to give their memory back.
 fn empty_block<T>(alloc: Global, size: usize) -> Result<(*mut T, Owner<T>, Deed<T>), AllocError>
     ensures { IfOk result (λ made. IsNewBlock alloc size made.0 made.1 made.2) }
 {

@@ -6,15 +6,15 @@ use crate::bytes::item_size;
 use crate::full;
 use std::mem;
 
-// Items of at most as many bytes pass from call to call, and from cell to cell, in registers. Larger ones go by std's
-// rotation.
+/// Items of at most as many bytes pass from call to call, and from cell to cell, in registers. Larger ones go by std's
+/// rotation.
 const FEW_BYTES: usize = 8;
 
-// A rotation by one item is one `memmove` where the items take at most as many bytes, and a slower loop where they take
-// more.
+/// A rotation by one item is one `memmove` where the items take at most as many bytes, and a slower loop where they take
+/// more.
 const PIECE_BYTES: usize = 2048;
 
-// Puts an item before some, each of which moves one place up, and returns the one that was last.
+/// Puts an item before some, each of which moves one place up, and returns the one that was last.
 #[inline]
 pub(crate) fn pass_up<X>(items: &mut [X], item: X) -> X
     ensures { passed_up item result items.old items.new }
@@ -26,7 +26,7 @@ pub(crate) fn pass_up<X>(items: &mut [X], item: X) -> X
     mem::replace(&mut items[0], item)
 }
 
-// Puts an item after some, each of which moves one place down, and returns the one that was first.
+/// Puts an item after some, each of which moves one place down, and returns the one that was first.
 #[inline]
 pub(crate) fn pass_down<X>(items: &mut [X], item: X) -> X
     ensures { passed_down item result items.old items.new }
@@ -39,8 +39,8 @@ pub(crate) fn pass_down<X>(items: &mut [X], item: X) -> X
     pass_piece_down(items, item)
 }
 
-// Does what `pass_down` does, piece by piece, the last first. Out of line, so that few items pay for a look at their
-// number alone.
+/// Does what `pass_down` does, piece by piece, the last first. Out of line, so that few items pay for a look at their
+/// number alone.
 #[inline(never)]
 fn pass_pieces_down<X>(items: &mut [X], piece: usize, item: X) -> X
     requires { 0 < piece }
@@ -56,7 +56,7 @@ fn pass_pieces_down<X>(items: &mut [X], piece: usize, item: X) -> X
     pass_piece_down(&mut items[..end], passed)
 }
 
-// Does what `pass_down` does, by a rotation.
+/// Does what `pass_down` does, by a rotation.
 #[inline]
 fn pass_piece_down<X>(items: &mut [X], item: X) -> X
     ensures { passed_down item result items.old items.new }
@@ -69,7 +69,7 @@ fn pass_piece_down<X>(items: &mut [X], item: X) -> X
     first
 }
 
-// Puts an item before those of full cells, as `pass_up` does. Small items are moved alone, and their marks not read.
+/// Puts an item before those of full cells, as `pass_up` does. Small items are moved alone, and their marks not read.
 #[inline]
 pub(crate) fn pass_full_up<T>(cells: &mut [Option<T>], item: T) -> T
     requires { (xs : List T) × (cells.old ≡ map Some xs) }
@@ -87,7 +87,7 @@ pub(crate) fn pass_full_up<T>(cells: &mut [Option<T>], item: T) -> T
     passed
 }
 
-// Puts an item after those of full cells, as `pass_down` does. Small items are moved alone, and their marks not read.
+/// Puts an item after those of full cells, as `pass_down` does. Small items are moved alone, and their marks not read.
 #[inline]
 pub(crate) fn pass_full_down<T>(cells: &mut [Option<T>], item: T) -> T
     requires { (xs : List T) × (cells.old ≡ map Some xs) }

@@ -2,7 +2,7 @@
 ghost use Rattle.std.specs.Prelude.{◌≡◌, ◌+◌, ◌%◌, ◌^◌, ◌<◌, ◌≤◌, IsTrue};
 ghost use Rattle.std.specs.Int.{IsPowerOfTwo};
 
-// Returns the place `k` after `start`, counted round `size` places. No sum wraps, however large the size.
+/// Returns the place `k` after `start`, counted round `size` places. No sum wraps, however large the size.
 #[inline]
 pub(crate) fn wrapped(start: usize, k: usize, size: usize) -> usize
     requires start { start < size }
@@ -21,8 +21,8 @@ pub(crate) fn wrapped(start: usize, k: usize, size: usize) -> usize
     if k < room { start + k } else { k - room }
 }
 
-// Returns the place after `len` items that begin at `start`, counted round `size` places. At `len == size` this is
-// `start`, so no arithmetic is needed.
+/// Returns the place after `len` items that begin at `start`, counted round `size` places. At `len == size` this is
+/// `start`, so no arithmetic is needed.
 #[inline]
 pub(crate) fn wrapped_after(start: usize, len: usize, size: usize) -> usize
     requires start { start < size }
@@ -36,7 +36,7 @@ pub(crate) fn wrapped_after(start: usize, len: usize, size: usize) -> usize
     }
 }
 
-// Returns the place after a place, counted round `size` places.
+/// Returns the place after a place, counted round `size` places.
 #[inline]
 pub(crate) fn wrapped_next(place: usize, size: usize) -> usize
     requires { place < size }
@@ -48,7 +48,7 @@ pub(crate) fn wrapped_next(place: usize, size: usize) -> usize
     if place < size - 1 { place + 1 } else { 0 }
 }
 
-// Returns the place `k` after `start`, counted round `mask + 1` places, whose number is a power of two.
+/// Returns the place `k` after `start`, counted round `mask + 1` places, whose number is a power of two.
 #[inline]
 pub(crate) fn masked(start: usize, k: usize, mask: usize) -> usize
     requires size { IsPowerOfTwo (mask + 1) }
@@ -60,9 +60,9 @@ pub(crate) fn masked(start: usize, k: usize, mask: usize) -> usize
     (start + k) & mask
 }
 
-// Returns whether places are found by a mask. The compiler removes this test where the size is a constant. The contract
-// covers `true` only, since a wrong `false` would merely be slower. std's test counts bits, and no lemma of std's leads
-// from that count to `IsPowerOfTwo`.
+/// Returns whether places are found by a mask. The compiler removes this test where the size is a constant. The contract
+/// covers `true` only, since a wrong `false` would merely be slower. std's test counts bits, and no lemma of std's leads
+/// from that count to `IsPowerOfTwo`.
 #[inline]
 fn is_power_of_two(size: usize) -> bool
     ensures { IsTrue result → IsPowerOfTwo size }

@@ -72,7 +72,7 @@ pub(crate) fn written(place: Option<&mut i64>, item: i64) -> Outcome {
     }
 }
 
-// Agrees if what is read is what is wanted, and what is lent is what was read.
+/// Agrees if what is read is what is wanted, and what is lent is what was read.
 pub(crate) fn found(read: Option<i64>, lent: Option<&mut i64>, wanted: Option<i64>) -> Outcome {
     let lent = lent.copied();
     if lent == read {

@@ -74,7 +74,7 @@ pub(crate) fn outcome_of<R: DoubleEndedRing<i64>>(ring: &mut R, step: &Step) -> 
     }
 }
 
-// Does a call at an end or an index, if the ring has the items that it is about.
+/// Does a call at an end or an index, if the ring has the items that it is about.
 fn moved<R: DoubleEndedRing<i64>>(ring: &mut R, step: &Step) -> Outcome {
     let len = ring.len();
     match step {
@@ -126,7 +126,7 @@ fn left<R: DoubleEndedRing<i64>>(ring: &mut R, items: &[i64]) -> Outcome {
     Outcome::Agrees
 }
 
-// Keeps the even items, or else every second one.
+/// Keeps the even items, or else every second one.
 fn filtered<R: DoubleEndedRing<i64>>(ring: &mut R, keeps_even: bool) -> Outcome {
     let (len, mut asked) = (ring.len(), 0usize);
     let done = retain(ring, |item| {

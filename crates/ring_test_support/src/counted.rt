@@ -86,7 +86,7 @@ impl Supply {
         self.in_order.get()
     }
 
-    // Counts a drop of the item `number`.
+    /// Counts a drop of the item `number`.
     fn note_drop(&self, number: usize) {
         if let Some(drops) = self.drops.get(number) {
             drops.set(drops.get().saturating_add(1));

@@ -2,13 +2,13 @@
 
 use std::alloc::{AllocError, Global};
 
-// More blocks than an address space is cut into.
+/// More blocks than an address space is cut into.
 const MOST_BLOCKS: usize = 1 << 17;
 
-// A request that no address space has room for.
+/// A request that no address space has room for.
 const TOO_LARGE: usize = 1 << 47;
 
-// The C library keeps freed blocks of each small size apart, in steps of 16 bytes.
+/// The C library keeps freed blocks of each small size apart, in steps of 16 bytes.
 const SMALL: usize = 1 << 11;
 
 const STEP: usize = 16;

@@ -36,7 +36,7 @@ pub enum Calls<'a> {
     InDrought(&'static [i64], &'a [Step]),
 }
 
-// There is no ring in an array of this capacity, or no memory for one.
+/// There is no ring in an array of this capacity, or no memory for one.
 const NO_RING: Fault = (0, 0, 0, Outcome::Refused);
 
 /// Does the calls on a new ring of each of these types, with this capacity or this room. Returns the first type whose ring
@@ -64,7 +64,7 @@ pub fn first_fault_on(
     None
 }
 
-// Does the calls on a ring. Returns where one doesn't answer as they say.
+/// Does the calls on a ring. Returns where one doesn't answer as they say.
 fn fault_of<R: DoubleEndedRing<i64>>(alloc: Global, ring: &mut R, calls: Calls) -> Option<Fault> {
     let (step, outcome) = match calls {
         Calls::Steps(steps) => first_fault(ring, steps)?,
@@ -82,7 +82,7 @@ fn fault_of<R: DoubleEndedRing<i64>>(alloc: Global, ring: &mut R, calls: Calls) 
     Some((0, 0, step, outcome))
 }
 
-// Does the calls on an array ring. Its capacity is a parameter, so that rings of all capacities are one type to prove.
+/// Does the calls on an array ring. Its capacity is a parameter, so that rings of all capacities are one type to prove.
 fn fault_in_array_of<const CAP: usize>(alloc: Global, calls: Calls) -> Option<Fault>
     requires some { 0 < CAP }
     requires few { CAP < 1000 }

@@ -57,7 +57,7 @@ impl RateLimiter {
         true
     }
 
-    // Returns whether, at the time `now`, the oldest event is less than the span ago.
+    /// Returns whether, at the time `now`, the oldest event is less than the span ago.
     fn is_too_soon(&self, now: u64) -> bool
         ensures { (oldest : ℕ) → slice_get self.now.times 0 ≡ Some oldest
             → IsTrue result ↔ (now - oldest < self.now.span) }

@@ -5,13 +5,13 @@ use crate::work::push_one;
 use ringbuffer::{AllocRingBuffer, ConstGenericRingBuffer, GrowableAllocRingBuffer, RingBuffer};
 use std::alloc::Global;
 
-// Pushes an item onto a ring, and returns it as the newest that the ring holds. Drops the ring.
+/// Pushes an item onto a ring, and returns it as the newest that the ring holds. Drops the ring.
 fn use_once<R: RingBuffer<u64> + Drop>(mut ring: R, item: u64) -> u64 {
     push_one(&mut ring, item);
     ring.back().map_or(0, |newest| *newest)
 }
 
-// Makes an array ring and uses it once.
+/// Makes an array ring and uses it once.
 #[inline(never)]
 fn make_array<const CAP: usize>(item: u64) -> u64
     requires some { 0 < CAP }
@@ -20,7 +20,7 @@ fn make_array<const CAP: usize>(item: u64) -> u64
     use_once(ConstGenericRingBuffer::<u64, CAP>::new(), item)
 }
 
-// Makes a heap ring and uses it once.
+/// Makes a heap ring and uses it once.
 #[inline(never)]
 fn make_heap(alloc: Global, capacity: usize, item: u64) -> u64
     requires { 0 < capacity }
@@ -28,7 +28,7 @@ fn make_heap(alloc: Global, capacity: usize, item: u64) -> u64
     AllocRingBuffer::new(alloc, capacity).map_or(0, |ring| use_once(ring, item))
 }
 
-// Makes a growable ring and uses it once.
+/// Makes a growable ring and uses it once.
 #[inline(never)]
 fn make_growable(alloc: Global, capacity: usize, item: u64) -> u64 {
     GrowableAllocRingBuffer::with_capacity(alloc, capacity).map_or(0, |ring| use_once(ring, item))

@@ -181,7 +181,7 @@ impl Own for GrowableAllocRingBuffer<u64> {
     }
 }
 
-// The sum of the items of a slice, added to `sum`.
+/// The sum of the items of a slice, added to `sum`.
 #[inline]
 fn add(items: &[u64], sum: u64) -> u64 {
     let mut sum = sum;

@@ -8,8 +8,8 @@ use std::io::{Read, Write};
 
 const BLOCK: usize = 4096;
 
-// The place of the oldest byte of a new pipe. It is no multiple of a block, so blocks go round the pipe's end now and
-// then, on their way in and on their way out.
+/// The place of the oldest byte of a new pipe. It is no multiple of a block, so blocks go round the pipe's end now and
+/// then, on their way in and on their way out.
 const START: usize = 1000;
 
 /// Relays blocks, as many bytes together as `items` says, through a pipe on the heap, by the ring's calls or by those of `std::io`.
@@ -36,7 +36,7 @@ pub fn on_heap_pipe(
     Ok(sum)
 }
 
-// A pipe whose oldest byte lies at `START`.
+/// A pipe whose oldest byte lies at `START`.
 fn half_full(alloc: Global, capacity: usize) -> Result<AllocRingBuffer<u8>, AllocError>
     requires { 0 < capacity }
 {
@@ -54,14 +54,14 @@ fn bytes(alloc: Global, count: usize) -> Result<Vec<u8>, AllocError> {
     Ok(bytes)
 }
 
-// Puts a block in, and takes as many of the oldest bytes out as the output has places.
+/// Puts a block in, and takes as many of the oldest bytes out as the output has places.
 #[inline(never)]
 fn relay(pipe: &mut AllocRingBuffer<u8>, block: &[u8], output: &mut [u8]) {
     pipe.extend_from_slice(block);
     let _ = pipe.dequeue_into(output);
 }
 
-// The same by the traits of `std::io`.
+/// The same by the traits of `std::io`.
 #[inline(never)]
 fn stream(pipe: &mut AllocRingBuffer<u8>, block: &[u8], output: &mut [u8]) {
     let _ = pipe.write(block);

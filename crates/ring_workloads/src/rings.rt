@@ -24,7 +24,7 @@ pub fn on_heap(alloc: Global, work: Work, capacity: usize, items: usize) -> Resu
     Ok(on_fixed(alloc, &mut ring, work, capacity, items))
 }
 
-// Work in loops that own a heap ring.
+/// Work in loops that own a heap ring.
 fn on_owned(ring: AllocRingBuffer<u64>, work: Work, capacity: usize, items: usize) -> u64
     requires { 0 < capacity }
 {
@@ -105,7 +105,7 @@ pub fn on_fixed<R: Own + Drop>(
     outcome(ring)
 }
 
-// The work that is the same on every type. The ring holds `capacity` items.
+/// The work that is the same on every type. The ring holds `capacity` items.
 fn on_full<R: Own + Drop>(
     alloc: Global,
     ring: &mut R,
@@ -220,7 +220,7 @@ fn on_full<R: Own + Drop>(
     sum.wrapping_add(outcome(ring))
 }
 
-// The newest item, which the work before it has put in or left.
+/// The newest item, which the work before it has put in or left.
 fn outcome<R: RingBuffer<u64>>(ring: &R) -> u64 {
     ring.back().map_or(0, |newest| *newest)
 }

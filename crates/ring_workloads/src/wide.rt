@@ -22,7 +22,7 @@ pub fn copy_in_wide(alloc: Global, capacity: usize, items: usize) -> Result<u64,
     Ok(ring.back().map_or(0, |newest| newest[0]))
 }
 
-// Empties the ring, and pushes copies of the items of a slice.
+/// Empties the ring, and pushes copies of the items of a slice.
 #[inline(never)]
 fn copy_in(ring: &mut AllocRingBuffer<Wide>, items: &[Wide]) {
     ring.clear();

@@ -55,14 +55,14 @@ pub fn on_heap_product(alloc: Global, capacity: usize, items: usize) -> Result<u
     Ok(slide_product(&mut window, items))
 }
 
-// Work on a window over a ring with a limit.
+/// Work on a window over a ring with a limit.
 fn on_fixed<R: RingBuffer<i64> + Drop>(ring: R, capacity: usize, items: usize) -> u64 {
     let mut window = WindowSum::new(ring);
     let _ = slide(&mut window, capacity);
     low_half(slide(&mut window, items))
 }
 
-// A number that depends on the sums.
+/// A number that depends on the sums.
 fn low_half(sums: i128) -> u64 {
     (sums.unsigned_abs() % (1 << 64)) as u64
 }

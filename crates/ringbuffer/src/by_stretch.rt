@@ -11,14 +11,14 @@ use ring_slots::RingSlots;
 use std::cmp::Ordering;
 use std::hash::{Hash, Hasher};
 
-// As many items, and fewer, are compared index by index: their stretches cost more to find.
+/// As many items, and fewer, are compared index by index: their stretches cost more to find.
 pub(crate) const FEW: usize = 12;
 
-// As many items, and fewer, are searched index by index, by a loop that the compiler unrolls.
+/// As many items, and fewer, are searched index by index, by a loop that the compiler unrolls.
 pub(crate) const FEW_SEARCHED: usize = 6;
 
 impl<T: Drop, S: RingSlots<T>> FixedRing<T, S> {
-    // Returns how many items in front of two rings are equal, place by place.
+    /// Returns how many items in front of two rings are equal, place by place.
     pub(crate) fn common_prefix_len(&self, other: &Self) -> usize
     where
         T: PartialEq,
@@ -37,8 +37,8 @@ impl<T: Drop, S: RingSlots<T>> FixedRing<T, S> {
         len
     }
 
-    // Does what `common_prefix_len` does, stretch by stretch. Each ends where one of the rings goes on at its first slot, or
-    // where the pairs end, so there are three at most. Out of line, so that few items take no step for it.
+    /// Does what `common_prefix_len` does, stretch by stretch. Each ends where one of the rings goes on at its first slot, or
+    /// where the pairs end, so there are three at most. Out of line, so that few items take no step for it.
     #[inline(never)]
     fn prefix_by_stretch(&self, other: &Self) -> usize
     where
@@ -61,7 +61,7 @@ impl<T: Drop, S: RingSlots<T>> FixedRing<T, S> {
         len
     }
 
-    // Returns how many items in front of slots side by side equal those of others, place by place.
+    /// Returns how many items in front of slots side by side equal those of others, place by place.
     #[inline]
     fn stretch_prefix(slots: &S, from: usize, others: &S, other_from: usize, len: usize) -> usize
     where
@@ -98,8 +98,8 @@ impl<T: Drop, S: RingSlots<T>> FixedRing<T, S> {
         len
     }
 
-    // Returns how the items of two rings compare, where they do: as those at the first place where they differ, or as the
-    // numbers of items.
+    /// Returns how the items of two rings compare, where they do: as those at the first place where they differ, or as the
+    /// numbers of items.
     pub(crate) fn partial_cmp_items(&self, other: &Self) -> Option<Ordering>
     where
         T: PartialOrd,
@@ -112,7 +112,7 @@ impl<T: Drop, S: RingSlots<T>> FixedRing<T, S> {
         Some(self.span.len.cmp(&other.span.len))
     }
 
-    // Returns whether an item equals `x`. Out of line, so that few items take no step for it.
+    /// Returns whether an item equals `x`. Out of line, so that few items take no step for it.
     #[inline(never)]
     pub(crate) fn holds_by_stretch(&self, x: &T) -> bool
     where
@@ -124,7 +124,7 @@ impl<T: Drop, S: RingSlots<T>> FixedRing<T, S> {
             || Self::stretch_holds(&self.slots, 0, self.span.len - first, x)
     }
 
-    // Returns whether an item of slots side by side equals `x`.
+    /// Returns whether an item of slots side by side equals `x`.
     #[inline]
     fn stretch_holds(slots: &S, from: usize, len: usize, x: &T) -> bool
     where
@@ -143,7 +143,7 @@ impl<T: Drop, S: RingSlots<T>> FixedRing<T, S> {
         false
     }
 
-    // Returns whether the items equal those of a slice of as many, place by place.
+    /// Returns whether the items equal those of a slice of as many, place by place.
     pub(crate) fn equals_by_stretch(&self, items: &[T]) -> bool
     where
         T: PartialEq,
@@ -156,7 +156,7 @@ impl<T: Drop, S: RingSlots<T>> FixedRing<T, S> {
             && Self::stretch_equals(&self.slots, 0, after)
     }
 
-    // Returns whether the items of slots side by side equal those of a slice, place by place.
+    /// Returns whether the items of slots side by side equal those of a slice, place by place.
     #[inline]
     fn stretch_equals(slots: &S, from: usize, items: &[T]) -> bool
     where
@@ -176,7 +176,7 @@ impl<T: Drop, S: RingSlots<T>> FixedRing<T, S> {
         true
     }
 
-    // Feeds the number of items to a hasher, and then each item.
+    /// Feeds the number of items to a hasher, and then each item.
     pub(crate) fn hash_by_stretch<H: Hasher>(&self, state: &mut H)
     where
         T: Hash,
@@ -189,7 +189,7 @@ impl<T: Drop, S: RingSlots<T>> FixedRing<T, S> {
         Self::hash_stretch(&self.slots, 0, len - first, state);
     }
 
-    // Feeds each item of slots side by side to a hasher.
+    /// Feeds each item of slots side by side to a hasher.
     #[inline]
     fn hash_stretch<H: Hasher>(slots: &S, from: usize, len: usize, state: &mut H)
     where

@@ -18,7 +18,7 @@ use ring_slots::RingSlots;
 use std::io::{BufRead, ErrorKind, Read, Result, Write};
 use std::slice;
 
-// Returns how many of the bytes of `buf` fit into a ring below its limit.
+/// Returns how many of the bytes of `buf` fit into a ring below its limit.
 fn count_that_fits<R: RingBuffer<u8>>(ring: &R, buf: &[u8]) -> usize
     ensures count { IfSome (R.limit ring.now)
         (λ n. result ≡ min (length buf.now) (n - length (R.contents ring.now))) }

@@ -13,7 +13,7 @@ use ring_slots::RingSlots;
 use std::alloc::AllocError;
 
 impl<T: Clone + Drop, S: RingSlots<T>> FixedRing<T, S> {
-    // Pushes clones of the items of a slice that the limit leaves. Where a clone is refused, those before it stay.
+    /// Pushes clones of the items of a slice that the limit leaves. Where a clone is refused, those before it stay.
     pub(crate) fn extend_by_clones(&mut self, items: &[T]) -> Result<(), AllocError>
         ensures { ClonesLast T.is_clone T.is_infallible (S.limit self.old.capacity) items.now result
             (λ ys. self.new ≡ after_extend (S.limit self.old.capacity) self.old ys) }
@@ -26,7 +26,7 @@ impl<T: Clone + Drop, S: RingSlots<T>> FixedRing<T, S> {
         pushed
     }
 
-    // Does what `extend_by_clones` does.
+    /// Does what `extend_by_clones` does.
     pub(crate) fn extend_by_clones_owned(mut self, items: &[T]) -> (Self, Result<(), AllocError>)
         ensures { ClonesLast T.is_clone T.is_infallible (S.limit self.capacity) items.now result.1
             (λ ys. result.0 ≡ after_extend (S.limit self.capacity) self ys) }
@@ -35,7 +35,7 @@ impl<T: Clone + Drop, S: RingSlots<T>> FixedRing<T, S> {
         (self, pushed)
     }
 
-    // Pushes clones of the items of a slice, stretch by stretch. Returns where the items lie then.
+    /// Pushes clones of the items of a slice, stretch by stretch. Returns where the items lie then.
     #[inline]
     fn push_clones(
         slots: &mut S,
@@ -71,8 +71,8 @@ impl<T: Clone + Drop, S: RingSlots<T>> FixedRing<T, S> {
         (span, Ok(()))
     }
 
-    // Pushes clones of the first items of a slice up to the last slot, or to the capacity where the ring isn't full. Returns
-    // where the items lie then, and how many were pushed.
+    /// Pushes clones of the first items of a slice up to the last slot, or to the capacity where the ring isn't full. Returns
+    /// where the items lie then, and how many were pushed.
     #[inline]
     fn push_clone_stretch(
         slots: &mut S,
@@ -100,7 +100,7 @@ impl<T: Clone + Drop, S: RingSlots<T>> FixedRing<T, S> {
         (Self::after_pushes(slots, span, count, full), count, Ok(()))
     }
 
-    // Puts clones of the oldest items into the first places of a slice, as many as it has, one by one. Returns how many.
+    /// Puts clones of the oldest items into the first places of a slice, as many as it has, one by one. Returns how many.
     pub(crate) fn clone_each_into(&self, output: &mut [T]) -> Result<usize, AllocError>
         ensures clones { ClonesOut T.is_clone self.now.items output.old output.new result }
         ensures count { IfOk result (λ n. n ≡ min (length output.old) (length self.now.items)) }

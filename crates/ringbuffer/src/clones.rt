@@ -10,8 +10,8 @@ use ring_slots::RingSlots;
 use std::alloc::AllocError;
 
 impl<T: Clone + Drop, S: RingSlots<T>> FixedRing<T, S> {
-    // Drops all items of another ring, and pushes clones of this one's items onto it. Where a clone is refused, those
-    // before it stay there.
+    /// Drops all items of another ring, and pushes clones of this one's items onto it. Where a clone is refused, those
+    /// before it stay there.
     #[inline]
     pub(crate) fn clone_onto(&self, other: &mut Self) -> Result<(), AllocError>
         requires { length self.now.items ≤ S.limit other.old.capacity }
@@ -24,8 +24,8 @@ impl<T: Clone + Drop, S: RingSlots<T>> FixedRing<T, S> {
         }
     }
 
-    // Drops all items, and pushes clones of the items of two slices in order. Where a clone is refused, those before it
-    // stay.
+    /// Drops all items, and pushes clones of the items of two slices in order. Where a clone is refused, those before it
+    /// stay.
     #[inline]
     pub(crate) fn fill_from_slices(&mut self, first: &[T], second: &[T]) -> Result<(), AllocError>
         requires { length first.now + length second.now ≤ S.limit self.old.capacity }
@@ -38,7 +38,7 @@ impl<T: Clone + Drop, S: RingSlots<T>> FixedRing<T, S> {
         made
     }
 
-    // Does what `clone_onto` does, one by one.
+    /// Does what `clone_onto` does, one by one.
     fn clone_each_onto(&self, other: &mut Self) -> Result<(), AllocError>
         requires { length self.now.items ≤ S.limit other.old.capacity }
         ensures { ClonesFirst T.is_clone T.is_infallible self.now.items result
@@ -50,8 +50,8 @@ impl<T: Clone + Drop, S: RingSlots<T>> FixedRing<T, S> {
         made
     }
 
-    // Puts clones of the items into the slots of an empty ring that begins at the first. Returns how many it put. Where a
-    // clone is refused, those before it stay.
+    /// Puts clones of the items into the slots of an empty ring that begins at the first. Returns how many it put. Where a
+    /// clone is refused, those before it stay.
     fn clone_into_slots(&self, slots: &mut S) -> (usize, Result<(), AllocError>)
         requires laid_out { IsLaidOut (S.seen slots.old) 0 }
         requires empty { (view_from (S.seen slots.old) 0).items ≡ [] }
@@ -70,8 +70,8 @@ impl<T: Clone + Drop, S: RingSlots<T>> FixedRing<T, S> {
         (count, Ok(()))
     }
 
-    // Puts clones of the items of two slices into the slots of an empty ring that begins at the first. Returns how many it
-    // put. Where a clone is refused, those before it stay.
+    /// Puts clones of the items of two slices into the slots of an empty ring that begins at the first. Returns how many it
+    /// put. Where a clone is refused, those before it stay.
     #[inline]
     fn put_clones_of_both(
         slots: &mut S,
@@ -92,8 +92,8 @@ impl<T: Clone + Drop, S: RingSlots<T>> FixedRing<T, S> {
         Self::put_clones(slots, len, second)
     }
 
-    // Puts clones after the last item of a ring that begins at the first slot, side by side. Returns the length after
-    // them. Where a clone is refused, those before it stay.
+    /// Puts clones after the last item of a ring that begins at the first slot, side by side. Returns the length after
+    /// them. Where a clone is refused, those before it stay.
     #[inline]
     fn put_clones(slots: &mut S, len: usize, items: &[T]) -> (usize, Result<(), AllocError>)
         requires laid_out { IsLaidOut (S.seen slots.old) 0 }

@@ -32,8 +32,8 @@ impl<T: Drop, S: LendsRows<T>> FixedRing<T, S> {
         self.slots.slice_mut(start, span.len, changes)
     }
 
-    // Moves the items side by side, where they go on at the first slot. Returns their next start. Where the free slots are
-    // at least as many as the items in the last slots, each item moves once.
+    /// Moves the items side by side, where they go on at the first slot. Returns their next start. Where the free slots are
+    /// at least as many as the items in the last slots, each item moves once.
     fn move_contiguous(slots: &mut S, span: Span) -> usize
         requires span { IsSpanOf span (S.seen slots.old) }
         ensures start { result ≡ contiguous_start (length (S.seen slots.old).slots) span.start span.len }
@@ -55,8 +55,8 @@ impl<T: Drop, S: LendsRows<T>> FixedRing<T, S> {
         start
     }
 
-    // Moves the items from the front that lie in the last slots down after the last item, so that all lie side by side.
-    // Returns how many it moved, and the next start.
+    /// Moves the items from the front that lie in the last slots down after the last item, so that all lie side by side.
+    /// Returns how many it moved, and the next start.
     fn close_gap(slots: &mut S, span: Span) -> (usize, usize)
         requires span { IsSpanOf span (S.seen slots.old) }
         ensures start { result.1 ≡ contiguous_start (length (S.seen slots.old).slots) span.start span.len }

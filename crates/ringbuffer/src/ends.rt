@@ -97,7 +97,7 @@ impl<T: Drop, S: RingSlots<T>> FixedRing<T, S> {
         self.span.len += 1;
     }
 
-    // Puts an item before the first, where there is room for one.
+    /// Puts an item before the first, where there is room for one.
     #[inline]
     pub(crate) fn put_first(&mut self, item: T)
         requires { length self.old.items < S.limit self.old.capacity }
@@ -109,7 +109,7 @@ impl<T: Drop, S: RingSlots<T>> FixedRing<T, S> {
         self.span.len += 1;
     }
 
-    // Takes out the first item, if there is one.
+    /// Takes out the first item, if there is one.
     #[inline]
     pub(crate) fn take_first(&mut self) -> Option<T>
         ensures value { result ≡ slice_get self.old.items 0 }
@@ -127,7 +127,7 @@ impl<T: Drop, S: RingSlots<T>> FixedRing<T, S> {
         Some(item)
     }
 
-    // Drops the first items, as many as `count` says.
+    /// Drops the first items, as many as `count` says.
     pub(crate) fn drop_first(&mut self, count: usize)
         requires { count ≤ length self.old.items }
         ensures { self.new ≡ after_takes count self.old }
@@ -138,7 +138,7 @@ impl<T: Drop, S: RingSlots<T>> FixedRing<T, S> {
         self.span.len -= count;
     }
 
-    // Drops all items of a ring, which begins at the first slot then.
+    /// Drops all items of a ring, which begins at the first slot then.
     pub(crate) fn empty_slots(slots: &mut S, span: Span)
         requires span { IsSpanOf span (S.seen slots.old) }
         ensures { LaysOut (S.seen slots.old) (S.seen slots.new) 0
@@ -147,7 +147,7 @@ impl<T: Drop, S: RingSlots<T>> FixedRing<T, S> {
         Self::drop_items(slots, span.start, 0, span.len);
     }
 
-    // Drops the items from an index up to another, in two stretches of slots: up to the last slot, and on from the first.
+    /// Drops the items from an index up to another, in two stretches of slots: up to the last slot, and on from the first.
     #[inline]
     pub(crate) fn drop_items(slots: &mut S, start: usize, from: usize, to: usize)
         requires laid_out { IsLaidOut (S.seen slots.old) start }
@@ -168,7 +168,7 @@ impl<T: Drop, S: RingSlots<T>> FixedRing<T, S> {
         Self::empty_stretch(slots, from.saturating_sub(first), to.saturating_sub(first));
     }
 
-    // Drops the items of slots side by side.
+    /// Drops the items of slots side by side.
     #[inline]
     fn empty_stretch(slots: &mut S, from: usize, to: usize)
         requires places { from ≤ to }

@@ -27,7 +27,7 @@ impl<T: Drop, S: RingSlots<T>> FixedRing<T, S> {
         RingBuffer::extend(self, items)
     }
 
-    // Pushes the items of a source that ends, in order.
+    /// Pushes the items of a source that ends, in order.
     pub(crate) fn extend_one_by_one<I: IntoIterator<Item = T>>(&mut self, items: I)
     where
         I::IntoIter: Drop,
@@ -42,7 +42,7 @@ impl<T: Drop, S: RingSlots<T>> FixedRing<T, S> {
         self.span = span;
     }
 
-    // Pushes the items of a source that ends, in order. Returns where the items lie then.
+    /// Pushes the items of a source that ends, in order. Returns where the items lie then.
     #[inline]
     fn push_each<I: IntoIterator<Item = T>>(
         slots: &mut S,
@@ -67,7 +67,7 @@ impl<T: Drop, S: RingSlots<T>> FixedRing<T, S> {
         span
     }
 
-    // Does what `extend_one_by_one` does, stretch by stretch.
+    /// Does what `extend_one_by_one` does, stretch by stretch.
     pub(crate) fn extend_by_stretch<I: IntoIterator<Item = T>>(mut self, items: I) -> (Self, ())
     where
         I::IntoIter: Drop,
@@ -83,7 +83,7 @@ impl<T: Drop, S: RingSlots<T>> FixedRing<T, S> {
         (self, ())
     }
 
-    // Does what `extend_by_stretch` does, where the ring lies.
+    /// Does what `extend_by_stretch` does, where the ring lies.
     pub(crate) fn extend_in_place<I: IntoIterator<Item = T>>(&mut self, items: I)
     where
         I::IntoIter: Drop,
@@ -98,8 +98,8 @@ impl<T: Drop, S: RingSlots<T>> FixedRing<T, S> {
         self.span = span;
     }
 
-    // Pushes the items of a source that ends, in order. Returns where the items lie then. The slots are written stretch by
-    // stretch, which the compiler makes a loop with neither a mask nor a comparison of the length.
+    /// Pushes the items of a source that ends, in order. Returns where the items lie then. The slots are written stretch by
+    /// stretch, which the compiler makes a loop with neither a mask nor a comparison of the length.
     #[inline]
     fn push_all<I: Iterator<Item = T> + Drop>(
         slots: &mut S,
@@ -126,8 +126,8 @@ impl<T: Drop, S: RingSlots<T>> FixedRing<T, S> {
         span
     }
 
-    // Pushes the next items of a source up to the last slot, or to the capacity where the ring isn't full. Returns where
-    // the items lie then, and whether more may come.
+    /// Pushes the next items of a source up to the last slot, or to the capacity where the ring isn't full. Returns where
+    /// the items lie then, and whether more may come.
     #[inline]
     fn push_stretch<I: Iterator<Item = T>>(
         slots: &mut S,
@@ -157,7 +157,7 @@ impl<T: Drop, S: RingSlots<T>> FixedRing<T, S> {
         (now, true)
     }
 
-    // Returns the number of pushes up to the last slot, or to the capacity if the ring isn't full.
+    /// Returns the number of pushes up to the last slot, or to the capacity if the ring isn't full.
     #[inline]
     pub(crate) fn pushes_to_end(size: usize, end: usize, room: usize, full: bool) -> usize
         requires { end ≤ size }
@@ -171,7 +171,7 @@ impl<T: Drop, S: RingSlots<T>> FixedRing<T, S> {
         }
     }
 
-    // Returns where the items lie after `count` pushes: onto a full ring the start moves on, otherwise the length grows.
+    /// Returns where the items lie after `count` pushes: onto a full ring the start moves on, otherwise the length grows.
     #[inline]
     pub(crate) fn after_pushes(slots: &S, span: Span, count: usize, full: bool) -> Span
         requires start { span.start < length (S.seen slots.now).slots }
@@ -189,7 +189,7 @@ impl<T: Drop, S: RingSlots<T>> FixedRing<T, S> {
         }
     }
 
-    // Pushes an item, where the place after the last is known, and whether the first gives way.
+    /// Pushes an item, where the place after the last is known, and whether the first gives way.
     #[inline]
     pub(crate) fn push_at(slots: &mut S, span: Span, place: usize, item: T, full: bool)
         requires span { IsSpanOf span (S.seen slots.old) }

@@ -6,7 +6,7 @@ ghost use Rattle.ringbuffer.specs.View.{after_extend, after_extend_from_slice, a
 use crate::fixed::{FixedRing, Span};
 use ring_slots::{ArraySlots, CopySlots, HeapSlots, RingSlots};
 
-// Fewer items go one at a time into slots that are written over.
+/// Fewer items go one at a time into slots that are written over.
 const FEW_IN: usize = 16;
 
 /// Slots that take in copies of many items at once.
@@ -86,8 +86,8 @@ impl<T: Copy + Drop, S: TakesCopies<T>> FixedRing<T, S> {
         self.put_all(newest);
     }
 
-    // Pushes an item, and drops the one that it overwrites: to find its stretch of slots would cost more. Out of line, so
-    // that many items pay for a look at their number alone.
+    /// Pushes an item, and drops the one that it overwrites: to find its stretch of slots would cost more. Out of line, so
+    /// that many items pay for a look at their number alone.
     #[inline(never)]
     fn push_one(&mut self, item: T)
         ensures { self.new ≡ after_push (S.limit self.old.capacity) self.old item }
@@ -97,7 +97,7 @@ impl<T: Copy + Drop, S: TakesCopies<T>> FixedRing<T, S> {
         self.span = span;
     }
 
-    // Pushes copies of the items of a slice, which are no more than the limit.
+    /// Pushes copies of the items of a slice, which are no more than the limit.
     #[inline]
     fn push_over(&mut self, items: &[T])
         requires within { length items.now ≤ S.limit self.old.capacity }
@@ -110,8 +110,8 @@ impl<T: Copy + Drop, S: TakesCopies<T>> FixedRing<T, S> {
         self.write_over(items);
     }
 
-    // Does what `push_over` does, stretch by stretch: items that find no room go into the slots of the oldest. Out of line, so
-    // that few items take no step for it.
+    /// Does what `push_over` does, stretch by stretch: items that find no room go into the slots of the oldest. Out of line, so
+    /// that few items take no step for it.
     #[inline(never)]
     fn write_over(&mut self, items: &[T])
         requires within { length items.now ≤ S.limit self.old.capacity }
@@ -124,7 +124,7 @@ impl<T: Copy + Drop, S: TakesCopies<T>> FixedRing<T, S> {
         self.replace_oldest(others);
     }
 
-    // Puts copies of the items of a slice in the place of as many oldest items. The ring is full where there are any.
+    /// Puts copies of the items of a slice in the place of as many oldest items. The ring is full where there are any.
     fn replace_oldest(&mut self, items: &[T])
         requires full { 0 < length items.now → length self.old.items ≡ S.limit self.old.capacity }
         requires within { length items.now ≤ S.limit self.old.capacity }
@@ -141,7 +141,7 @@ impl<T: Copy + Drop, S: TakesCopies<T>> FixedRing<T, S> {
         self.span.start = Self::replace_contiguous(&mut self.slots, span, second);
     }
 
-    // Puts copies of items in the place of as many oldest ones, which lie side by side. Returns the next start.
+    /// Puts copies of items in the place of as many oldest ones, which lie side by side. Returns the next start.
     #[inline]
     fn replace_contiguous(slots: &mut S, span: Span, items: &[T]) -> usize
         requires span { IsSpanOf span (S.seen slots.old) }
@@ -160,7 +160,7 @@ impl<T: Copy + Drop, S: TakesCopies<T>> FixedRing<T, S> {
         slots.place(span.start, items.len())
     }
 
-    // Puts copies of the items of a slice after the last, where there is room for them.
+    /// Puts copies of the items of a slice after the last, where there is room for them.
     fn put_all(&mut self, items: &[T])
         requires { length self.old.items + length items.now ≤ S.limit self.old.capacity }
         ensures { self.new ≡ after_puts items.now self.old }
@@ -172,7 +172,7 @@ impl<T: Copy + Drop, S: TakesCopies<T>> FixedRing<T, S> {
         self.span.len = span.len + items.len();
     }
 
-    // Puts copies of items after the last, in two stretches of slots: up to the last slot, and on from the first.
+    /// Puts copies of items after the last, in two stretches of slots: up to the last slot, and on from the first.
     fn put_round(slots: &mut S, span: Span, items: &[T])
         requires span { IsSpanOf span (S.seen slots.old) }
         requires room { span.len + length items.now ≤ length (S.seen slots.old).slots }
@@ -191,7 +191,7 @@ impl<T: Copy + Drop, S: TakesCopies<T>> FixedRing<T, S> {
         Self::put_copies(slots, Span { start, len }, 0, second);
     }
 
-    // Puts copies of items after the last, side by side from a place on.
+    /// Puts copies of items after the last, side by side from a place on.
     fn put_copies(slots: &mut S, span: Span, place: usize, items: &[T])
         requires span { IsSpanOf span (S.seen slots.old) }
         requires room { span.len + length items.now ≤ length (S.seen slots.old).slots }

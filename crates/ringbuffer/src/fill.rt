@@ -10,7 +10,7 @@ use ring_slots::RingSlots;
 use std::alloc::AllocError;
 
 impl<T: Drop, S: RingSlots<T>> FixedRing<T, S> {
-    // Drops all items, and pushes as many results of `make` as the limit says. An item counts once it is stored.
+    /// Drops all items, and pushes as many results of `make` as the limit says. An item counts once it is stored.
     pub(crate) fn fill_by_calls<F: FnMut() -> T + Drop>(&mut self, make: F)
         requires { F.IsAlwaysCallable make }
         ensures { (xs : List T) × (last : F) × FoldsTo F.step make xs last
@@ -26,8 +26,8 @@ impl<T: Drop, S: RingSlots<T>> FixedRing<T, S> {
         };
     }
 
-    // Drops all items, and pushes as many clones of `value` as the limit says. Where a clone is refused, those before it
-    // stay.
+    /// Drops all items, and pushes as many clones of `value` as the limit says. Where a clone is refused, those before it
+    /// stay.
     pub(crate) fn fill_by_clones(&mut self, value: T) -> Result<(), AllocError>
     where
         T: Clone,
@@ -41,7 +41,7 @@ impl<T: Drop, S: RingSlots<T>> FixedRing<T, S> {
         made
     }
 
-    // Does what `fill_by_calls` does.
+    /// Does what `fill_by_calls` does.
     pub(crate) fn fill_by_calls_owned<F: FnMut() -> T + Drop>(mut self, make: F) -> (Self, ())
         requires { F.IsAlwaysCallable make }
         ensures { (xs : List T) × (last : F) × FoldsTo F.step make xs last
@@ -52,7 +52,7 @@ impl<T: Drop, S: RingSlots<T>> FixedRing<T, S> {
         (self, ())
     }
 
-    // Does what `fill_by_clones` does.
+    /// Does what `fill_by_clones` does.
     pub(crate) fn fill_by_clones_owned(mut self, value: T) -> (Self, Result<(), AllocError>)
     where
         T: Clone,
@@ -63,7 +63,7 @@ impl<T: Drop, S: RingSlots<T>> FixedRing<T, S> {
         (self, filled)
     }
 
-    // Puts as many results of `make` as `count` says into the slots of an empty ring that begins at the first.
+    /// Puts as many results of `make` as `count` says into the slots of an empty ring that begins at the first.
     #[inline]
     fn put_results<F: FnMut() -> T + Drop>(slots: &mut S, mut make: F, count: usize)
         requires callable { F.IsAlwaysCallable make }
@@ -79,8 +79,8 @@ impl<T: Drop, S: RingSlots<T>> FixedRing<T, S> {
         }
     }
 
-    // Puts as many clones of `value` as `count` says into the slots of an empty ring that begins at the first. Returns
-    // how many it put. Where a clone is refused, those before it stay.
+    /// Puts as many clones of `value` as `count` says into the slots of an empty ring that begins at the first. Returns
+    /// how many it put. Where a clone is refused, those before it stay.
     #[inline]
     fn put_clones_of(slots: &mut S, value: T, count: usize) -> (usize, Result<(), AllocError>)
     where
@@ -101,7 +101,7 @@ impl<T: Drop, S: RingSlots<T>> FixedRing<T, S> {
         (count, Ok(()))
     }
 
-    // Puts an item after the last of a ring that begins at the first slot, so that a loop of these goes straight on.
+    /// Puts an item after the last of a ring that begins at the first slot, so that a loop of these goes straight on.
     #[inline]
     pub(crate) fn put_next(slots: &mut S, len: usize, item: T)
         requires laid_out { IsLaidOut (S.seen slots.old) 0 }

@@ -70,7 +70,7 @@ impl<T: Drop, S: RingSlots<T>> FixedRing<T, S> {
         Self::from_parts(slots, Span { start: 0, len: 0 })
     }
 
-    // Makes a ring of the items that lie in some slots.
+    /// Makes a ring of the items that lie in some slots.
     #[inline]
     pub(crate) fn from_parts(slots: S, span: Span) -> Self
         requires { IsSound S.limit (S.seen slots) span.start span.len }
@@ -83,7 +83,7 @@ impl<T: Drop, S: RingSlots<T>> FixedRing<T, S> {
         }
     }
 
-    // Returns the item at an index below the length.
+    /// Returns the item at an index below the length.
     #[inline]
     pub(crate) fn at(&self, index: usize) -> &T
         requires { index < length self.now.items }
@@ -92,7 +92,7 @@ impl<T: Drop, S: RingSlots<T>> FixedRing<T, S> {
         self.slots.get(self.slots.place(self.span.start, index))
     }
 
-    // Returns the items in two slices, oldest first, if the slots can show them so.
+    /// Returns the items in two slices, oldest first, if the slots can show them so.
     pub(crate) fn rows(&self) -> Option<(&[T], &[T])>
         ensures items { IfSome result (λ rows. rows.0.now ++ rows.1.now ≡ self.now.items) }
         ensures first { IfSome result
@@ -104,7 +104,7 @@ impl<T: Drop, S: RingSlots<T>> FixedRing<T, S> {
         Some((before, behind))
     }
 
-    // Returns whether an item equals `x`, read one by one.
+    /// Returns whether an item equals `x`, read one by one.
     pub(crate) fn holds(&self, x: &T) -> bool
     where
         T: PartialEq,
@@ -119,7 +119,7 @@ impl<T: Drop, S: RingSlots<T>> FixedRing<T, S> {
         false
     }
 
-    // Returns clones of the items, read one by one.
+    /// Returns clones of the items, read one by one.
     pub(crate) fn clone_items(&self, alloc: Global) -> Result<Vec<T>, AllocError>
     where
         T: Clone,
@@ -133,7 +133,7 @@ impl<T: Drop, S: RingSlots<T>> FixedRing<T, S> {
         Ok(clones)
     }
 
-    // Returns the number of items.
+    /// Returns the number of items.
     #[inline]
     fn item_count(&self) -> usize
         ensures { result ≡ length self.now.items }
@@ -141,7 +141,7 @@ impl<T: Drop, S: RingSlots<T>> FixedRing<T, S> {
         self.span.len
     }
 
-    // Lends the item at an index below the length for writing.
+    /// Lends the item at an index below the length for writing.
     #[inline]
     pub(crate) fn at_mut(&mut self, index: usize) -> &mut T
         requires { index < length self.old.items }

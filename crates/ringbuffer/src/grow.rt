@@ -24,16 +24,16 @@ use std::collections::VecDeque;
 use std::marker::Model;
 use std::mem;
 
-// Fewer items go into the deque, and are compared, one at a time: a block costs some steps of its own.
+/// Fewer items go into the deque, and are compared, one at a time: a block costs some steps of its own.
 const FEW: usize = 16;
 
-// Fewer items are popped straight to where they are copied: a copy of the slices costs some steps of its own.
+/// Fewer items are popped straight to where they are copied: a copy of the slices costs some steps of its own.
 const FEW_OUT: usize = 8;
 
-// As many small items, and more, leave the deque by rotations, which move a stretch at once.
+/// As many small items, and more, leave the deque by rotations, which move a stretch at once.
 const MANY: usize = 32;
 
-// Items of more bytes leave by pops: a rotation copies all their bytes.
+/// Items of more bytes leave by pops: a rotation copies all their bytes.
 const MOST_BYTES_ROTATED: usize = 16;
 
 /// A ring buffer without a limit: it keeps every item, and grows as a `VecDeque` does.
@@ -115,7 +115,7 @@ impl<T: Drop> GrowableAllocRingBuffer<T> {
 }
 
 impl<T: Drop> GrowableAllocRingBuffer<T> {
-    // Takes out all items with their memory.
+    /// Takes out all items with their memory.
     fn take_vec(&mut self) -> Vec<T>
         ensures items { result.items ≡ self.old }
         ensures none { self.new ≡ [] }

@@ -78,7 +78,7 @@ impl<T: Drop, S: RingSlots<T>> FixedRing<T, S> {
         }
     }
 
-    // Drops the items from an index up to another, and closes the gap from the side where fewer items are.
+    /// Drops the items from an index up to another, and closes the gap from the side where fewer items are.
     fn cut(&mut self, from: usize, to: usize)
         requires order { from < to }
         requires within { to ≤ length self.old.items }
@@ -93,8 +93,8 @@ impl<T: Drop, S: RingSlots<T>> FixedRing<T, S> {
         self.span.len -= to - from;
     }
 
-    // Drops the items from an index up to another, and moves those before up, the last of them first. Returns the next
-    // start.
+    /// Drops the items from an index up to another, and moves those before up, the last of them first. Returns the next
+    /// start.
     fn cut_from_front(slots: &mut S, span: Span, from: usize, to: usize) -> usize
         requires span { IsSpanOf span (S.seen slots.old) }
         requires order { from < to }
@@ -111,7 +111,7 @@ impl<T: Drop, S: RingSlots<T>> FixedRing<T, S> {
         slots.place(span.start, gap)
     }
 
-    // Drops the items from an index up to another, and moves those after them down, the first of them first.
+    /// Drops the items from an index up to another, and moves those after them down, the first of them first.
     fn cut_from_back(slots: &mut S, span: Span, from: usize, to: usize)
         requires span { IsSpanOf span (S.seen slots.old) }
         requires order { from < to }
@@ -127,7 +127,7 @@ impl<T: Drop, S: RingSlots<T>> FixedRing<T, S> {
         }
     }
 
-    // Moves an item into an empty slot. Both are found by their counts from the start.
+    /// Moves an item into an empty slot. Both are found by their counts from the start.
     #[inline]
     pub(crate) fn move_item(slots: &mut S, start: usize, from: usize, to: usize)
         requires start { start < length (S.seen slots.old).slots }
@@ -143,7 +143,7 @@ impl<T: Drop, S: RingSlots<T>> FixedRing<T, S> {
         slots.put(gets, item);
     }
 
-    // Takes out the item at an index below the length. The fewer of the items before and after close up.
+    /// Takes out the item at an index below the length. The fewer of the items before and after close up.
     pub(crate) fn take_at(&mut self, index: usize) -> Option<T>
         requires { index < length self.old.items }
         ensures value { result ≡ slice_get self.old.items index }
@@ -158,8 +158,8 @@ impl<T: Drop, S: RingSlots<T>> FixedRing<T, S> {
         Some(self.pass_down(index, behind, last))
     }
 
-    // Puts an item at an index up to the length, before the items from there on. The fewer of the items before and after
-    // make way. There must be room for it.
+    /// Puts an item at an index up to the length, before the items from there on. The fewer of the items before and after
+    /// make way. There must be room for it.
     pub(crate) fn put_into(&mut self, index: usize, item: T)
         requires within { index ≤ length self.old.items }
         requires room { length self.old.items < S.limit self.old.capacity }
@@ -175,8 +175,8 @@ impl<T: Drop, S: RingSlots<T>> FixedRing<T, S> {
         }
     }
 
-    // Puts an item before the `count` items from an index on, each of which moves to the next index. Returns the one that
-    // was last, or `item` where there are none.
+    /// Puts an item before the `count` items from an index on, each of which moves to the next index. Returns the one that
+    /// was last, or `item` where there are none.
     fn pass_up(&mut self, index: usize, count: usize, item: T) -> T
         requires { index + count ≤ length self.old.items }
         ensures { (xs : List T) × passed_up item result (take count (drop index self.old.items)) xs
@@ -187,8 +187,8 @@ impl<T: Drop, S: RingSlots<T>> FixedRing<T, S> {
         self.slots.pass_up(0, count - first, over)
     }
 
-    // Puts an item after the `count` items from an index on, each of which moves to the index before. Returns the one
-    // that was first, or `item` where there are none.
+    /// Puts an item after the `count` items from an index on, each of which moves to the index before. Returns the one
+    /// that was first, or `item` where there are none.
     fn pass_down(&mut self, index: usize, count: usize, item: T) -> T
         requires { index + count ≤ length self.old.items }
         ensures { (xs : List T) × passed_down item result (take count (drop index self.old.items)) xs
@@ -199,8 +199,8 @@ impl<T: Drop, S: RingSlots<T>> FixedRing<T, S> {
         self.slots.pass_down(place, first, over)
     }
 
-    // Returns the place of an index, and how many of `count` items from there on lie up to the last slot. The others lie
-    // from the first slot on.
+    /// Returns the place of an index, and how many of `count` items from there on lie up to the last slot. The others lie
+    /// from the first slot on.
     #[inline]
     fn stretch(slots: &S, start: usize, index: usize, count: usize) -> (usize, usize)
         requires start { start < length (S.seen slots.now).slots }

@@ -10,7 +10,7 @@ ghost use Rattle.ringbuffer.specs.Somes.{somes};
 use ring_core::RingBuffer;
 use std::alloc::AllocError;
 
-// Pushes an item, and drops the one that it overwrites. An item that is refused is dropped too.
+/// Pushes an item, and drops the one that it overwrites. An item that is refused is dropped too.
 fn push_item<T: Drop, R: RingBuffer<T>>(ring: &mut R, item: T) -> Result<(), AllocError>
     ensures contents { OnOk result (R.contents ring.new
         ≡ keep_last (R.limit ring.old) (R.contents ring.old ++ item ∷ [])) }

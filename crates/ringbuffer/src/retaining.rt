@@ -9,7 +9,7 @@ use crate::fixed::{FixedRing, Span};
 use ring_slots::RingSlots;
 
 impl<T: Drop, S: RingSlots<T>> FixedRing<T, S> {
-    // Keeps the items for which `keep` returns `true`, in order, and drops the others.
+    /// Keeps the items for which `keep` returns `true`, in order, and drops the others.
     pub(crate) fn retain_in_place<F: FnMut(&T) -> bool>(&mut self, keep: F)
         requires { F.IsAlwaysCallable keep }
         ensures { Retains (CalledAt F.FnMut) keep self.old self.new }
@@ -17,7 +17,7 @@ impl<T: Drop, S: RingSlots<T>> FixedRing<T, S> {
         self.span.len = Self::close_up(&mut self.slots, self.span, keep);
     }
 
-    // Does what `retain_in_place` does.
+    /// Does what `retain_in_place` does.
     pub(crate) fn retain_owned<F: FnMut(&T) -> bool>(mut self, keep: F) -> (Self, ())
         requires { F.IsAlwaysCallable keep }
         ensures { Retains (CalledAt F.FnMut) keep self result.0 }
@@ -26,8 +26,8 @@ impl<T: Drop, S: RingSlots<T>> FixedRing<T, S> {
         (self, ())
     }
 
-    // Keeps the items for which `keep` returns `true`, each in the slot after those kept before it, and drops the others.
-    // Returns how many it kept.
+    /// Keeps the items for which `keep` returns `true`, each in the slot after those kept before it, and drops the others.
+    /// Returns how many it kept.
     fn close_up<F: FnMut(&T) -> bool>(slots: &mut S, span: Span, mut keep: F) -> usize
         requires span { IsSpanOf span (S.seen slots.old) }
         requires callable { F.IsAlwaysCallable keep }

@@ -207,9 +207,9 @@ impl<T: Drop, S: RingSlots<T>> RingBuffer<T> for FixedRing<T, S> {
     }
 }
 
-// Compares a number with the one in memory, which is the same, so the branch is never taken. It is there for the
-// compiler, which can't tell an item's slot from the ring's own fields: a number that is compared again stays in a
-// register in a loop of pushes.
+/// Compares a number with the one in memory, which is the same, so the branch is never taken. It is there for the
+/// compiler, which can't tell an item's slot from the ring's own fields: a number that is compared again stays in a
+/// register in a loop of pushes.
 #[inline]
 fn keep_in_register(number: usize, stored: usize)
     requires { stored ≡ number }

@@ -29,7 +29,7 @@ impl<T: Drop, S: RingSlots<T>> FixedRing<T, S> {
         self.rotate_left(others);
     }
 
-    // Moves the first items after the others, as many as `count` says.
+    /// Moves the first items after the others, as many as `count` says.
     fn rotate_firsts(&mut self, count: usize)
         requires { count ≤ length self.old.items }
         ensures { self.new ≡ after_firsts_to_back count self.old }
@@ -38,7 +38,7 @@ impl<T: Drop, S: RingSlots<T>> FixedRing<T, S> {
         self.span.start = Self::firsts_to_back(&mut self.slots, span, count);
     }
 
-    // Moves the last items before the others, as many as `count` says.
+    /// Moves the last items before the others, as many as `count` says.
     fn rotate_lasts(&mut self, count: usize)
         requires { count ≤ length self.old.items }
         ensures { self.new ≡ after_lasts_to_front count self.old }
@@ -47,7 +47,7 @@ impl<T: Drop, S: RingSlots<T>> FixedRing<T, S> {
         self.span.start = Self::lasts_to_front(&mut self.slots, span, count);
     }
 
-    // Moves the first items after the others, one by one, as many as `count` says. Returns the next start.
+    /// Moves the first items after the others, one by one, as many as `count` says. Returns the next start.
     fn firsts_to_back(slots: &mut S, span: Span, count: usize) -> usize
         requires span { IsSpanOf span (S.seen slots.old) }
         requires some { count ≤ span.len }
@@ -69,7 +69,7 @@ impl<T: Drop, S: RingSlots<T>> FixedRing<T, S> {
         start
     }
 
-    // Moves the last items before the others, one by one, as many as `count` says. Returns the next start.
+    /// Moves the last items before the others, one by one, as many as `count` says. Returns the next start.
     fn lasts_to_front(slots: &mut S, span: Span, count: usize) -> usize
         requires span { IsSpanOf span (S.seen slots.old) }
         requires some { count ≤ span.len }
@@ -84,7 +84,7 @@ impl<T: Drop, S: RingSlots<T>> FixedRing<T, S> {
         start
     }
 
-    // Moves the last item before the first, and returns the next start.
+    /// Moves the last item before the first, and returns the next start.
     #[inline]
     fn last_to_first(slots: &mut S, span: Span) -> usize
         requires span { IsSpanOf span (S.seen slots.old) }

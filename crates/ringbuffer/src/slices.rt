@@ -9,7 +9,7 @@ use ring_core::{RingBuffer, RingBufferExt};
 use ring_slots::{CopySlots, HeapSlots, RingSlots};
 use std::alloc::{AllocError, Global};
 
-// As many items, and fewer, are copied one at a time out of slots that show no row.
+/// As many items, and fewer, are copied one at a time out of slots that show no row.
 const FEW_OUT: usize = 4;
 
 impl<T: Copy + Drop, S: RingSlots<T>> FixedRing<T, S> {
@@ -40,7 +40,7 @@ impl<T: Copy + Drop, S: RingSlots<T>> FixedRing<T, S> {
         }
     }
 
-    // Does what `copy_to_slice` does, item by item.
+    /// Does what `copy_to_slice` does, item by item.
     #[inline]
     fn copy_each(&self, output: &mut [T]) -> usize
         ensures count { result ≡ min (length output.old) (length self.now.items) }
@@ -59,8 +59,8 @@ impl<T: Copy + Drop, S: RingSlots<T>> FixedRing<T, S> {
         count
     }
 
-    // Does what `copy_to_slice` does, in two stretches of slots: up to the last slot, and on from the first. Out of line, so that
-    // few items take no step for it.
+    /// Does what `copy_to_slice` does, in two stretches of slots: up to the last slot, and on from the first. Out of line, so that
+    /// few items take no step for it.
     #[inline(never)]
     fn copy_stretches(&self, output: &mut [T]) -> usize
         ensures count { result ≡ min (length output.old) (length self.now.items) }
@@ -74,7 +74,7 @@ impl<T: Copy + Drop, S: RingSlots<T>> FixedRing<T, S> {
         count
     }
 
-    // Copies the items of slots side by side to a slice. No place is counted round here, so that the loop goes straight on.
+    /// Copies the items of slots side by side to a slice. No place is counted round here, so that the loop goes straight on.
     #[inline]
     fn copy_stretch(slots: &S, from: usize, output: &mut [T])
         requires { IsFullStretch (S.seen slots.now).slots from (length output.old) }
@@ -105,8 +105,8 @@ impl<T: Copy + Drop, S: RingSlots<T>> FixedRing<T, S> {
         count
     }
 
-    // Takes out the oldest item, if there is one, and puts it into the only place of a slice: to find the rows would cost
-    // more. Out of line, so that many items pay for a look at their number alone.
+    /// Takes out the oldest item, if there is one, and puts it into the only place of a slice: to find the rows would cost
+    /// more. Out of line, so that many items pay for a look at their number alone.
     #[inline(never)]
     fn dequeue_one_into(&mut self, output: &mut [T]) -> usize
         requires { length output.old ≡ 1 }

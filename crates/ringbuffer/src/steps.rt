@@ -8,7 +8,7 @@ use crate::fixed::{FixedRing, Span};
 use ring_slots::RingSlots;
 
 impl<T: Drop, S: RingSlots<T>> FixedRing<T, S> {
-    // Pushes an item. Returns where the items lie then, and the item that gave way.
+    /// Pushes an item. Returns where the items lie then, and the item that gave way.
     #[inline]
     pub(crate) fn push_from(
         slots: &mut S,
@@ -36,7 +36,7 @@ impl<T: Drop, S: RingSlots<T>> FixedRing<T, S> {
         }
     }
 
-    // Puts an item after the last, at the place that follows it.
+    /// Puts an item after the last, at the place that follows it.
     #[inline]
     pub(crate) fn put_at(slots: &mut S, span: Span, place: usize, item: T)
         requires span { IsSpanOf span (S.seen slots.old) }
@@ -48,7 +48,7 @@ impl<T: Drop, S: RingSlots<T>> FixedRing<T, S> {
         slots.put(place, item);
     }
 
-    // Puts an item after the last once the first has given way. Returns the next start and the item that was first.
+    /// Puts an item after the last once the first has given way. Returns the next start and the item that was first.
     #[inline]
     pub(crate) fn put_over(slots: &mut S, span: Span, item: T) -> (usize, T)
         requires span { IsSpanOf span (S.seen slots.old) }
@@ -64,7 +64,7 @@ impl<T: Drop, S: RingSlots<T>> FixedRing<T, S> {
         (next, old)
     }
 
-    // Puts an item before the first once the last has given way. Returns the next start and the item that was last.
+    /// Puts an item before the first once the last has given way. Returns the next start and the item that was last.
     #[inline]
     pub(crate) fn put_under(slots: &mut S, span: Span, item: T) -> (usize, T)
         requires span { IsSpanOf span (S.seen slots.old) }
@@ -78,8 +78,8 @@ impl<T: Drop, S: RingSlots<T>> FixedRing<T, S> {
         (Self::put_before(slots, span.start, item), old)
     }
 
-    // Takes the last item. Inlined first of all, as `put_before` is, so that on a full ring their two places are found as
-    // one.
+    /// Takes the last item. Inlined first of all, as `put_before` is, so that on a full ring their two places are found as
+    /// one.
     #[inline(always)]
     pub(crate) fn take_last(slots: &mut S, span: Span) -> T
         requires span { IsSpanOf span (S.seen slots.old) }
@@ -93,7 +93,7 @@ impl<T: Drop, S: RingSlots<T>> FixedRing<T, S> {
         slots.take(last)
     }
 
-    // Puts an item before the first, where there is room for one. Returns its place, which is the next start.
+    /// Puts an item before the first, where there is room for one. Returns its place, which is the next start.
     #[inline(always)]
     pub(crate) fn put_before(slots: &mut S, start: usize, item: T) -> usize
         requires laid_out { IsLaidOut (S.seen slots.old) start }
@@ -107,7 +107,7 @@ impl<T: Drop, S: RingSlots<T>> FixedRing<T, S> {
         place
     }
 
-    // Takes the first item, and returns the next start before it.
+    /// Takes the first item, and returns the next start before it.
     #[inline]
     pub(crate) fn take_from(slots: &mut S, start: usize) -> (usize, T)
         requires laid_out { IsLaidOut (S.seen slots.old) start }
@@ -121,7 +121,7 @@ impl<T: Drop, S: RingSlots<T>> FixedRing<T, S> {
         (next, slots.take(start))
     }
 
-    // Drops the first item, and returns the next start.
+    /// Drops the first item, and returns the next start.
     #[inline]
     pub(crate) fn drop_from(slots: &mut S, start: usize) -> usize
         requires laid_out { IsLaidOut (S.seen slots.old) start }

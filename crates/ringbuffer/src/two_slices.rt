@@ -21,7 +21,7 @@ pub fn copy_slices<T: Copy>(items: (&[T], &[T]), output: &mut [T]) -> usize
     before + copy_slice(second, back)
 }
 
-// Copies the items of a slice to the first places of another, as many as it has. Returns how many.
+/// Copies the items of a slice to the first places of another, as many as it has. Returns how many.
 fn copy_slice<T: Copy>(items: &[T], output: &mut [T]) -> usize
     ensures count { result ≡ min (length output.old) (length items.now) }
     ensures copied { output.new ≡ take result items.now ++ drop result output.old }
@@ -92,7 +92,7 @@ pub fn clone_slices_into<T: Clone + Drop>(
     Ok(before + clone_slice_into(second, back)?)
 }
 
-// Puts clones of the items of a slice into the first places of another, as many as it has. Returns how many.
+/// Puts clones of the items of a slice into the first places of another, as many as it has. Returns how many.
 fn clone_slice_into<T: Clone + Drop>(items: &[T], output: &mut [T]) -> Result<usize, AllocError>
     ensures clones { ClonesOut T.is_clone items.now output.old output.new result }
     ensures count { IfOk result (λ n. n ≡ min (length output.old) (length items.now)) }

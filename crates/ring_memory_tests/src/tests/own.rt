@@ -6,7 +6,7 @@ ghost use Rattle.ring_core.proofs.Limits.{counts_none};
 use ringbuffer::{GrowableAllocRingBuffer, RingBuffer};
 use std::alloc::{AllocError, Global};
 
-// How many items the ring says that it has room for.
+/// How many items the ring says that it has room for.
 const ROOM: usize = 8;
 
 /// A ring without a limit. It says that it has room for eight items, and may have to ask for memory before.

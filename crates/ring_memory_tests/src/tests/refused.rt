@@ -254,7 +254,7 @@ struct Costly<'a> {
     _room: Vec<u8>,
 }
 
-// How many bytes such a clone takes.
+/// How many bytes such a clone takes.
 const COST: usize = 1 << 11;
 
 impl<'a> Costly<'a> {
@@ -437,7 +437,7 @@ fn a_refused_push_hands_its_item_back(rt: HostRuntime) {
     on_growable_of_any!(&rt, 4, assert_push_refused, &supply);
 }
 
-// How many items the extensions below have.
+/// How many items the extensions below have.
 const MANY: usize = 100;
 
 /// Extends a growable ring by a call or by a command, in a drought that spares `spare` bytes. Returns whether that was done.

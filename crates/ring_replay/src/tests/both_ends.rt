@@ -68,7 +68,7 @@ fn play_middle<T: Clone + Drop, M: Maker<T>, R: DoubleEndedRing<T>>(
     }
 }
 
-// Takes out all items, those from an index on, or those of a range.
+/// Takes out all items, those from an index on, or those of a range.
 fn take_out<T: Clone + Drop, M: Maker<T>, R: DoubleEndedRing<T>>(
     ring: &mut R,
     player: &mut Player<M>,

@@ -18,7 +18,7 @@ pub trait PlayedBytes: PlayedCopies<u8> + BufRead + Write {
     fn play_bytes<M: Maker<u8> + Maker<char>>(&mut self, player: &mut Player<M>) -> Done;
 }
 
-// Makes a call of a reader or a writer.
+/// Makes a call of a reader or a writer.
 fn play_stream<M: Maker<u8>, R: RingBuffer<u8> + BufRead + Write>(
     ring: &mut R,
     player: &mut Player<M>,
@@ -48,7 +48,7 @@ fn play_stream<M: Maker<u8>, R: RingBuffer<u8> + BufRead + Write>(
     Ok(())
 }
 
-// Notes what a read or a write returned.
+/// Notes what a read or a write returned.
 fn note_count<M>(count: io::Result<usize>, player: &mut Player<M>) {
     match count {
         Ok(count) => player.note(count as u64),
@@ -56,7 +56,7 @@ fn note_count<M>(count: io::Result<usize>, player: &mut Player<M>) {
     }
 }
 
-// Looks at the bytes that are lent, which are the oldest ones, and passes over some.
+/// Looks at the bytes that are lent, which are the oldest ones, and passes over some.
 fn lend<M: Maker<u8>, R: RingBuffer<u8> + BufRead>(ring: &mut R, player: &mut Player<M>) -> Done {
     let held = ring.to_vec(player.alloc)?;
     let Ok(lent) = ring.fill_buf() else {
@@ -68,7 +68,7 @@ fn lend<M: Maker<u8>, R: RingBuffer<u8> + BufRead>(ring: &mut R, player: &mut Pl
     Ok(())
 }
 
-// Writes bytes onto the newest that a ring keeps.
+/// Writes bytes onto the newest that a ring keeps.
 fn keep_last<M: Maker<u8>, R: RingBuffer<u8>>(
     ring: R,
     player: &mut Player<M>,
@@ -86,7 +86,7 @@ where
     Ok(last.into_ring())
 }
 
-// Draws a text.
+/// Draws a text.
 fn text<M: Maker<char>>(player: &mut Player<M>) -> Result<String, AllocError> {
     let mut text = String::new(player.alloc);
     for _ in 0..player.some() {
@@ -95,7 +95,7 @@ fn text<M: Maker<char>>(player: &mut Player<M>) -> Result<String, AllocError> {
     Ok(text)
 }
 
-// Draws three bytes.
+/// Draws three bytes.
 fn three<M: Maker<u8>>(player: &mut Player<M>) -> [u8; 3] {
     [player.item(), player.item(), player.item()]
 }
@@ -113,7 +113,7 @@ macro_rules! play_three {
     }};
 }
 
-// Makers of array rings that take three bytes.
+/// Makers of array rings that take three bytes.
 fn play_array_of_three<M: Maker<u8>>(player: &mut Player<M>) -> Done {
     let mut bytes = three(player);
     let made = match player.up_to(2) {
@@ -147,7 +147,7 @@ impl<const CAP: usize> PlayedBytes for ConstGenericRingBuffer<u8, CAP> {
     }
 }
 
-// Makers of rings of plain items that take three bytes.
+/// Makers of rings of plain items that take three bytes.
 fn play_plain_of_three<M: Maker<u8>>(player: &mut Player<M>) -> Done {
     let mut bytes = three(player);
     let made = match player.up_to(2) {

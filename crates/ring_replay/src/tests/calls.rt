@@ -104,7 +104,7 @@ pub fn walk<T: Clone + Drop, M: Maker<T>, R: RingBuffer<T>>(
     }
 }
 
-// Passes over items, and goes to the end.
+/// Passes over items, and goes to the end.
 fn pass<T: Clone + Drop, M: Maker<T>, R: RingBuffer<T>>(
     mut walk: RingBufferIterator<'_, T, R>,
     player: &mut Player<M>,
@@ -134,7 +134,7 @@ fn write<T: Clone + Drop, M: Maker<T>, R: RingBuffer<T>>(ring: &mut R, player: &
     }
 }
 
-// Writes the next item from one end.
+/// Writes the next item from one end.
 fn step<T: Clone + Drop, M: Maker<T>, R: RingBuffer<T>>(
     cursor: &mut RingBufferMutIterator<'_, T, R>,
     player: &mut Player<M>,

@@ -34,7 +34,7 @@ pub fn play<T: Clone + Drop, M: Maker<T>, R: RingBuffer<T>>(
     Ok(())
 }
 
-// Draws a command.
+/// Draws a command.
 fn draw<T: Drop, M: Maker<T>>(player: &mut Player<M>) -> Result<Command<T>, AllocError> {
     Ok(match player.up_to(15) {
         0 => Command::Clear,
@@ -45,7 +45,7 @@ fn draw<T: Drop, M: Maker<T>>(player: &mut Player<M>) -> Result<Command<T>, Allo
     })
 }
 
-// Notes a reply, and its kind.
+/// Notes a reply, and its kind.
 fn note<T: Drop, M: Maker<T>>(reply: Option<Reply<T>>, player: &mut Player<M>) {
     match reply {
         Some(Reply::Pushed(old)) => {

@@ -41,7 +41,7 @@ pub fn play<T: Plain, M: Maker<T>, R: RingBuffer<T> + Clone + Ord + Hash + Debug
     Ok(())
 }
 
-// Searches among items that rise.
+/// Searches among items that rise.
 fn search<T: Plain, M: Maker<T>, R: RingBuffer<T>>(ring: &mut R, player: &mut Player<M>) {
     raise(ring, player);
     let sought = player.draw() % 250;
@@ -68,7 +68,7 @@ fn number_of(order: Option<Ordering>) -> u64 {
     }
 }
 
-// Notes what a ring prints, in one line and in several.
+/// Notes what a ring prints, in one line and in several.
 fn note_text<M, R: Debug>(ring: &R, player: &mut Player<M>) -> Done {
     let text = format!(in player.alloc; "{ring:?} {ring:#?}")?;
     for byte in text.as_bytes() {

@@ -28,7 +28,7 @@ pub fn try_out<T: Drop, M: Maker<T>, R: RingBuffer<T> + Drop>(
     Ok(())
 }
 
-// Draws a linked list.
+/// Draws a linked list.
 fn list<T: Drop, M: Maker<T>>(player: &mut Player<M>) -> Result<LinkedList<T>, AllocError> {
     let mut items = LinkedList::new(player.alloc);
     for _ in 0..player.some() {
@@ -37,7 +37,7 @@ fn list<T: Drop, M: Maker<T>>(player: &mut Player<M>) -> Result<LinkedList<T>, A
     Ok(items)
 }
 
-// Makes a heap ring of capacity 7.
+/// Makes a heap ring of capacity 7.
 fn heap<T: Drop, M: Maker<T>>(player: &mut Player<M>) -> Result<AllocRingBuffer<T>, AllocError> {
     let mut ring = AllocRingBuffer::new(player.alloc, 7)?;
     ring.extend(player.items()?)?;

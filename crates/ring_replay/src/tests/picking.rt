@@ -25,7 +25,7 @@ pub fn play<T: Clone + Drop, M: Maker<T>, R: RingBuffer<T>>(
     Ok(())
 }
 
-// Keeps the items whose number lacks one of two bits.
+/// Keeps the items whose number lacks one of two bits.
 fn filter<T: Clone + Drop, M: Maker<T>, R: RingBuffer<T>>(
     ring: &mut R,
     player: &mut Player<M>,
@@ -51,7 +51,7 @@ pub fn raise<T: Clone + Drop, M: Maker<T>, R: RingBuffer<T>>(ring: &mut R, playe
     }
 }
 
-// Walks over the items at the indexes of a range, whose bounds may lie past the end.
+/// Walks over the items at the indexes of a range, whose bounds may lie past the end.
 fn walk_range<T: Clone + Drop, M: Maker<T>, R: RingBuffer<T>>(ring: &R, player: &mut Player<M>) {
     let most = ring.len().saturating_add(2);
     let (start, end) = (player.up_to(most), player.up_to(most));

@@ -76,7 +76,7 @@ macro_rules! play_ends {
     };
 }
 
-// Calls of fixed rings.
+/// Calls of fixed rings.
 fn play_middle<T: Clone + Drop, M: Maker<T>, S: RingSlots<T>>(
     ring: &mut FixedRing<T, S>,
     player: &mut Player<M>,
@@ -103,7 +103,7 @@ fn play_middle<T: Clone + Drop, M: Maker<T>, S: RingSlots<T>>(
     }
 }
 
-// Calls at the ends of fixed rings, by an index, and of their clones.
+/// Calls at the ends of fixed rings, by an index, and of their clones.
 fn play_fixed_ends<T: Clone + Drop, M: Maker<T>, S: RingSlots<T>>(
     ring: &mut FixedRing<T, S>,
     player: &mut Player<M>,
@@ -172,7 +172,7 @@ macro_rules! play_copies {
     }};
 }
 
-// Calls of fixed rings that copy items, or compare them.
+/// Calls of fixed rings that copy items, or compare them.
 fn play_fixed_copies<T: Plain, M: Maker<T>, S: TakesCopies<T>>(
     ring: &mut FixedRing<T, S>,
     player: &mut Player<M>,
@@ -183,7 +183,7 @@ where
     play_copies!(ring, player, items, ring.extend_from_slice(&items))
 }
 
-// Calls of rings in an array, but for copies onto another ring.
+/// Calls of rings in an array, but for copies onto another ring.
 fn play_array<T: Clone + Drop, M: Maker<T>, S: RingSlots<T>>(
     call: usize,
     ring: &mut FixedRing<T, S>,
@@ -200,7 +200,7 @@ where
     Ok(())
 }
 
-// Calls of rings in an array that copy items, or compare them.
+/// Calls of rings in an array that copy items, or compare them.
 fn play_array_copies<T: Plain, M: Maker<T>, S: TakesCopies<T>>(
     ring: &mut FixedRing<T, S>,
     player: &mut Player<M>,
@@ -311,7 +311,7 @@ impl<T: Plain> PlayedCopies<T> for AllocRingBuffer<T> {
     }
 }
 
-// Calls at the ends of growable rings, by an index, and of their clones.
+/// Calls at the ends of growable rings, by an index, and of their clones.
 fn play_growable_ends<T: Clone + Drop, M: Maker<T>>(
     ring: &mut GrowableAllocRingBuffer<T>,
     player: &mut Player<M>,
@@ -320,7 +320,7 @@ fn play_growable_ends<T: Clone + Drop, M: Maker<T>>(
     Ok(())
 }
 
-// Calls of growable rings that copy items, or compare them.
+/// Calls of growable rings that copy items, or compare them.
 fn play_growable_copies<T: Plain, M: Maker<T>>(
     ring: &mut GrowableAllocRingBuffer<T>,
     player: &mut Player<M>,

@@ -124,7 +124,7 @@ fn many_items_are_cloned_onto_a_ring(rt: HostRuntime) -> Result<(), AllocError> 
     Ok(())
 }
 
-// How many items the rings below have overwritten, so that those held go round the slots.
+/// How many items the rings below have overwritten, so that those held go round the slots.
 const OVERWRITTEN: usize = 700;
 
 #[test]

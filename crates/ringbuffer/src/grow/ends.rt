@@ -49,8 +49,8 @@ impl<T: Drop> GrowableAllocRingBuffer<T> {
         Ok(())
     }
 
-    // Drops the items from one index up to another, and leaves the others where the deque's `drain` would. Many are rotated to
-    // the front, where a stretch leaves at once.
+    /// Drops the items from one index up to another, and leaves the others where the deque's `drain` would. Many are rotated to
+    /// the front, where a stretch leaves at once.
     fn drop_between(&mut self, start: usize, end: usize)
         requires order { start ≤ end }
         requires within { end ≤ length self.old }

@@ -34,7 +34,7 @@ impl<T: Drop> GrowableAllocRingBuffer<T> {
         RingBuffer::extend(self, items)
     }
 
-    // Pushes what a source gives, one at a time.
+    /// Pushes what a source gives, one at a time.
     pub(super) fn push_each<I: Iterator<Item = T> + Drop>(
         &mut self,
         items: I,
@@ -53,8 +53,8 @@ impl<T: Drop> GrowableAllocRingBuffer<T> {
     }
 }
 
-// Puts what a source gives after the items of a vector while there is room. Returns the source, and the item that found
-// none. The vector is a value here and not behind a reference, so that its fields stay in registers.
+/// Puts what a source gives after the items of a vector while there is room. Returns the source, and the item that found
+/// none. The vector is a value here and not behind a reference, so that its fields stay in registers.
 pub(super) fn pour<T, I: Iterator<Item = T>>(vec: Vec<T>, items: I) -> (Vec<T>, I, Option<T>)
     requires { I.can_next items × IsFinite (I.remaining items) }
     ensures { (xs : List T) × (result.0.items ≡ vec.items ++ xs)
@@ -92,7 +92,7 @@ impl<T: Copy + Drop> GrowableAllocRingBuffer<T> {
         copied
     }
 
-    // Does what `extend_from_slice` does, and moves no item but where the deque grows.
+    /// Does what `extend_from_slice` does, and moves no item but where the deque grows.
     fn push_copies(&mut self, items: &[T]) -> Result<(), AllocError>
         ensures ok { OnOk result (self.new ≡ self.old ++ items.now) }
         ensures err { OnErr result (self.new ≡ self.old) }
@@ -107,9 +107,9 @@ impl<T: Copy + Drop> GrowableAllocRingBuffer<T> {
         Ok(())
     }
 
-    // Puts copies of many items into room that was reserved for them. The deque's own loop goes straight on to the end of its
-    // memory, and becomes vector code. It is never refused here, which std doesn't say. Out of line, so that few items take no
-    // step for it.
+    /// Puts copies of many items into room that was reserved for them. The deque's own loop goes straight on to the end of its
+    /// memory, and becomes vector code. It is never refused here, which std doesn't say. Out of line, so that few items take no
+    /// step for it.
     #[inline(never)]
     fn extend_reserved(&mut self, items: &[T]) -> Result<(), AllocError>
         ensures ok { OnOk result (self.new ≡ self.old ++ items.now) }

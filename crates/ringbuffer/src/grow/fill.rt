@@ -4,7 +4,7 @@ ghost use Rattle.std.specs.Prelude.{◌≡◌, [], All};
 use super::GrowableAllocRingBuffer;
 use std::alloc::AllocError;
 
-// Fills the room of an empty vector with clones.
+/// Fills the room of an empty vector with clones.
 pub(super) fn clones<T: Clone + Drop>(items: Vec<T>, value: T) -> (Vec<T>, Result<(), AllocError>)
     requires { items.items ≡ [] }
     ensures { All (T.is_clone value) result.0.items }

@@ -48,8 +48,8 @@ impl<T: Copy + Drop> GrowableAllocRingBuffer<T> {
         count
     }
 
-    // Does what `dequeue_into` does, item by item. The deque is a value meanwhile, so that its fields stay in registers. Out of
-    // line, so that blocks take no step for it.
+    /// Does what `dequeue_into` does, item by item. The deque is a value meanwhile, so that its fields stay in registers. Out of
+    /// line, so that blocks take no step for it.
     #[inline(never)]
     fn dequeue_each(&mut self, output: &mut [T]) -> usize
         ensures count { result ≡ min (length output.old) (length self.old) }
@@ -68,8 +68,8 @@ impl<T: Copy + Drop> GrowableAllocRingBuffer<T> {
 }
 
 impl<T: Drop> GrowableAllocRingBuffer<T> {
-    // Drops the first items. Most of many small ones go by rotations, and the last by pops: the others then lie where pops alone
-    // would leave them, also where that is the end of the deque's memory.
+    /// Drops the first items. Most of many small ones go by rotations, and the last by pops: the others then lie where pops alone
+    /// would leave them, also where that is the end of the deque's memory.
     #[inline]
     pub(crate) fn drop_first(&mut self, count: usize)
         requires { count ≤ length self.old }
@@ -88,8 +88,8 @@ impl<T: Drop> GrowableAllocRingBuffer<T> {
         }
     }
 
-    // Drops the first items one at a time. Out of line, since LLVM unrolls the pops where it sees how few they are, into more
-    // instructions for each.
+    /// Drops the first items one at a time. Out of line, since LLVM unrolls the pops where it sees how few they are, into more
+    /// instructions for each.
     #[inline(never)]
     fn drop_by_pops(&mut self, count: usize)
         requires { count ≤ length self.old }
@@ -98,8 +98,8 @@ impl<T: Drop> GrowableAllocRingBuffer<T> {
         replace_with(&mut self.deque, count, without_first);
     }
 
-    // Drops some of the first items, and returns how many of `count` are left to drop. A rotation moves items after the others,
-    // no more than there are of these, and cuts them off there, which takes no step for each.
+    /// Drops some of the first items, and returns how many of `count` are left to drop. A rotation moves items after the others,
+    /// no more than there are of these, and cuts them off there, which takes no step for each.
     fn drop_by_rotations(&mut self, count: usize) -> usize
         requires { count ≤ length self.old }
         ensures bound { result ≤ count }
@@ -139,8 +139,8 @@ impl<T: Drop> GrowableAllocRingBuffer<T> {
     }
 }
 
-// Drops the first items of a deque, one at a time. It is a value here and not behind a reference, so that its fields stay in
-// registers.
+/// Drops the first items of a deque, one at a time. It is a value here and not behind a reference, so that its fields stay in
+/// registers.
 #[inline]
 fn without_first<T: Drop>(deque: VecDeque<T>, count: usize) -> (VecDeque<T>, ())
     requires { count ≤ length deque.items }

@@ -15,7 +15,7 @@ use std::alloc::{AllocError, Global};
 use std::collections::{LinkedList, VecDeque};
 
 impl<T: Drop> AllocRingBuffer<T> {
-    // Makes a ring of this capacity that holds the last items of a source.
+    /// Makes a ring of this capacity that holds the last items of a source.
     fn holding<I: IntoIterator<Item = T> + Drop>(
         alloc: Global,
         capacity: usize,
