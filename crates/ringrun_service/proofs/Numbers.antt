@@ -1,20 +1,20 @@
 -- A number at the front of a text, and the word that it stands in.
-use Rattle.std.proofs.Common.{◌≡◌, ℕ, zero, suc, ◌^◌, ◌≤◌, ◌&&◌, Bool, true, false, cond, List, [], ◌∷◌, ◌++◌, length, length-drop, take, drop, get_or, ◌-◌, ◌≢◌, Option, Some, None, ℤ, append-nil, subst, ltb, eqb, refl, sym, ap, ◌∙◌, w64, arith}
+use Rattle.std.proofs.Common.{◌≡◌, ℕ, zero, suc, ◌^◌, ◌≤◌, ◌&&◌, not, Bool, true, false, cond, List, [], ◌∷◌, ◌++◌, length, length-drop, take, drop, get_or, ◌-◌, ◌≢◌, Option, Some, None, ℤ, append-nil, ltb, eqb, refl, sym, ap, ◌∙◌, w64, arith}
 use Rattle.std.proofs.lemmas.Bool.{eqb-true}
 use Rattle.std.proofs.lemmas.Bool.Decides.{nat_tests}
 use Rattle.std.specs.List.{list_all}
 use Rattle.std.specs.Option.{option_map}
 use Rattle.std.specs.Str.Parse.{digits_value, signed_digits_value, starts_with_minus, without_leading_sign}
-use Rattle.decimal.proofs.Digits.{all_digits_at, digit}
+use Rattle.decimal.proofs.Digits.{all_digits_at, digit, digits_front}
 use Rattle.decimal.proofs.SignedNumbers.{signed_fits}
 use Rattle.decimal.proofs.Cases.{by_cases}
-use Rattle.std.proofs.lemmas.List.{take_rest}
+use Rattle.std.proofs.lemmas.List.{take-append-drop, take_rest}
 use Rattle.ringrun_service.proofs.Blanks.{space_at_once}
-use Rattle.ringrun_service.proofs.Lines.{ends_word, past_word, word_at}
+use Rattle.ringrun_service.proofs.Lines.{at_once, ends_word, one_further, past_word, then_follows, word_at, word_goes_on, InWord}
 use mir.Val.{SFits}
 use Rattle.std.proofs.lemmas.List.Folds.{list_all-append}
 use Rattle.decimal.specs.Numerals.{digits_at, signed_at, signed_of, size_at, is_i64, is_some_bytes}
-use Rattle.ringrun_service.specs.Parsing.{after_blanks, number_at, starts_blank}
+use Rattle.ringrun_service.specs.Parsing.{after_blanks, after_end, number_at, starts_blank}
 use Rattle.ringrun_service.specs.Script.{is_blank, is_line_feed, number_of}
 
 -- a word may end here
@@ -29,13 +29,26 @@ behind_digits text = drop (length (digits_at text)) text
 digit_in_word : (b : ℕ) → digit b ≡ true → ends_word b ≡ false
 digit_in_word b h = grind (arith, nat_tests)
 
--- a word that begins with digits
-digits_then_word : (text : List ℕ) → word_at text ≡ digits_at text ++ word_at (behind_digits text)
+digits_inside : (text : List ℕ) → list_all (λ b. not (ends_word b)) (digits_at text) ≡ true
 unfolding digits_at
-digits_then_word [] = refl
-digits_then_word (b ∷ bs) = by_cases (digit b)
-    (λ h. rw (h, digit_in_word b h) (ap (λ w. b ∷ w) (digits_then_word bs)))
-    (λ h. rw h refl)
+digits_inside [] = refl
+digits_inside (b ∷ bs) = by_cases (digit b) (λ h. rw (h, digit_in_word b h) (digits_inside bs)) (λ h. rw h refl)
+
+-- digits and signs stand in words
+abbrev digits_in_word : (text : List ℕ) → InWord text (behind_digits text)
+digits_in_word text = record {
+  front = digits_at text;
+  is = sym (take-append-drop (length (digits_at text)) text) ∙ ap (λ t. t ++ behind_digits text) (sym (digits_front text));
+  all = digits_inside text;
+}
+
+sign_in_word : (text : List ℕ) → InWord text (without_leading_sign text)
+sign_in_word [] = at_once _ []
+sign_in_word (b ∷ bs) = by_cases (eqb b 45)
+    (λ h. rw h (one_further _ b bs bs (grind (arith, nat_tests)) (at_once _ bs)))
+    (λ h. by_cases (eqb b 43)
+    (λ k. rw (h, k) (one_further _ b bs bs (grind (arith, nat_tests)) (at_once _ bs)))
+    (λ k. rw (h, k) (at_once _ (b ∷ bs))))
 
 -- where no word ends after the digits, what stands there is no digit
 stray : (text : List ℕ) → ends_here (behind_digits text) ≡ false → list_all digit (word_at (behind_digits text)) ≡ false
@@ -52,7 +65,6 @@ word_ends (b ∷ bs) h = rw h refl
 no_sign : (b : ℕ) → ends_word b ≡ true → (eqb b 45 ≡ false) × (eqb b 43 ≡ false)
 no_sign b h = (grind (arith, nat_tests), grind (arith, nat_tests))
 
--- signs stand in words
 sign_then_word : (text : List ℕ) → without_leading_sign (word_at text) ≡ word_at (without_leading_sign text)
 sign_then_word [] = refl
 sign_then_word (b ∷ bs) = by_cases (ends_word b)
@@ -118,7 +130,7 @@ pub number_of_word : (text : List ℕ) → number_of (word_at text) ≡ cond (en
 number_of_word text =
     let digits = without_leading_sign text in
     let behind = behind_number text in
-    let word : without_leading_sign (word_at text) ≡ digits_at digits ++ word_at behind = sign_then_word text ∙ digits_then_word digits in
+    let word : without_leading_sign (word_at text) ≡ digits_at digits ++ word_at behind = sign_then_word text ∙ (word_goes_on digits behind (digits_in_word digits)).0 in
     by_cases (ends_here behind)
     (λ h. let whole : without_leading_sign (word_at text) ≡ digits_at digits = word ∙ ap (λ w. digits_at digits ++ w) (word_ends behind h) ∙ append-nil (digits_at digits) in
     rw h (number_is (word_at text) (digits_at digits) whole (all_digits_at digits)
@@ -127,22 +139,9 @@ number_of_word text =
     (λ h. rw h (no_number (word_at text) (ap (list_all digit) word ∙ list_all-append digit (digits_at digits) (word_at behind)
     ∙ ap (λ v. v && list_all digit (word_at behind)) (all_digits_at digits) ∙ stray digits h)))
 
-past_digits : (text : List ℕ) → past_word text ≡ past_word (behind_digits text)
-unfolding digits_at
-past_digits [] = refl
-past_digits (b ∷ bs) = by_cases (digit b)
-    (λ h. rw (h, digit_in_word b h) (past_digits bs))
-    (λ h. rw h refl)
-
-past_sign : (text : List ℕ) → past_word text ≡ past_word (without_leading_sign text)
-past_sign [] = refl
-past_sign (b ∷ bs) = by_cases (ends_word b)
-    (λ h. let apart = no_sign b h in rw (apart.0, apart.1) refl)
-    (λ h. by_cases (eqb b 45) (λ k. rw (h, k) refl) (λ k. by_cases (eqb b 43) (λ m. rw (h, k, m) refl) (λ m. rw (k, m) refl)))
-
 -- the word of a number reaches past it
-pub past_number : (text : List ℕ) → past_word text ≡ past_word (behind_number text)
-past_number text = past_sign text ∙ past_digits (without_leading_sign text)
+pub number_in_word : (text : List ℕ) → InWord text (behind_number text)
+number_in_word text = let digits = without_leading_sign text in then_follows _ text digits (behind_number text) (sign_in_word text) (digits_in_word digits)
 
 pub past_end : (text : List ℕ) → ends_here text ≡ true → past_word text ≡ text
 past_end [] h = refl
@@ -155,14 +154,13 @@ signed_rest text n rest = by_cases (is_some_bytes (digits_at (without_leading_si
     (λ h. rw h (rest_of (signed_of (starts_with_minus text) (digits_value 10 (digits_at (without_leading_sign text)))) (behind_number text) n rest))
     (λ h. rw h (λ e. absurd (cc)))
 
--- a line feed is no number
-pub no_number_at_feed : (b : ℕ) (bs : List ℕ) → is_line_feed b ≡ true → signed_at (b ∷ bs) ≡ None
+-- where a number is read, a line doesn't end
+pub not_at_end : (text : List ℕ) (r : ℤ × List ℕ) → signed_at text ≡ Some r → after_end text ≡ None
 unfolding signed_at size_at digits_at
-no_number_at_feed b bs h = let ten : 10 ≡ b = sym (eqb-true b 10 h) in subst (λ c. signed_at (c ∷ bs) ≡ None) ten refl
-
-pub no_number_at_end : signed_at [] ≡ None
-unfolding signed_at size_at digits_at
-no_number_at_end = refl
+not_at_end [] r = λ e. absurd (cc)
+not_at_end (b ∷ bs) r = by_cases (is_line_feed b)
+    (λ h. let ten : b ≡ 10 = eqb-true b 10 h in rw ten (λ e. absurd (cc)))
+    (λ h. rw h (λ e. refl))
 
 -- ---- a number, as the function reads it
 
