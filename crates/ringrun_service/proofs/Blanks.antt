@@ -1,10 +1,10 @@
 -- The blanks at the front, as a search for the first other byte passes over them.
-use Rattle.std.proofs.Common.{◌≡◌, ℕ, suc, ◌+◌, ◌-◌, ◌<◌, ◌≤◌, false, cond, not, List, [], ◌∷◌, length, take, drop, get_or, subst, Option, Some, None, ltb, refl, sym, ap, ◌∙◌, arith, unwrap_or}
+use Rattle.std.proofs.Common.{◌≡◌, ℕ, suc, ◌+◌, ◌-◌, ◌<◌, ◌≤◌, true, false, cond, not, List, [], ◌∷◌, length, length-drop, take, drop, get_or, subst, Option, Some, None, ltb, refl, sym, ap, ◌∙◌, arith, unwrap_or}
 use Rattle.std.proofs.lemmas.Bool.Decides.{nat_tests}
 use Rattle.std.proofs.lemmas.List.{take_rest}
 use Rattle.std.specs.List.{position_or_len}
 use Rattle.decimal.proofs.Cases.{by_cases}
-use Rattle.ringrun_service.specs.Parsing.{after_blanks, after_end}
+use Rattle.ringrun_service.specs.Parsing.{after_blanks, after_end, starts_blank}
 use Rattle.ringrun_service.specs.Script.{is_blank}
 
 abbrev pub first_other : List ℕ → ℕ
@@ -21,6 +21,11 @@ blanks_passed (b ∷ bs) = by_cases (is_blank b) (λ h. rw h (rw (drop-one_more 
 bounded : (text : List ℕ) → first_other text ≤ length text
 bounded [] = omega arith
 bounded (b ∷ bs) = by_cases (is_blank b) (λ h. rw h (omega (arith, bounded bs))) (λ h. rw h (omega arith))
+
+pub blank_shorter : (text : List ℕ) → starts_blank text ≡ true → length (after_blanks text) < length text
+unfolding after_blanks
+blank_shorter [] h = absurd (cc)
+blank_shorter (b ∷ bs) h = rw h (omega (arith, ap length (blanks_passed bs), length-drop (first_other bs) bs))
 
 pub after_position : (text : List ℕ) (at : Option ℕ) (end : ℕ) → at ≡ cond (ltb (first_other text) (length text)) (Some (first_other text)) None → end ≡ unwrap_or at (length text)
     → take (length text - end) (drop end text) ≡ after_blanks text

@@ -9,8 +9,8 @@ use Rattle.std.specs.Option.{option_and_then, option_map}
 use Rattle.ringbuffer.specs.declared.Command.{Command}
 use Rattle.ringbuffer.specs.declared.Command.TheVariants.{Push, Extend, Dequeue, Skip, Clear}
 use Rattle.decimal.proofs.Cases.{by_cases, some_is}
-use Rattle.ringrun_service.proofs.Lines.{ends_word, past_word, word_at, word_goes_on, words_at, words_behind_blanks, words_from_word}
-use Rattle.ringrun_service.proofs.Numbers.{behind_number, ends_here, not_at_end, number_in_word, number_of_word, past_end, signed_rest, word_ends}
+use Rattle.ringrun_service.proofs.Lines.{ends_word, past_word, word_at, word_goes_on, words_at, word_first, words_behind_blank, words_behind_blanks}
+use Rattle.ringrun_service.proofs.Numbers.{behind_number, ends_here, not_at_end, number_in_word, number_of_word, none_passed, no_word, read_here, signed_rest}
 use Rattle.decimal.specs.Numerals.{signed_at}
 use Rattle.ringrun_service.specs.Parsing.{after_blanks, after_end, after_name, number_at, starts_blank, CommandAt, HasNoCommand, NumbersAt}
 use Rattle.ringrun_service.specs.Script.{command_named, commands_of, is_blank, is_line_feed, number_of, numbers_of, plain, words_of}
@@ -21,27 +21,12 @@ says text = commands_of (words_at text)
 
 -- ---- the end of a line
 
-no_words : (text rest : List ℕ) → after_end text ≡ Some rest → words_at text ≡ []
-unfolding words_of
-no_words [] rest e = refl
-no_words (b ∷ bs) rest e = by_cases (is_line_feed b) (λ h. rw h refl) (λ h. let none : None ≡ Some rest = rw h at e in absurd (cc))
-
-pub no_words_left : (text rest : List ℕ) → after_end (after_blanks text) ≡ Some rest → words_at text ≡ []
-no_words_left text rest e = sym (words_behind_blanks text) ∙ no_words (after_blanks text) rest e
-
-pub ends_at_end : (text rest : List ℕ) → after_end (after_blanks text) ≡ Some rest → ends_here text ≡ true
-unfolding after_blanks
-ends_at_end [] rest e = refl
-ends_at_end (b ∷ bs) rest e = by_cases (is_blank b)
-    (λ h. rw h refl)
-    (λ h. by_cases (is_line_feed b) (λ k. rw (h, k) refl) (λ k. let none : None ≡ Some rest = rw (h, k) at e in absurd (cc)))
-
--- a text that doesn't begin with a blank, and has a word before its first line ends, begins with it
-word_first : (text : List ℕ) → starts_blank text ≡ false → after_end text ≡ None → words_at text ≡ word_at text ∷ words_at (past_word text)
-word_first [] s e = absurd (cc)
-word_first (b ∷ bs) s e = by_cases (is_line_feed b)
-    (λ h. let none : Some bs ≡ None = rw h at e in absurd (cc))
-    (λ h. words_from_word b bs (rw (s, h) refl))
+pub line_ended : (text rest : List ℕ) → after_end (after_blanks text) ≡ Some rest → (words_at text ≡ []) × (ends_here text ≡ true)
+unfolding after_blanks words_of
+line_ended [] rest = λ e. (refl, refl)
+line_ended (b ∷ bs) rest = by_cases (is_blank b)
+    (λ h. rw h (λ e. (words_behind_blank b bs h ∙ (line_ended bs rest e).0, refl)))
+    (λ h. rw h (by_cases (is_line_feed b) (λ k. rw k (λ e. (refl, refl))) (λ k. rw k (λ e. absurd (cc)))))
 
 pub no_blank_left : (text : List ℕ) → starts_blank (after_blanks text) ≡ false
 unfolding after_blanks
@@ -49,9 +34,7 @@ no_blank_left [] = refl
 no_blank_left (b ∷ bs) = by_cases (is_blank b) (λ h. rw h (no_blank_left bs)) (λ h. rw h h)
 
 pub after_blanks_twice : (text : List ℕ) → after_blanks (after_blanks text) ≡ after_blanks text
-unfolding after_blanks
-after_blanks_twice [] = refl
-after_blanks_twice (b ∷ bs) = by_cases (is_blank b) (λ h. rw h (after_blanks_twice bs)) (λ h. rw h (rw h refl))
+after_blanks_twice text = none_passed (after_blanks text) (no_blank_left text)
 
 -- after a word that has ended and before another stands a blank
 blank_before_word : (text : List ℕ) → after_end (after_blanks text) ≡ None → ends_here text ≡ true → starts_blank text ≡ true
@@ -67,11 +50,6 @@ blank_ends (b ∷ bs) h = rw h refl
 
 -- ---- numbers
 
-pub read_here : (text : List ℕ) (r : ℤ × List ℕ) → number_at text ≡ Some r → (starts_blank text ≡ true) × (signed_at (after_blanks text) ≡ Some r)
-unfolding number_at
-read_here text r = elim (starts_blank text) as (λ v. cond v (signed_at (after_blanks text)) None ≡ Some r → (v ≡ true) × (signed_at (after_blanks text) ≡ Some r))
-    [ true ↦ λ e. (refl, e) | false ↦ λ e. absurd (cc) ]
-
 -- the words that a number begins, as numbers
 abbrev numbers_after : Option (ℤ × List ℕ) → Option (List ℤ)
 numbers_after None = None
@@ -83,7 +61,7 @@ first_number text None e = rw (number_of_word text, e) (by_cases (ends_here (beh
 first_number text (Some (n, rest)) e =
     let behind : behind_number text ≡ rest = sym (signed_rest text n rest e) in
     rw (number_of_word text, e, behind) (by_cases (ends_here rest)
-    (λ h. let past : past_word text ≡ rest = (word_goes_on text (behind_number text) (number_in_word text)).1 ∙ ap past_word behind ∙ past_end rest h in rw (h, past) refl)
+    (λ h. let past : past_word text ≡ rest = (word_goes_on text (behind_number text) (number_in_word text)).1 ∙ ap past_word behind ∙ (no_word rest h).1 in rw (h, past) refl)
     (λ h. rw h refl))
 
 -- where a word comes, the words are the numbers that follow
@@ -107,7 +85,7 @@ all_read (n ∷ numbers) text rest (mid, read, more) = let behind = all_read num
 all_numbers : (numbers : List ℤ) (text rest after : List ℕ) → Read text numbers rest → after_end (after_blanks rest) ≡ Some after → (numbers_of (words_at text) ≡ Some numbers) × (ends_here text ≡ true)
 all_numbers [] text rest after same e =
     let here : after_end (after_blanks text) ≡ Some after = ap (λ t. after_end (after_blanks t)) (sym same) ∙ e in
-    (ap numbers_of (no_words_left text after here), ends_at_end text after here)
+    let end = line_ended text after here in (ap numbers_of end.0, end.1)
 all_numbers (n ∷ numbers) text rest after (mid, read, more) e =
     let behind = all_numbers numbers mid rest after more e in let here = read_here text (n, mid) read in
     (next_numbers text here.0 (not_at_end (after_blanks text) (n, mid) here.1) ∙ rw (read, behind.1, behind.0) refl, blank_ends text here.0)
@@ -180,7 +158,7 @@ named_line : (command : Command ℤ) (text args : List ℕ) → after_name (name
 named_line command text args e =
     let words = (is_name command).words args in
     ap says (named (name_of command) text args e) ∙ by_cases (ends_here args)
-    (λ h. rw h (ap commands_of (rw (word_ends args h, past_end args h, append-nil (name_of command)) at words)))
+    (λ h. rw h (ap commands_of (let none = no_word args h in rw (none.0, none.1, append-nil (name_of command)) at words)))
     (λ h. rw h (ap commands_of words ∙ ap (option_map (λ command. command ∷ [])) (none_from (command_named (name_of command ++ word_at args)) (numbers_of (words_at (past_word args))) (broken_name command args h))))
 
 -- ---- what a line says
@@ -237,7 +215,7 @@ not_word name text e = by_cases (bytes_eq (word_at text) name)
 no_push : (args : List ℕ) → number_at args ≡ None → ends_here args ≡ true → option_and_then (command_named (codes "push")) (numbers_of (words_at args)) ≡ None
 unfolding command_named
 no_push args none h = elim (after_end (after_blanks args)) as (λ o. after_end (after_blanks args) ≡ o → option_and_then (command_named (codes "push")) (numbers_of (words_at args)) ≡ None)
-    [ Some after ↦ λ e. rw (no_words_left args after e) refl | None ↦ λ e. some_other (command_named (codes "push")) [] args args refl e h (inl none) ] refl
+    [ Some after ↦ λ e. rw (line_ended args after e).0 refl | None ↦ λ e. some_other (command_named (codes "push")) [] args args refl e h (inl none) ] refl
 
 -- where no command comes first
 pub unsaid_unnamed : (text : List ℕ) → HasNoCommand text → starts_blank text ≡ false → after_end text ≡ None → says text ≡ None

@@ -1,11 +1,11 @@
 -- A line that is an extension, whose numbers are read apart.
 use Rattle.std.proofs.Common.{◌≡◌, ℕ, ℤ, ◌^◌, ◌-◌, ◌≤◌, List, [], ◌∷◌, ◌++◌, Bor, Option, Some, None, Err, length, ap, subst, sym, ◌∙◌, append_assoc}
-use Rattle.std.proofs.lemmas.List.{take_all}
 use Rattle.ringbuffer.specs.Contents.{keep_last}
 use Rattle.ringbuffer.specs.Meaning.{after_one}
 use Rattle.ringbuffer.specs.declared.Command.{Command}
 use Rattle.ringbuffer.specs.declared.Command.TheVariants.{Extend}
 use Rattle.ringrun_service.proofs.LinesLeft.{command_bad, command_read, left}
+use Rattle.ringrun_service.proofs.Runs.{in_full}
 use Rattle.ringrun_service.specs.declared.script.Line.TheVariants.{Extension}
 use Rattle.ringrun_service.specs.declared.script.Script.{Script}
 use Rattle.ringrun_service.specs.Line.{IsLine}
@@ -16,10 +16,6 @@ use Rattle.ringrun_service.specs.Script.{plain, vector_of, with_front}
 -- the extension by a vector of these numbers
 abbrev pub by_numbers : List ℤ → Command ℤ
 by_numbers numbers = Extend (vector_of numbers)
-
-in_full : (numbers : List ℤ) → length numbers ≤ 2 ^ 63 - 1 → (vector_of numbers).items ≡ numbers
-unfolding vector_of
-in_full numbers few = take_all (2 ^ 63 - 1) numbers few
 
 -- the line ends after the numbers
 pub extension_ended : (old now new : Script) (names : Bor (List ℕ)) (behind : List ℕ) (numbers : List ℤ) → IsRest old → IsLine (Extension names) old now

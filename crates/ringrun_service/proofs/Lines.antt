@@ -1,6 +1,6 @@
 -- The lines and words of a text, from its front.
-use Rattle.std.proofs.Common.{◌≡◌, ℕ, ◌||◌, ◌++◌, not, Bool, true, false, cond, List, [], ◌∷◌, refl, sym, ap, ◌∙◌, append_assoc, arith}
-use Rattle.std.proofs.lemmas.Bool.{and_from, and_parts, not-true, or_parts}
+use Rattle.std.proofs.Common.{◌≡◌, ℕ, ◌||◌, ◌++◌, not, Some, None, Bool, true, false, cond, List, [], ◌∷◌, refl, sym, ap, ◌∙◌, append_assoc, arith}
+use Rattle.std.proofs.lemmas.Bool.{and_from, and_parts, not-true}
 use Rattle.std.proofs.lemmas.Bool.Decides.{nat_tests}
 use Rattle.std.proofs.lemmas.List.Elements.{All-weaker}
 use Rattle.std.proofs.lemmas.List.Folds.{list_all-append}
@@ -8,7 +8,7 @@ use Rattle.std.proofs.lemmas.List.Sums.{AllPass-from_list_all, list_all-from_All
 use Rattle.std.specs.List.{filter, list_all, onto_first, slice_split}
 use Rattle.decimal.proofs.Cases.{by_cases}
 use Rattle.decimal.specs.Numerals.{is_some_bytes}
-use Rattle.ringrun_service.specs.Parsing.{after_blanks}
+use Rattle.ringrun_service.specs.Parsing.{after_blanks, after_end, starts_blank}
 use Rattle.ringrun_service.specs.Script.{is_blank, is_line_feed, lines_of, words_of}
 
 module _ (ends : ℕ → Bool) where
@@ -76,12 +76,14 @@ filter_next (b ∷ bs) = by_cases (is_line_feed b)
     (λ h. rw (no_blank b h, h) (rw h refl))
     (λ h. by_cases (is_blank b) (λ k. rw (h, k) (rw h (rw k refl))) (λ k. rw (h, k) (filter_next bs)))
 
-pub words_from_word : (b : ℕ) (bs : List ℕ) → ends_word b ≡ false → words_at (b ∷ bs) ≡ word_at (b ∷ bs) ∷ words_at (past_word (b ∷ bs))
+-- a text that doesn't begin with a blank, and has a word before its first line ends, begins with it
+pub word_first : (text : List ℕ) → starts_blank text ≡ false → after_end text ≡ None → words_at text ≡ word_at text ∷ words_at (past_word text)
 unfolding words_of
-words_from_word b bs h =
-    let apart = or_parts (is_blank b) (is_line_feed b) h in
-    rw (apart.1, apart.0, split_first is_blank (first_line bs))
-    (ap (λ w. (b ∷ w) ∷ filter is_some_bytes (next_parts is_blank (first_line bs))) (first_of_first bs) ∙ ap (λ ws. (b ∷ word_at bs) ∷ ws) (filter_next bs))
+word_first [] s e = absurd (cc)
+word_first (b ∷ bs) s e = by_cases (is_line_feed b)
+    (λ h. let none : Some bs ≡ None = rw h at e in absurd (cc))
+    (λ h. rw (h, s, split_first is_blank (first_line bs))
+    (ap (λ w. (b ∷ w) ∷ filter is_some_bytes (next_parts is_blank (first_line bs))) (first_of_first bs) ∙ ap (λ ws. (b ∷ word_at bs) ∷ ws) (filter_next bs)))
 
 pub words_behind_blanks : (bs : List ℕ) → words_at (after_blanks bs) ≡ words_at bs
 unfolding after_blanks

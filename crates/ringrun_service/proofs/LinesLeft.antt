@@ -4,10 +4,10 @@ use Rattle.std.proofs.Math.Seq.{take-append_seam}
 use Rattle.std.proofs.lemmas.List.Sums.{sum_by-append}
 use Rattle.std.specs.List.{count_by, list_all}
 use Rattle.ringbuffer.specs.declared.Command.{Command}
-use Rattle.ringrun_service.proofs.Commands.{after_blanks_twice, called, is_name, name_of, named, no_blank_left, no_words_left, read_here, said, says, unsaid, unsaid_unnamed, Read}
+use Rattle.ringrun_service.proofs.Commands.{after_blanks_twice, called, is_name, line_ended, name_of, named, no_blank_left, said, says, unsaid, unsaid_unnamed, Read}
 use Rattle.decimal.proofs.Cases.{by_cases, some_is}
 use Rattle.ringrun_service.proofs.Lines.{at_once, line_of_word, lines_first, next_lines, no_feed, one_further, then_follows, words_behind_blanks, InLine}
-use Rattle.ringrun_service.proofs.Numbers.{behind_number, number_in_word, signed_rest}
+use Rattle.ringrun_service.proofs.Numbers.{behind_number, number_in_word, read_here, signed_rest}
 use Rattle.ringrun_service.specs.Parsing.{after_blanks, after_end, number_at, CommandAt, HasNoCommand}
 use Rattle.ringrun_service.specs.Script.{commands_of, is_blank, is_line_feed, lines_of, plain, script_from, with_front, with_line, words_of}
 
@@ -114,7 +114,7 @@ command_read text front rest command behind after is at e =
 pub blank_read : (text front rest after : List ℕ) → text ≡ front ++ rest → after_end (after_blanks (after_blanks rest)) ≡ Some after → LineRead text rest after []
 blank_read text front rest after is e =
     let end : after_end (after_blanks rest) ≡ Some after = ap after_end (sym (after_blanks_twice rest)) ∙ e in
-    line_read text front rest (after_blanks rest) after [] is (blanks_end rest) end (ap commands_of (no_words_left rest after end))
+    line_read text front rest (after_blanks rest) after [] is (blanks_end rest) end (ap commands_of (line_ended rest after end).0)
 
 -- a command, and more than the line's end
 pub command_bad : (text rest : List ℕ) (command : Command ℤ) (behind : List ℕ) → CommandAt (after_blanks rest) command behind → after_end (after_blanks behind) ≡ None → left text rest ≡ Err (number_in text rest)

@@ -1,21 +1,21 @@
 -- A number at the front of a text, and the word that it stands in.
-use Rattle.std.proofs.Common.{◌≡◌, ℕ, zero, suc, ◌^◌, ◌≤◌, ◌&&◌, not, Bool, true, false, cond, List, [], ◌∷◌, ◌++◌, length, length-drop, take, drop, get_or, ◌-◌, ◌≢◌, Option, Some, None, ℤ, append-nil, ltb, eqb, refl, sym, ap, ◌∙◌, w64, arith}
-use Rattle.std.proofs.lemmas.Bool.{eqb-true}
+use Rattle.std.proofs.Common.{◌≡◌, ℕ, ◌^◌, ◌≤◌, ◌&&◌, not, Bool, true, false, cond, List, [], ◌∷◌, ◌++◌, length, length-drop, take, drop, get_or, ◌-◌, ◌≢◌, Option, Some, None, ℤ, append-nil, ltb, eqb, refl, sym, ap, ◌∙◌, w64, arith}
+use Rattle.std.proofs.lemmas.Bool.{and_right, eqb-true}
 use Rattle.std.proofs.lemmas.Bool.Decides.{nat_tests}
 use Rattle.std.specs.List.{list_all}
 use Rattle.std.specs.Option.{option_map}
-use Rattle.std.specs.Str.Parse.{digits_value, signed_digits_value, starts_with_minus, without_leading_sign}
+use Rattle.std.specs.Str.Parse.{digits_value, starts_with_minus, without_leading_sign}
 use Rattle.decimal.proofs.Digits.{all_digits_at, digit, digits_front}
-use Rattle.decimal.proofs.SignedNumbers.{signed_fits}
-use Rattle.decimal.proofs.Cases.{by_cases}
+use Rattle.decimal.proofs.SignedNumbers.{signed_fits, too_large as above_i64}
+use Rattle.decimal.proofs.Cases.{by_cases, some_is}
 use Rattle.std.proofs.lemmas.List.{take-append-drop, take_rest}
-use Rattle.ringrun_service.proofs.Blanks.{space_at_once}
+use Rattle.ringrun_service.proofs.Blanks.{blank_shorter, space_at_once}
 use Rattle.ringrun_service.proofs.Lines.{at_once, ends_word, one_further, past_word, then_follows, word_at, word_goes_on, InWord}
 use mir.Val.{SFits}
 use Rattle.std.proofs.lemmas.List.Folds.{list_all-append}
-use Rattle.decimal.specs.Numerals.{digits_at, signed_at, signed_of, size_at, is_i64, is_some_bytes}
+use Rattle.decimal.specs.Numerals.{digits_at, signed_at, signed_of, size_at, is_some_bytes}
 use Rattle.ringrun_service.specs.Parsing.{after_blanks, after_end, number_at, starts_blank}
-use Rattle.ringrun_service.specs.Script.{is_blank, is_line_feed, number_of}
+use Rattle.ringrun_service.specs.Script.{is_line_feed, is_numeral, number_of}
 
 -- a word may end here
 abbrev pub ends_here : List ℕ → Bool
@@ -58,9 +58,9 @@ stray (b ∷ bs) = by_cases (digit b)
     (λ k. rw k (stray bs))
     (λ k. rw k (λ h. rw (h, k) refl))
 
-pub word_ends : (text : List ℕ) → ends_here text ≡ true → word_at text ≡ []
-word_ends [] h = refl
-word_ends (b ∷ bs) h = rw h refl
+pub no_word : (text : List ℕ) → ends_here text ≡ true → (word_at text ≡ []) × (past_word text ≡ text)
+no_word [] h = (refl, refl)
+no_word (b ∷ bs) h = rw h (refl, refl)
 
 no_sign : (b : ℕ) → ends_word b ≡ true → (eqb b 45 ≡ false) × (eqb b 43 ≡ false)
 no_sign b h = (grind (arith, nat_tests), grind (arith, nat_tests))
@@ -75,22 +75,18 @@ minus_then_word : (text : List ℕ) → starts_with_minus (word_at text) ≡ sta
 minus_then_word [] = refl
 minus_then_word (b ∷ bs) = by_cases (ends_word b) (λ h. rw (h, (no_sign b h).0) refl) (λ h. rw h refl)
 
-too_large : (is_negative : Bool) (n : ℕ) → ltb n (10 ^ 19) ≡ false → signed_of is_negative n ≡ None
-unfolding signed_of
-too_large false n h = let over : ltb n (2 ^ 63) ≡ false = grind (arith, nat_tests) in rw over refl
-too_large true zero h = absurd (cc)
-too_large true (suc n) h = let over : ltb n (2 ^ 63) ≡ false = grind (arith, nat_tests) in rw over refl
+too_large : (is_negative : Bool) (n : ℕ) → ltb n (10 ^ 19) ≡ false → None ≡ signed_of is_negative n
+too_large false n h = above_i64 false n (grind (arith, nat_tests))
+too_large true n h = above_i64 true n (grind (arith, nat_tests))
 
 number_is : (word digits : List ℕ) → without_leading_sign word ≡ digits → list_all digit digits ≡ true → number_of word ≡ cond (is_some_bytes digits) (signed_of (starts_with_minus word) (digits_value 10 digits)) None
 unfolding number_of signed_of
 number_is word [] e all = rw e refl
 number_is word (d ∷ ds) e all = rw (e, all) refl
 
-pub no_number : (word : List ℕ) → list_all digit (without_leading_sign word) ≡ false → number_of word ≡ None
+no_number : (word : List ℕ) → list_all digit (without_leading_sign word) ≡ false → number_of word ≡ None
 unfolding number_of
-no_number word h = rw h (elim (is_some_bytes (without_leading_sign word))
-    as (λ v. cond ((v && false) && is_i64 (signed_digits_value 10 word)) (Some (signed_digits_value 10 word)) None ≡ None)
-    [ true ↦ refl | false ↦ refl ])
+no_number word h = let none : is_numeral word ≡ false = and_right _ _ h in rw none refl
 
 -- what follows the sign and the digits at the front
 abbrev pub behind_number : List ℕ → List ℕ
@@ -107,13 +103,9 @@ same_first : (number : Option ℤ) (rest : List ℕ) → number_part (with_rest 
 same_first None rest = refl
 same_first (Some n) rest = refl
 
-abbrev rest_part : Option (ℤ × List ℕ) → List ℕ
-rest_part None = []
-rest_part (Some r) = r.1
-
 rest_of : (number : Option ℤ) (behind : List ℕ) (n : ℤ) (rest : List ℕ) → with_rest behind number ≡ Some (n, rest) → rest ≡ behind
 rest_of None behind n rest e = absurd (cc)
-rest_of (Some m) behind n rest e = sym (ap rest_part e)
+rest_of (Some m) behind n rest e = sym (ap (λ r. r.1) (some_is (m, behind) (n, rest) e))
 
 signed_is : (text : List ℕ) → number_part (signed_at text) ≡ cond (is_some_bytes (digits_at (without_leading_sign text))) (signed_of (starts_with_minus text) (digits_value 10 (digits_at (without_leading_sign text)))) None
 unfolding signed_at size_at
@@ -122,7 +114,7 @@ signed_is text =
     by_cases (is_some_bytes digits)
     (λ some. by_cases (ltb size (10 ^ 19))
     (λ small. rw (some, small) (same_first (signed_of (starts_with_minus text) size) (behind_number text)))
-    (λ large. rw (some, large) (sym (too_large (starts_with_minus text) size large))))
+    (λ large. rw (some, large) (too_large (starts_with_minus text) size large)))
     (λ none. rw none refl)
 
 -- the word that begins a text writes the number at the front, if it ends with it, and else none
@@ -132,7 +124,7 @@ number_of_word text =
     let behind = behind_number text in
     let word : without_leading_sign (word_at text) ≡ digits_at digits ++ word_at behind = sign_then_word text ∙ (word_goes_on digits behind (digits_in_word digits)).0 in
     by_cases (ends_here behind)
-    (λ h. let whole : without_leading_sign (word_at text) ≡ digits_at digits = word ∙ ap (λ w. digits_at digits ++ w) (word_ends behind h) ∙ append-nil (digits_at digits) in
+    (λ h. let whole : without_leading_sign (word_at text) ≡ digits_at digits = word ∙ ap (λ w. digits_at digits ++ w) (no_word behind h).0 ∙ append-nil (digits_at digits) in
     rw h (number_is (word_at text) (digits_at digits) whole (all_digits_at digits)
     ∙ ap (λ m. cond (is_some_bytes (digits_at digits)) (signed_of m (digits_value 10 (digits_at digits))) None) (minus_then_word text)
     ∙ sym (signed_is text)))
@@ -142,10 +134,6 @@ number_of_word text =
 -- the word of a number reaches past it
 pub number_in_word : (text : List ℕ) → InWord text (behind_number text)
 number_in_word text = let digits = without_leading_sign text in then_follows _ text digits (behind_number text) (sign_in_word text) (digits_in_word digits)
-
-pub past_end : (text : List ℕ) → ends_here text ≡ true → past_word text ≡ text
-past_end [] h = refl
-past_end (b ∷ bs) h = rw h refl
 
 -- what is read after a number
 pub signed_rest : (text : List ℕ) (n : ℤ) (rest : List ℕ) → signed_at text ≡ Some (n, rest) → rest ≡ behind_number text
@@ -164,44 +152,30 @@ not_at_end (b ∷ bs) r = by_cases (is_line_feed b)
 
 -- ---- a number, as the function reads it
 
-blanks_shorter : (text : List ℕ) → length (after_blanks text) ≤ length text
-unfolding after_blanks
-blanks_shorter [] = omega arith
-blanks_shorter (b ∷ bs) = by_cases (is_blank b) (λ h. rw h (omega (arith, blanks_shorter bs))) (λ h. rw h (omega arith))
-
-blank_shorter : (text : List ℕ) → starts_blank text ≡ true → length (after_blanks text) ≢ length text
-unfolding after_blanks
-blank_shorter [] h = absurd (cc)
-blank_shorter (b ∷ bs) h = rw h (λ e. omega (arith, blanks_shorter bs, e))
-
-none_passed : (text : List ℕ) → starts_blank text ≡ false → after_blanks text ≡ text
+pub none_passed : (text : List ℕ) → starts_blank text ≡ false → after_blanks text ≡ text
 unfolding after_blanks
 none_passed [] h = refl
 none_passed (b ∷ bs) h = rw h refl
 
-pub unread_word : (text word : List ℕ) → word ≡ after_blanks text → length word ≡ length text → number_at text ≡ None
+-- the number is the one that begins what follows the blanks, if there are any
+pub read_word : (text word : List ℕ) → word ≡ after_blanks text → (length word ≡ length text → number_at text ≡ None) × (length word ≢ length text → number_at text ≡ signed_at word)
 unfolding number_at
-unread_word text word e same = by_cases (starts_blank text)
-    (λ h. absurd (blank_shorter text h (ap length (sym e) ∙ same)))
-    (λ h. rw h refl)
-
--- the number is the one that what follows the blanks begins with
-pub read_word : (text word : List ℕ) → word ≡ after_blanks text → length word ≢ length text → number_at text ≡ signed_at word
-unfolding number_at
-read_word text word e apart = by_cases (starts_blank text)
-    (λ h. rw h (ap signed_at (sym e)))
-    (λ h. absurd (apart (ap length (e ∙ none_passed text h))))
+read_word text word e = by_cases (starts_blank text)
+    (λ h. rw h ((λ same. absurd (omega (arith, same, ap length e, blank_shorter text h))), λ apart. ap signed_at (sym e)))
+    (λ h. rw h ((λ same. refl), λ apart. absurd (apart (ap length (e ∙ none_passed text h)))))
 
 -- after one space, where no other blank follows it
 pub word_behind_space : (text : List ℕ) → 1 ≤ length text → get_or text 0 0 ≡ 32 → after_blanks (take (length text - 1) (drop 1 text)) ≡ take (length text - 1) (drop 1 text)
     → number_at text ≡ signed_at (take (length text - 1) (drop 1 text))
 word_behind_space text h e stays =
     let long = ap length (take_rest text 1) ∙ length-drop 1 text in
-    read_word text (take (length text - 1) (drop 1 text)) (sym stays ∙ space_at_once text h e) (λ same. absurd (omega (arith, h, long, same)))
+    (read_word text (take (length text - 1) (drop 1 text)) (sym stays ∙ space_at_once text h e)).1 (λ same. absurd (omega (arith, h, long, same)))
+
+pub read_here : (text : List ℕ) (r : ℤ × List ℕ) → number_at text ≡ Some r → (starts_blank text ≡ true) × (signed_at (after_blanks text) ≡ Some r)
+unfolding number_at
+read_here text r = elim (starts_blank text) as (λ v. cond v (signed_at (after_blanks text)) None ≡ Some r → (v ≡ true) × (signed_at (after_blanks text) ≡ Some r))
+    [ true ↦ λ e. (refl, e) | false ↦ λ e. absurd (cc) ]
 
 -- a number that is read is in range
 pub number_fits : (text : List ℕ) (n : ℤ) (after : List ℕ) → number_at text ≡ Some (n, after) → SFits w64 n
-unfolding number_at
-number_fits text n after = by_cases (starts_blank text)
-    (λ h. rw h (signed_fits (after_blanks text) n after))
-    (λ h. rw h (λ e. absurd (cc)))
+number_fits text n after e = signed_fits (after_blanks text) n after (read_here text (n, after) e).1

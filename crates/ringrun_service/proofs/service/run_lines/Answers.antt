@@ -1,7 +1,7 @@
 -- Runs join, and what came before a line that failed comes before the lines that are left.
 use Rattle.std.proofs.Common.{◌≡◌, ◌++◌, ap, ◌∙◌, append-nil, length, rules, Ok}
 use Rattle.ringrun_service.proofs.LinesLeft.{left_empty, step_passed}
-use Rattle.ringrun_service.proofs.Runs.{line_contents, line_replies, printed}
+use Rattle.ringrun_service.proofs.Runs.{line_run, printed}
 use Rattle.ringrun_service.specs.Rest.{script_left}
 use Rattle.ringrun_service.specs.Script.{with_front}
 use Rattle.ringrun_service.proofs.service.run_lines.Goals as goal
@@ -16,15 +16,11 @@ loop-ring-preserved g c =
     let run = c.loop-ring.invariant.run in let same = c.loop-ring.invariant.same_limit in
     let line = c.in_ok-run_line.ensures.run in let join = c.runs_join.ensures.in_turn in
     let limit = g.R.RingBuffer.limit c.args.ring.now in let start = g.R.RingBuffer.contents c.args.ring.now in let now = g.R.RingBuffer.contents c.loop-ring.ring in
+    let ran = line_run join limit _ start now _ run.0 line.0 _ _ same run.3 run.2 line.2 line.3 in
     record {
       rest = c.in_ok-run_line.ensures.rest;
       same_limit = c.in_ok-run_line.ensures.limit ∙ same;
-      run = (
-        run.0 ++ line.0,
-        step_passed _ run.0 _ line.0 _ run.1 line.1,
-        line_replies join limit _ start now run.0 line.0 _ _ same run.3 run.2 line.2,
-        line_contents join limit _ start now _ run.0 line.0 same run.3 line.3,
-      );
+      run = (run.0 ++ line.0, step_passed _ run.0 _ line.0 _ run.1 line.1, ran.0, ran.1);
     }
 
 pub returns-clause-text : goal.returns-clause-text
