@@ -6,7 +6,7 @@ use Rattle.std.specs.List.{list_all}
 use Rattle.std.specs.Option.{option_map}
 use Rattle.std.specs.Str.Parse.{digits_value, starts_with_minus, without_leading_sign}
 use Rattle.decimal.proofs.Digits.{all_digits_at, digit, digits_front}
-use Rattle.decimal.proofs.SignedNumbers.{signed_fits, too_large as above_i64}
+use Rattle.decimal.proofs.SignedNumbers.{before, signed_fits, too_large as above_i64}
 use Rattle.decimal.proofs.Cases.{by_cases, some_is}
 use Rattle.std.proofs.lemmas.List.{take-append-drop, take_rest}
 use Rattle.ringrun_service.proofs.Blanks.{blank_shorter, space_at_once}
@@ -96,25 +96,24 @@ behind_number text = behind_digits (without_leading_sign text)
 abbrev pub number_part : Option (ℤ × List ℕ) → Option ℤ
 number_part read = option_map (λ (r : ℤ × List ℕ). r.0) read
 
-abbrev with_rest : List ℕ → Option ℤ → Option (ℤ × List ℕ)
-with_rest rest number = option_map (λ (n : ℤ). (n, rest)) number
-
-same_first : (number : Option ℤ) (rest : List ℕ) → number_part (with_rest rest number) ≡ number
+same_first : (number : Option ℤ) (rest : List ℕ) → number_part (before rest number) ≡ number
 same_first None rest = refl
 same_first (Some n) rest = refl
 
-rest_of : (number : Option ℤ) (behind : List ℕ) (n : ℤ) (rest : List ℕ) → with_rest behind number ≡ Some (n, rest) → rest ≡ behind
+rest_of : (number : Option ℤ) (behind : List ℕ) (n : ℤ) (rest : List ℕ) → before behind number ≡ Some (n, rest) → rest ≡ behind
 rest_of None behind n rest e = absurd (cc)
 rest_of (Some m) behind n rest e = sym (ap (λ r. r.1) (some_is (m, behind) (n, rest) e))
 
-signed_is : (text : List ℕ) → number_part (signed_at text) ≡ cond (is_some_bytes (digits_at (without_leading_sign text))) (signed_of (starts_with_minus text) (digits_value 10 (digits_at (without_leading_sign text)))) None
+-- the number of the digits after the sign, if it is in range, before what follows them
+signed_is : (text : List ℕ) → let digits = digits_at (without_leading_sign text) in
+    signed_at text ≡ before (behind_number text) (cond (is_some_bytes digits) (signed_of (starts_with_minus text) (digits_value 10 digits)) None)
 unfolding signed_at size_at
 signed_is text =
     let digits = digits_at (without_leading_sign text) in let size = digits_value 10 digits in
     by_cases (is_some_bytes digits)
     (λ some. by_cases (ltb size (10 ^ 19))
-    (λ small. rw (some, small) (same_first (signed_of (starts_with_minus text) size) (behind_number text)))
-    (λ large. rw (some, large) (too_large (starts_with_minus text) size large)))
+    (λ small. rw (some, small) refl)
+    (λ large. rw (some, large) (ap (before (behind_number text)) (too_large (starts_with_minus text) size large))))
     (λ none. rw none refl)
 
 -- the word that begins a text writes the number at the front, if it ends with it, and else none
@@ -127,7 +126,7 @@ number_of_word text =
     (λ h. let whole : without_leading_sign (word_at text) ≡ digits_at digits = word ∙ ap (λ w. digits_at digits ++ w) (no_word behind h).0 ∙ append-nil (digits_at digits) in
     rw h (number_is (word_at text) (digits_at digits) whole (all_digits_at digits)
     ∙ ap (λ m. cond (is_some_bytes (digits_at digits)) (signed_of m (digits_value 10 (digits_at digits))) None) (minus_then_word text)
-    ∙ sym (signed_is text)))
+    ∙ sym (ap number_part (signed_is text) ∙ same_first _ (behind_number text))))
     (λ h. rw h (no_number (word_at text) (ap (list_all digit) word ∙ list_all-append digit (digits_at digits) (word_at behind)
     ∙ ap (λ v. v && list_all digit (word_at behind)) (all_digits_at digits) ∙ stray digits h)))
 
@@ -137,10 +136,7 @@ number_in_word text = let digits = without_leading_sign text in then_follows _ t
 
 -- what is read after a number
 pub signed_rest : (text : List ℕ) (n : ℤ) (rest : List ℕ) → signed_at text ≡ Some (n, rest) → rest ≡ behind_number text
-unfolding signed_at size_at
-signed_rest text n rest = by_cases (is_some_bytes (digits_at (without_leading_sign text)) && ltb (digits_value 10 (digits_at (without_leading_sign text))) (10 ^ 19))
-    (λ h. rw h (rest_of (signed_of (starts_with_minus text) (digits_value 10 (digits_at (without_leading_sign text)))) (behind_number text) n rest))
-    (λ h. rw h (λ e. absurd (cc)))
+signed_rest text n rest e = rest_of _ (behind_number text) n rest (sym (signed_is text) ∙ e)
 
 -- where a number is read, a line doesn't end
 pub not_at_end : (text : List ℕ) (r : ℤ × List ℕ) → signed_at text ≡ Some r → after_end text ≡ None
