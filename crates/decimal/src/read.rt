@@ -5,7 +5,7 @@ ghost use Rattle.std.specs.List.{list_all};
 ghost use Rattle.std.specs.Str.Parse.{AllDigits, digits_value};
 ghost use Rattle.decimal.specs.Numerals.{digit_at, digits_at, signed_at, signed_of, size_at};
 
-// A number of at most 19 digits is below 2^64.
+/// A number of at most 19 digits is below 2^64.
 const SAFE_DIGITS: usize = 19;
 
 /// Returns the number that a sign or none and digits at the front of `text` write, and what follows them: none where no digit

@@ -8,13 +8,13 @@ ghost use Rattle.decimal.specs.LastEight.{last_eight};
 
 use std::alloc::AllocError;
 
-// Eight digits write numbers below it.
+/// Eight digits write numbers below it.
 const EIGHT_DIGITS: u64 = 100_000_000;
 
-// ASCII zeros, which make characters of eight digits.
+/// ASCII zeros, which make characters of eight digits.
 const ZEROS: u64 = 0x3030_3030_3030_3030;
 
-// As many characters are room for any number: the most that one takes are 20, and eight are written at once.
+/// As many characters are room for any number: the most that one takes are 20, and eight are written at once.
 const ROOM: usize = 32;
 
 /// Puts `number` at the end of `text`, as `{}` writes it.

@@ -58,7 +58,7 @@ fn parse_kind(word: &str) -> Option<Kind>
     }
 }
 
-// A plus sign, which `parse` takes, is no digit.
+/// A plus sign, which `parse` takes, is no digit.
 fn parse_capacity(word: &str) -> Option<usize>
     ensures { SomeIff result (IsCapacity word.now) (digits_value 10 word.now) }
 {

@@ -8,7 +8,7 @@ use crate::fault::Fault;
 use std::io;
 use std::io::{ErrorKind, Write};
 
-// The longest line names a line of the input by 20 digits.
+/// The longest line names a line of the input by 20 digits.
 const ROOM: usize = 64;
 
 /// A line in the making.

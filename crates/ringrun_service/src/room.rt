@@ -48,7 +48,7 @@ impl MakesRoom for GrowableAllocRingBuffer<i64> {
     }
 }
 
-// A line of fewer numbers lets its ring grow push by push.
+/// A line of fewer numbers lets its ring grow push by push.
 const MANY: usize = 16;
 
 /// Makes room for the numbers at the front of `text`, where `ring` has none for the next. It held `held` items before the

@@ -12,7 +12,7 @@ use crate::fault::Fault;
 use decimal::read_decimal;
 use ringbuffer::Command;
 
-// As many bytes have at most as many line feeds as a byte counts.
+/// As many bytes have at most as many line feeds as a byte counts.
 const BLOCK: usize = 255;
 
 /// What the next line of a script is.
