@@ -1,5 +1,4 @@
 pub mod Combined
-pub mod FloatSums
 pub mod Mapped
 pub mod MonotonicQueues
 pub mod Orders
@@ -7,4 +6,5 @@ pub mod Pushed
 pub mod Squares
 pub mod Sums
 pub mod Times
+pub mod TwoStacks
 pub mod WorkedSums

@@ -20,4 +20,5 @@ pub mod Summands
 pub mod Sums
 pub mod TimeLaws
 pub mod Times
+pub mod TwoStacks
 pub mod Views

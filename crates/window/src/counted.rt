@@ -2,12 +2,10 @@
 //! floating-point numbers while a window changes, or compares two items.
 
 ghost use Rattle.std.specs.Prelude.{◌≡◌, ◌+◌, ◌<◌, ◌^◌, [], ◌∷◌, ◌++◌, List, length, option_to_list};
-ghost use Rattle.std.specs.Float.{binary64};
-ghost use Rattle.std.specs.Float.Ieee.{add};
 ghost use Rattle.std.specs.Ordering.{is_gt};
 
 use crate::ghost_count::GhostCount;
-use crate::monoid::Monoid;
+use crate::keeps_fold::KeepsFold;
 use crate::order::Order;
 use crate::tally::Tally;
 
@@ -104,26 +102,17 @@ impl<S> CountedTally<S> {
     }
 }
 
-/// Returns what `earlier` and `later` combine to, and counts the call.
+/// Returns what the folds `earlier` and `later` combine to, and counts the call.
 #[inline]
-pub(crate) fn combined<M: Monoid>(calls: &mut GhostCount, earlier: &M, later: &M) -> M
-    ensures value { result ≡ M.op earlier.now later.now }
-    ensures earlier { M.valid earlier.now }
-    ensures later { M.valid later.now }
+pub(crate) fn combined<M, K: KeepsFold<M>>(calls: &mut GhostCount, earlier: &M, later: &M) -> M
+    ensures both { (xs ys : List M) → K.folds_to xs earlier.now → K.folds_to ys later.now
+        → K.folds_to (xs ++ ys) result }
+    ensures earlier { K.folds_to (earlier.now ∷ []) earlier.now }
+    ensures later { K.folds_to (later.now ∷ []) later.now }
     ensures calls { calls.new ≡ calls.old + 1 }
 {
     calls.add_one();
-    earlier.combine(later)
-}
-
-/// Returns `earlier` + `later`, and counts the addition.
-#[inline]
-pub(crate) fn added(calls: &mut GhostCount, earlier: f64, later: f64) -> f64
-    ensures value { result ≡ add binary64 earlier later }
-    ensures calls { calls.new ≡ calls.old + 1 }
-{
-    calls.add_one();
-    earlier + later
+    K::combine(earlier, later)
 }
 
 /// Returns whether `x` is above `y`, and counts the comparison.

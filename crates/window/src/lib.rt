@@ -9,6 +9,7 @@ mod fold_window;
 mod fraction;
 mod gcd;
 mod ghost_count;
+mod keeps_fold;
 mod least_window;
 mod makers;
 mod matrix;
@@ -23,6 +24,7 @@ mod summed;
 mod tally;
 mod tally_window;
 mod time_window;
+mod two_stacks;
 
 pub use count_if::{CountIf, Predicate};
 pub use extremes::{BoundingBox, Corners, Greatest, Least};
