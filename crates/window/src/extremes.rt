@@ -114,7 +114,7 @@ impl Monoid for BoundingBox {
     }
 }
 
-// Returns the least box that holds the boxes `x` and `y`.
+/// Returns the least box that holds the boxes `x` and `y`.
 fn around(x: Corners, y: Corners) -> Corners
     ensures { result ≡ join_boxes x y }
 {

@@ -28,7 +28,7 @@ impl Monoid for Gcd {
     }
 }
 
-// Returns the greatest common divisor of `a` and `b`, by Euclid's algorithm.
+/// Returns the greatest common divisor of `a` and `b`, by Euclid's algorithm.
 fn greatest_divisor(mut a: u64, mut b: u64) -> u64
     ensures { result ≡ gcd a b }
 {

@@ -5,7 +5,7 @@ ghost use Rattle.std.specs.Prelude.{◌≡◌, ◌+◌};
 use std::marker::Model;
 use std::snapshot::Snapshot;
 
-// Never, or once more than before.
+/// Never, or once more than before.
 #[derive(Drop)]
 enum Times {
     Never,

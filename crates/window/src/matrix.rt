@@ -46,7 +46,7 @@ impl Monoid for Matrix {
     }
 }
 
-// Returns the sum of the two products, modulo 2^64.
+/// Returns the sum of the two products, modulo 2^64.
 #[inline]
 fn dot(x: u64, y: u64, z: u64, w: u64) -> u64
     ensures { result ≡ (x * y + z * w) % 2 ^ 64 }

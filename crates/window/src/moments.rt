@@ -100,7 +100,7 @@ impl<R: RingBuffer<i32>> WindowTally<i32, Moments, R> {
     }
 }
 
-// Returns `x` less `y`.
+/// Returns `x` less `y`.
 fn difference(x: u128, y: u128) -> i128
     requires x { x < 2 ^ 127 }
     requires y { y < 2 ^ 127 }
@@ -109,7 +109,7 @@ fn difference(x: u128, y: u128) -> i128
     x as i128 - y as i128
 }
 
-// Returns the square of `x`.
+/// Returns the square of `x`.
 #[inline]
 fn squared(x: i32) -> u128
     ensures value { result ≡ square x }

@@ -36,7 +36,7 @@ impl<T> Candidate<T> {
     }
 }
 
-// Returns `item` as one that no window has ranked, with the links of one that comes right after another.
+/// Returns `item` as one that no window has ranked, with the links of one that comes right after another.
 #[inline]
 pub(crate) fn unranked<T>(item: T) -> Candidate<T>
     ensures { result ≡ record { item = item; behind = 1; ahead = 0 } }
@@ -48,7 +48,7 @@ pub(crate) fn unranked<T>(item: T) -> Candidate<T>
     }
 }
 
-// How many items were pushed onto a window, and how often it compared two by this order.
+/// How many items were pushed onto a window, and how often it compared two by this order.
 #[derive(Drop)]
 pub(crate) struct PushCounts<O> {
     pub(crate) pushed: GhostCount,
@@ -56,7 +56,7 @@ pub(crate) struct PushCounts<O> {
     order: PhantomData<O>,
 }
 
-// Ranks all items of `ring`, from the newest on. Returns the first place of the queue, and the counts.
+/// Ranks all items of `ring`, from the newest on. Returns the first place of the queue, and the counts.
 pub(crate) fn rank_all<T: Drop, O: Order<T>, R: RingBuffer<Candidate<T>>>(
     ring: &mut R,
 ) -> (usize, PushCounts<O>)
@@ -80,8 +80,8 @@ pub(crate) fn rank_all<T: Drop, O: Order<T>, R: RingBuffer<Candidate<T>>>(
     (first, counts)
 }
 
-// Ranks the item at the place `at`, which comes before those that are ranked. The first of these is `first` places ahead, and
-// there is none at 0. Returns the first place with it, counted from 1.
+/// Ranks the item at the place `at`, which comes before those that are ranked. The first of these is `first` places ahead, and
+/// there is none at 0. Returns the first place with it, counted from 1.
 fn rank_before<T: Drop, O: Order<T>, R: RingBuffer<Candidate<T>>>(
     ring: &mut R,
     at: usize,
@@ -112,7 +112,7 @@ fn rank_before<T: Drop, O: Order<T>, R: RingBuffer<Candidate<T>>>(
     1
 }
 
-// Removes `oldest`, if an item left, from the queue. Returns its item.
+/// Removes `oldest`, if an item left, from the queue. Returns its item.
 #[inline]
 pub(crate) fn forget<T: Drop, O: Order<T>>(
     first: &mut usize,
@@ -130,7 +130,7 @@ pub(crate) fn forget<T: Drop, O: Order<T>>(
     Some(candidate.item)
 }
 
-// Returns the first place without the oldest item, from which the next candidate is `ahead`.
+/// Returns the first place without the oldest item, from which the next candidate is `ahead`.
 #[inline]
 fn first_after(first: usize, ahead: usize) -> usize
     ensures one { first ≡ 1 → result ≡ ahead }
@@ -139,8 +139,8 @@ fn first_after(first: usize, ahead: usize) -> usize
     if first > 1 { first - 1 } else { ahead }
 }
 
-// Ranks the newest item of `ring`, whose links are those of an item that none has ranked. Inlined with the push, which is too large
-// to be by itself.
+/// Ranks the newest item of `ring`, whose links are those of an item that none has ranked. Inlined with the push, which is too large
+/// to be by itself.
 #[inline(always)]
 pub(crate) fn rank_newest<T: Drop, O: Order<T>, R: RingBuffer<Candidate<T>>>(
     ring: &mut R,
@@ -171,8 +171,8 @@ pub(crate) fn rank_newest<T: Drop, O: Order<T>, R: RingBuffer<Candidate<T>>>(
     }
 }
 
-// Returns how many items go up to the last candidate that isn't above the newest, and with it; 0 where there is none. Only the
-// contract reads `first`.
+/// Returns how many items go up to the last candidate that isn't above the newest, and with it; 0 where there is none. Only the
+/// contract reads `first`.
 #[inline]
 fn find_kept<T: Drop, O: Order<T>, R: RingBuffer<Candidate<T>>>(
     ring: &R,
@@ -203,7 +203,7 @@ fn find_kept<T: Drop, O: Order<T>, R: RingBuffer<Candidate<T>>>(
     left
 }
 
-// Writes how far the item at the place `at` is behind the candidate before it, and the next one ahead.
+/// Writes how far the item at the place `at` is behind the candidate before it, and the next one ahead.
 #[inline]
 fn set_links<T: Drop, R: RingBuffer<Candidate<T>>>(
     ring: &mut R,
@@ -222,7 +222,7 @@ fn set_links<T: Drop, R: RingBuffer<Candidate<T>>>(
     }
 }
 
-// Writes how far the item at the place `at` is behind the candidate before it.
+/// Writes how far the item at the place `at` is behind the candidate before it.
 fn set_behind<T: Drop, R: RingBuffer<Candidate<T>>>(ring: &mut R, at: usize, behind: usize)
     requires { at < length (R.contents ring.old) }
     ensures contents { (x : Candidate T) → slice_get (R.contents ring.old) at ≡ Some x
@@ -234,7 +234,7 @@ fn set_behind<T: Drop, R: RingBuffer<Candidate<T>>>(ring: &mut R, at: usize, beh
     }
 }
 
-// Writes how far the item at the place `at`, which says 1 so far, is behind the candidate before it.
+/// Writes how far the item at the place `at`, which says 1 so far, is behind the candidate before it.
 #[inline]
 fn set_behind_newest<T: Drop, R: RingBuffer<Candidate<T>>>(ring: &mut R, at: usize, behind: usize)
     requires { at < length (R.contents ring.old) }
@@ -247,7 +247,7 @@ fn set_behind_newest<T: Drop, R: RingBuffer<Candidate<T>>>(ring: &mut R, at: usi
     }
 }
 
-// Writes how far ahead of the item at the place `at` the next candidate is.
+/// Writes how far ahead of the item at the place `at` the next candidate is.
 #[inline]
 fn set_ahead<T: Drop, R: RingBuffer<Candidate<T>>>(ring: &mut R, at: usize, ahead: usize)
     requires { at < length (R.contents ring.old) }
@@ -260,7 +260,7 @@ fn set_ahead<T: Drop, R: RingBuffer<Candidate<T>>>(ring: &mut R, at: usize, ahea
     }
 }
 
-// Returns whether the item at the place `at` is above that at the place `other`, and counts the comparison.
+/// Returns whether the item at the place `at` is above that at the place `other`, and counts the comparison.
 #[inline]
 fn is_above_at<T: Drop, O: Order<T>, R: RingBuffer<Candidate<T>>>(
     ring: &R,

@@ -74,7 +74,7 @@ impl Monoid for PolynomialHash {
     }
 }
 
-// Returns `x` times `y` and `z` more, modulo the prime, of three numbers below it.
+/// Returns `x` times `y` and `z` more, modulo the prime, of three numbers below it.
 #[inline]
 fn reduced(x: u64, y: u64, z: u64) -> u64
     requires x { x < 2305843009213693951 }

@@ -46,7 +46,7 @@ impl Summed<i64> for Sum {
     }
 }
 
-// Returns by how much a sum changes as `oldest`, if there is one, goes and `newest` comes.
+/// Returns by how much a sum changes as `oldest`, if there is one, goes and `newest` comes.
 #[inline]
 fn change(oldest: &Option<i64>, newest: i64) -> i128
     ensures { result ≡ newest -ℤ total (option_to_list oldest.now) }

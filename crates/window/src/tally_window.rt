@@ -137,7 +137,7 @@ impl<T: Copy, S: Tally<T>, R: RingBuffer<T>> WindowTally<T, S, R> {
     }
 }
 
-// Returns the tally of what `ring` holds, by a walk.
+/// Returns the tally of what `ring` holds, by a walk.
 fn tally_of<T: Copy, S: Tally<T>, R: RingBuffer<T>>(ring: &R) -> CountedTally<S>
     ensures tells { S.tells result.tally (R.contents ring.now) }
     ensures added { result.added ≡ length (R.contents ring.now) }
@@ -152,7 +152,7 @@ fn tally_of<T: Copy, S: Tally<T>, R: RingBuffer<T>>(ring: &R) -> CountedTally<S>
     counted
 }
 
-// Removes `oldest`, if an item left, from the tally.
+/// Removes `oldest`, if an item left, from the tally.
 fn remove_if_some<T: Copy, S: Tally<T>>(counted: &mut CountedTally<S>, oldest: &Option<T>)
     requires { (xs : List T) × S.tells counted.old.tally (option_to_list oldest.now ++ xs)
         × (length (option_to_list oldest.now ++ xs) < 2 ^ 64) }

@@ -188,7 +188,7 @@ impl<T: Drop, R: RingBuffer<Stamped<T>>> WindowTime<T, R> {
     }
 }
 
-// Returns whether there is an item that came at `time` or later.
+/// Returns whether there is an item that came at `time` or later.
 fn came_since<T>(overwritten: &Option<Stamped<T>>, time: u64) -> bool
     ensures none { IsNone overwritten.now → result ≡ false }
     ensures some { IfSome overwritten.now (λ x. result ≡ not (nat_lt x.stamp time)) }

@@ -10,8 +10,8 @@ use crate::keeps_fold::KeepsFold;
 use ringbuffer::RingBuffer;
 use std::marker::{Model, PhantomData};
 
-// How many of the oldest items are folded among themselves, the fold of these and that of the others, and how often two
-// values were combined.
+/// How many of the oldest items are folded among themselves, the fold of these and that of the others, and how often two
+/// values were combined.
 #[derive(Drop)]
 struct Folds<M> {
     folded: usize,
@@ -160,7 +160,7 @@ impl<M: Drop, K: KeepsFold<M>, R: RingBuffer<K>> WindowFolded<M, K, R> {
         self.ring
     }
 
-    // Folds all items if none is folded and a push is to overwrite the oldest.
+    /// Folds all items if none is folded and a push is to overwrite the oldest.
     fn before_push(&mut self)
         ensures contents { self.new.contents ≡ self.old.contents }
         ensures limit { self.new.limit ≡ self.old.limit }
@@ -173,7 +173,7 @@ impl<M: Drop, K: KeepsFold<M>, R: RingBuffer<K>> WindowFolded<M, K, R> {
         }
     }
 
-    // Folds all items if none is folded.
+    /// Folds all items if none is folded.
     fn before_dequeue(&mut self)
         ensures contents { self.new.contents ≡ self.old.contents }
         ensures limit { self.new.limit ≡ self.old.limit }
@@ -186,7 +186,7 @@ impl<M: Drop, K: KeepsFold<M>, R: RingBuffer<K>> WindowFolded<M, K, R> {
     }
 }
 
-// Folds all items of `ring`, and writes beside each the fold of those after it.
+/// Folds all items of `ring`, and writes beside each the fold of those after it.
 fn fold_all<M: Drop, K: KeepsFold<M>, R: RingBuffer<K>>(ring: &mut R, folds: &mut Folds<M>)
     ensures holds { HoldsFolds K.item_of K.after_of K.folds_to (R.contents ring.new)
         folds.new.folded folds.new.older folds.new.newer }
@@ -209,7 +209,7 @@ fn fold_all<M: Drop, K: KeepsFold<M>, R: RingBuffer<K>>(ring: &mut R, folds: &mu
     folds.newer = K::neutral();
 }
 
-// Removes `oldest` from the items that are folded. Returns its item.
+/// Removes `oldest` from the items that are folded. Returns its item.
 #[inline]
 fn remove_oldest<M: Drop, K: KeepsFold<M>>(folds: &mut Folds<M>, oldest: K) -> M
     requires { 0 < folds.old.folded }
