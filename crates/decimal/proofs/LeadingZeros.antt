@@ -89,7 +89,8 @@ text_from : (ds : List ℕ) (k n : ℕ) → Below 10 ds → length ds ≡ 8 → 
 text_from ds k n h long place value small =
     let kept = drop k ds in let below = recursion_from_All (λ d. d < 10) kept (All-drop (λ d. d < 10) k ds (All-from_recursion (λ d. d < 10) ds h)) in
     let lengths : length (ascii kept) ≡ 8 - k = length-map kept (λ d. 48 + d) ∙ length-drop k ds ∙ ap (λ n. n - k) long in
-    let first : get_or (ascii kept) 0 0 ≡ 48 + get_or ds k 0 = get_or-map (λ d. 48 + d) kept 0 0 0 (omega (arith, length-drop k ds, long, place.within)) ∙ ap (λ d. 48 + d) (get_or-drop k ds 0 0 ∙ ap (λ i. get_or ds i 0) (omega arith)) in
+    let first : get_or (ascii kept) 0 0 ≡ 48 + get_or ds k 0 = get_or-map (λ d. 48 + d) kept 0 0 0 (omega (arith, length-drop k ds, long, place.within))
+    ∙ ap (λ d. 48 + d) (get_or-drop k ds 0 0 ∙ ap (λ i. get_or ds i 0) (omega arith)) in
     drop-map (λ d. 48 + d) k ds
     ∙ text_is (ascii kept) n (are_digits kept below) (omega (arith, lengths, place.within)) (λ e. let last = place.here (omega (arith, first, e)) in omega (arith, lengths, last))
     (write_number 0 kept below ∙ front k ds place.zeros ∙ value) small
@@ -123,7 +124,9 @@ shifted_out k bs more within long h =
 
 -- a number's eight digits as characters
 characters : (n word : ℕ) → word ≡ from_le_bytes w64 (last_eight n) → to_le_bytes w64 (word + 3472328296227680304) ≡ ascii (last_eight n)
-characters n word e = le_bytes_8 (ascii (last_eight n)) (word + 3472328296227680304) refl (bytes_small (ascii (last_eight n)) (mapped 10 256 (λ d. 48 + d) (λ d h. omega arith) (last_eight n) (below_ten n))) (omega (arith, e))
+characters n word e =
+    let small = bytes_small (ascii (last_eight n)) (mapped 10 256 (λ d. 48 + d) (λ d h. omega arith) (last_eight n) (below_ten n)) in
+    le_bytes_8 (ascii (last_eight n)) (word + 3472328296227680304) refl small (omega (arith, e))
 
 pub eight_written : (n word : ℕ) (bytes more : List ℕ) → n < 10 ^ 8 → word ≡ from_le_bytes w64 (last_eight n) → bytes ≡ to_le_bytes w64 (word + 3472328296227680304) → AllDigits 10 (take 8 (bytes ++ more)) × (digits_value 10 (take 8 (bytes ++ more)) ≡ n)
 eight_written n word bytes more h e b =
