@@ -1,9 +1,5 @@
 -- The slots of an owner become a row of core's, and a row becomes slots.
-use Rattle.ring_slots.proofs.Words.{◌≡◌, refl, ap, Bool, true, false, List, [], ◌∷◌, ℕ, zero, suc, ◌+◌, ◌<◌, ◌≤◌, arith, length, map, get_or, Ura, ent, emp, id⊢, Fml, Logic, sem, ‵, ◌$◌, ◌∵◌, !, qed, use1, frame, by, layout, froom, RattleType, Option, Some, None, row, slot}
-use base.Logic.{mono_r}
-use denote.Param.Laws.{Laws}
-use denote.RawPtr.{block_ptr}
-use Rattle.std.specs.Prelude.{if◌then◌else◌, slice_get}
+use Rattle.ring_slots.proofs.Words.{◌≡◌, refl, ap, Bool, true, false, List, [], ◌∷◌, ℕ, zero, suc, ◌+◌, ◌<◌, ◌≤◌, arith, length, map, get_or, Ura, ent, emp, id⊢, Fml, Logic, sem, ‵, ◌$◌, ◌∵◌, !, qed, use1, frame, by, layout, froom, RattleType, Option, Some, None, row, slot, mono_r, Laws, block_ptr, if◌then◌else◌, slice_get}
 use Rattle.core.specs.Mem.Slots.Ownership.{slots}
 use Rattle.std_alloc.proofs.VecSteps.El.{El, no_al}
 use Rattle.ring_slots.proofs.SlotsInMemory.{R, bytes, room_of}

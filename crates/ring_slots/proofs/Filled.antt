@@ -1,15 +1,6 @@
 -- What slots hold once items are put into a stretch of them.
-use Rattle.ring_slots.proofs.Words.{length-map, take_front, refilled, ◌≡◌, refl, ap, false, List, [], ◌∷◌, ◌++◌, ℕ, zero, suc, ◌+◌, ◌<◌, ◌≤◌, arith, length, get_or, take, cut, map, Option, None, Some}
+use Rattle.ring_slots.proofs.Words.{length-map, take_front, refilled, ◌≡◌, refl, ap, false, List, [], ◌∷◌, ◌++◌, ℕ, zero, suc, ◌+◌, ◌<◌, ◌≤◌, arith, length, get_or, take, cut, map, Option, None, Some, ext_get_or, common_steps, slice_get_cases, SamePlaces, slots_filled, slots_items, slots_len, Filled, SameOutside, ◌-◌, slice_get, Row, filled, HoldsRow}
 use mathlib.Core.Logic.{◌⊎◌}
-use Rattle.std.proofs.Common.{ext_get_or}
-use Rattle.std.proofs.lemmas.Grind.{common_steps}
-use Rattle.std.proofs.lemmas.Option.{slice_get_cases}
-use Rattle.std.specs.Mem.Slots.{SamePlaces, slots_filled, slots_items, slots_len}
-use Rattle.std.specs.Mem.Slots.Ownership.{Filled, SameOutside}
-use Rattle.std.specs.Prelude.{◌-◌, slice_get}
-use Rattle.core.specs.declared.slots.Slots.{Slots as Row}
-use Rattle.ring_slots.specs.Slots.{filled}
-use Rattle.ring_slots.specs.block.Row.{HoldsRow}
 
 -- the first item of some
 pub first_item : {X : Type 0} (xs : List X) → 0 < length xs → X

@@ -1,6 +1,5 @@
 -- Cells that hold every element of a list but one, which is in hand. It goes into a cell beside the gap, and that cell's own is in hand then.
-use Rattle.ring_slots.proofs.Words.{◌≡◌, refl, ap, sym, List, [], ◌∷◌, ◌++◌, ℕ, zero, suc, ◌<◌, arith, length, map, take, cut, get_or, set, Option, IsSome, Some, subst}
-use Rattle.std.proofs.lemmas.Grind.{common_steps}
+use Rattle.ring_slots.proofs.Words.{◌≡◌, refl, ap, sym, List, [], ◌∷◌, ◌++◌, ℕ, zero, suc, ◌<◌, arith, length, map, take, cut, get_or, set, Option, IsSome, Some, subst, common_steps}
 
 module _ {X : Type 0} where
   -- the list without its element at a place

@@ -1,14 +1,7 @@
 -- What slots hold once the items of the last of them have moved down, or to the first of them.
-use Rattle.ring_slots.proofs.Words.{◌≡◌, ap, ◌∙◌, false, List, ℕ, ◌+◌, ◌<◌, ◌≤◌, arith, length, get_or, replicate, take, cut, Option, None, HoldsStretch}
-use Rattle.std.proofs.Common.{ext_get_or}
-use Rattle.std.proofs.lemmas.Grind.{common_steps}
-use Rattle.std.proofs.lemmas.Option.{slice_get-get_or, slice_get_cases}
-use Rattle.std.specs.Mem.Slots.{IsMoved, SameFilledBeside, SameItemsOutside, SamePlaces, slots_filled, slots_items, slots_len}
-use Rattle.std.specs.Mem.Slots.Ownership.{Filled, SameOutside}
-use Rattle.std.specs.Prelude.{◌-◌, min, max}
-use Rattle.core.specs.declared.slots.Slots.{Slots as Row}
-use Rattle.ring_slots.specs.Slots.{brought_first, moved_down}
-use Rattle.ring_slots.specs.block.Row.{HoldsRow}
+use Rattle.ring_slots.proofs.Words.{◌≡◌, ap, ◌∙◌, false, List, ℕ, ◌+◌, ◌<◌, ◌≤◌, arith, length, get_or, replicate, take, cut, Option, None, HoldsStretch, ext_get_or, common_steps, slice_get-get_or, slice_get_cases, SamePlaces, slots_filled, slots_items, slots_len, Filled, SameOutside, ◌-◌, min, Row, brought_first, moved_down, HoldsRow}
+use Rattle.std.specs.Mem.Slots.{IsMoved, SameFilledBeside, SameItemsOutside}
+use Rattle.std.specs.Prelude.{max}
 use Rattle.ring_slots.proofs.Filled.{get_or-map_some}
 use Rattle.ring_slots.proofs.SlotsInMemory.{stretch_long}
 

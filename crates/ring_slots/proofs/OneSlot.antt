@@ -1,13 +1,7 @@
 -- What slots hold once one place of their row has changed.
-use Rattle.ring_slots.proofs.Words.{◌≡◌, ap, false, List, ℕ, ◌<◌, arith, length, get_or, Option, None, Some}
-use Rattle.std.proofs.Common.{set, true, ext_get_or, length-set, get_or-set_same, get_or-set_other}
+use Rattle.ring_slots.proofs.Words.{◌≡◌, ap, false, List, ℕ, ◌<◌, arith, length, get_or, Option, None, Some, set, true, ext_get_or, length-set, common_steps, slice_get_cases, SamePlaces, slots_filled, slots_items, slots_len, slice_get, Row, HoldsRow}
+use Rattle.std.proofs.Common.{get_or-set_same, get_or-set_other}
 use Rattle.std.proofs.lemmas.Bool.{cases_eq}
-use Rattle.std.proofs.lemmas.Grind.{common_steps}
-use Rattle.std.proofs.lemmas.Option.{slice_get_cases}
-use Rattle.std.specs.Mem.Slots.{SamePlaces, slots_filled, slots_items, slots_len}
-use Rattle.std.specs.Prelude.{slice_get}
-use Rattle.core.specs.declared.slots.Slots.{Slots as Row}
-use Rattle.ring_slots.specs.block.Row.{HoldsRow}
 
 module _ {X : Type 0} (old new : List (Option X)) (before after : Row X) (size place : ℕ) (all : size ≡ length old) (within : place < length old)
     (had : HoldsRow old before size) (has : HoldsRow new after size) (places : SamePlaces before after) (items_long : slots_len before ≡ length (slots_items before)) (filled_long : slots_len before ≡ length (slots_filled before)) where

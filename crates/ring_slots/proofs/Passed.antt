@@ -1,8 +1,6 @@
 -- Full slots, once one more item is put before or after theirs.
-use Rattle.ring_slots.proofs.Words.{◌≡◌, refl, sym, ap, ◌∙◌, List, [], ◌∷◌, ◌++◌, ℕ, ◌+◌, arith, length, length-append, map, take, cut, Option, Some, IsFullStretch}
-use Rattle.std.proofs.lemmas.List.{map-append}
+use Rattle.ring_slots.proofs.Words.{◌≡◌, refl, sym, ap, ◌∙◌, List, [], ◌∷◌, ◌++◌, ℕ, ◌+◌, arith, length, length-append, map, take, cut, Option, Some, IsFullStretch, map-append, Passes, passed_down, passed_up}
 use Rattle.ring_slots.proofs.SlotsInMemory.{stretch_long}
-use Rattle.ring_slots.specs.Slots.{Passes, passed_down, passed_up}
 
 module _ {X : Type 0} where
   both : (y : Option X) (z : X) (ys : List (Option X)) (has : List X) → y ≡ Some z → ys ≡ map Some has → y ∷ ys ≡ map Some (z ∷ has)

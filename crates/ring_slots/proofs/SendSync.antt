@@ -1,10 +1,10 @@
 -- Heap slots may cross threads as their items may: what they own, and what a `&` to them shows, is the items' and the allocator's.
-use Rattle.ring_slots.proofs.Words.{List, [], ◌∷◌, ℕ, ◌+◌, full_share, RattleType, Ptr, block_ptr, null_ptr, Option, Some, None, type_size, Bool, true, false, ty_array, row, row_shown, lent, right_if, Global}
+use Rattle.ring_slots.proofs.Words.{List, [], ◌∷◌, ℕ, ◌+◌, full_share, RattleType, Ptr, block_ptr, null_ptr, Option, Some, None, type_size, Bool, true, false, ty_array, row, row_shown, lent, right_if, Global, IsSend, IsSync}
 use mir.Raw.{raw}
 use base.Shift.{Keyless}
 use denote.Memory.{lone}
 use denote.Struct.Owning.{shape, to}
-use denote.Param.Send.{IsSend, IsSync, Common, part_keyless, owning_send, struct_sync, sendable, whole-keyless}
+use denote.Param.Send.{Common, part_keyless, owning_send, struct_sync, sendable, whole-keyless}
 use Rattle.std.proofs.Crossing.{frees}
 use Rattle.ring_slots.specs.block.Memory.{owned}
 use Rattle.ring_slots.specs.contracts.block.Deed as Deed

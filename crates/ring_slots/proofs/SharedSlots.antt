@@ -1,7 +1,7 @@
 -- A borrow of heap slots is shared item by item.
-use Rattle.ring_slots.proofs.Words.{List, [], ◌∷◌, ℕ, ◌+◌, Ura, Lft, Incl, ftrue, Logic, RattleType, RowLaws, Laws, Ptr, block_ptr, null_ptr, Lends, Lends-both, Lends-nothing, Lends-said, Lends-false, Option, Some, None, type_size, slot, row, slot_shown, row_shown, small, lent}
+use Rattle.ring_slots.proofs.Words.{List, [], ◌∷◌, ℕ, ◌+◌, Ura, Lft, Incl, ftrue, Logic, RattleType, RowLaws, Laws, Ptr, block_ptr, null_ptr, Lends, Lends-both, Lends-nothing, Lends-said, Lends-false, Option, Some, None, type_size, slot, row, slot_shown, row_shown, small, lent, nothing_shr_laws}
 use denote.Sharing.{ShrLaws, said}
-use denote.SharingLaws.{beside_shr_laws, nothing_shr_laws, said_shr_laws}
+use denote.SharingLaws.{beside_shr_laws, said_shr_laws}
 use denote.Shares.{Shares-less}
 use Rattle.ring_slots.specs.block.Memory.{owned}
 

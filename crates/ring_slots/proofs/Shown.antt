@@ -1,9 +1,5 @@
 -- What slots of plain items show, once cells are written or marks change.
-use Rattle.ring_slots.proofs.Words.{drop-drop, take-append-drop, ◌≡◌, refl, sym, ap, ◌∙◌, Bool, true, false, List, [], ◌∷◌, ◌++◌, ℕ, zero, suc, ◌+◌, ◌<◌, ◌≤◌, arith, length, get_or, length-append, length-drop, length-replicate, length-take, replicate, set, take, cut, map, None, Some, IsSome, HoldsStretch, IsFullStretch}
-use Rattle.std.proofs.lemmas.Option.{slice_get-get_or}
-use Rattle.std.specs.Prelude.{if◌then◌else◌, slice_get}
-use Rattle.ring_slots.specs.Slots.{Passes, filled}
-use Rattle.ring_slots.specs.copies.Shown.{shown}
+use Rattle.ring_slots.proofs.Words.{drop-drop, take-append-drop, ◌≡◌, refl, sym, ap, ◌∙◌, Bool, true, false, List, [], ◌∷◌, ◌++◌, ℕ, zero, suc, ◌+◌, ◌<◌, ◌≤◌, arith, length, get_or, length-append, length-drop, length-replicate, length-take, replicate, set, take, cut, map, None, Some, IsSome, HoldsStretch, IsFullStretch, slice_get-get_or, if◌then◌else◌, slice_get, Passes, filled, shown}
 use Rattle.ring_slots.proofs.SlotsInMemory.{full_within, item_of, stretch_long}
 
 module _ {X : Type 0} where

@@ -3,23 +3,23 @@
 pub use Prim.Native.Nat.{suc, zero, ℕ, ◌%◌, ◌*◌, ◌+◌, ◌<◌, ◌^◌, ◌≤◌}
 pub use base.Fml.{Fml, GName, Incl, Incl-trans, Lft, Share, fat, fauth, fbor, feq, flft, fobor, fobs, froom, fsep, ftrue}
 pub use base.Fraction.{full_share}
-pub use base.Logic.{SProp, all, all_e, apply∗, assoc∗, emp, ent, ex, fst∗, guard, id⊢, never, sep, wand}
+pub use base.Logic.{SProp, all, all_e, apply∗, assoc∗, emp, ent, ex, fst∗, guard, id⊢, mono_r, never, sep, wand}
 pub use borrow.Table.OneValue.{part_in, part_out}
-pub use denote.Builtin.{RefMutOf, RefOf, unit, usize}
+pub use denote.Builtin.{RefMutOf, RefOf, bool, unit, usize}
 pub use denote.Exit.{no, yes}
 pub use denote.Follow.{Part, follows, lends_Part}
 pub use denote.Laws.{Is, Typed, shows}
 unfoldable pub use denote.Memory.{cell_at, hidden_shr, mem, part_at, part_of}
 pub use denote.Param.{ArrayAt, bounded, layout, layouts, number, param}
 pub use denote.Param.Laws.{Laws, number_array_laws, param_laws}
-pub use denote.Plain.{uint_Tells, uint_vals}
+pub use denote.Plain.{bool_Tells, bool_vals, uint_Tells, uint_vals}
 pub use denote.RattleType.{RattleType, RowLaws, Valss, owns}
 pub use denote.RawPtr.{Ptr, RawPtr, block_ptr, in_a_block, null_ptr, ptr_row_laws, ptr_val, room_for}
 pub use denote.Ref.{MutRef, ShrRef, mut_Tells, mut_vals, shr_Tells, shr_vals}
 pub use denote.Shadow.{pure_i}
 pub use denote.Signature.{mut_ref_to, plain, types_at}
 pub use denote.Steps.{closes, facts, heard, nothing, only, opens, owned, peeks}
-pub use denote.Struct.Laws.{RawPtr-copy, makes, usize-copy}
+pub use denote.Struct.Laws.{RawPtr-copy, field_copy, makes, usize-copy}
 pub use denote.Struct.Lending.{Lends, Lends-both, Lends-false, Lends-first, Lends-nothing, Lends-said, of_Lends}
 pub use denote.Struct.Struct.{Struct, Struct-Makes, within}
 pub use denote.Triple.Call.{calls_at, calls_at_last}
@@ -55,13 +55,33 @@ pub use Rattle.std.proofs.VecSteps.Shapes.{after, arm_body, head}
 pub use Rattle.std.proofs.alloc.Calls.{Al, Answer, Answer-typed, Answered, Goes-blank, answer_val, answers, got, lends}
 pub use Rattle.std.proofs.raw_atomic.Walks.{proved, proved_at}
 pub use Rattle.std.specs.Mem.{type_size}
-pub use Rattle.std.specs.Prelude.{Err, IsSome, None, Ok, Option, Some}
+pub use Rattle.std.specs.Prelude.{Err, IsSome, None, Ok, Option, Some, if◌then◌else◌, min, slice_get}
 pub use Rattle.std.specs.declared.alloc.Global.{Global}
 pub use Rattle.ring_slots.specs.block.Memory.{lent, right, right_if, row, row_shown, slot, slot_shown, small}
 pub use lib.Seq.{drop-cons, drop-drop, set_split, take_at as take_front}
 pub use denote.Slice.{MutSlice, elements_shared, slice_val}
-pub use Rattle.std.proofs.lemmas.List.{get_or_default, length-map}
-pub use Rattle.ring_slots.specs.Slots.{HoldsStretch, IsFullStretch, refilled}
+pub use Rattle.std.proofs.lemmas.List.{get_or_default, length-map, map-append}
+pub use Rattle.ring_slots.specs.Slots.{HoldsStretch, IsFullStretch, Passes, Slots, brought_first, filled, moved_down, passed_down, passed_up, refilled}
 pub use denote.Array.{Array}
 pub use Rattle.ring_slots.specs.block.Lends.{owner_with}
-pub use Rattle.std.specs.List.{refill}
+pub use Rattle.std.specs.List.{length_refill, refill}
+pub use denote.Param.Send.{IsSend, IsSync}
+pub use Rattle.std.proofs.lemmas.Grind.{common_steps}
+pub use Rattle.std.proofs.Common.{ext_get_or, rules, slice_index_or, ◌-◌}
+pub use Rattle.ring_slots.specs.cells.Lends.{rewritten}
+pub use Rattle.ring_slots.specs.copies.Shown.{shown}
+pub use denote.SharingLaws.{nothing_shr_laws}
+pub use Rattle.std.proofs.lemmas.Option.{slice_get-get_or, slice_get_cases}
+pub use Rattle.std.specs.Mem.Slots.{SamePlaces, slots_filled, slots_items, slots_len}
+pub use Rattle.std.specs.Mem.Slots.Ownership.{Filled, SameOutside}
+pub use Rattle.core.specs.declared.slots.Slots.{Slots as Row}
+pub use Rattle.ring_slots.specs.block.Row.{HoldsRow}
+pub use types.Mut.{open_ref}
+pub use denote.Enum.Declared.{declared}
+pub use denote.Opens.{hide, unhide}
+pub use denote.Param.Shared.{copy_shared}
+pub use denote.FollowSlice.{lends_Elements}
+pub use Rattle.core.proofs.slots.Opens.{row_val}
+pub use denote.Struct.CellSteps.{first_at}
+pub use denote.Triple.Clauses.{Ended}
+pub use borrow.Table.Elements.{at_mul}

@@ -1,8 +1,6 @@
 -- The item is taken out of a full cell in memory, with a way back at any item, and then lent.
-use Rattle.ring_slots.proofs.Words.{refl, sym, ap, List, [], ◌∷◌, ℕ, ◌+◌, Fn, named, inst_fn, vptr, Ura, SProp, ent, sep, GName, ftrue, flft, Logic, sem, ‵, raw, ◌⊛◌, some, given, later, ◌$◌, ◌∵◌, !, qed, move, keep, drop, split, split3, join, learn, fsplit3, use1, await, pick, rewrite, suffices, frame, group, done, at_ret, ◌⊑◌, stop, addr, of_opd, bin, align_word, first, blocks, exec, returns, enter, alloc_all, pass_all, free_all, look_at, get, through, sets, sets_last, is, env, tables, no, follows, lends_Part, mem, layout, Laws, param_laws, RattleType, MutRef, mut_vals, mut_Tells, plain, mut_ref_to, nothing, says, Stays, stay_dropped, Goes-spent_ref, walk_of, ends_at, proved, after, IsSome, Some, Option}
+use Rattle.ring_slots.proofs.Words.{refl, sym, ap, List, [], ◌∷◌, ℕ, ◌+◌, Fn, named, inst_fn, vptr, Ura, SProp, ent, sep, GName, ftrue, flft, Logic, sem, ‵, raw, ◌⊛◌, some, given, later, ◌$◌, ◌∵◌, !, qed, move, keep, drop, split, split3, join, learn, fsplit3, use1, await, pick, rewrite, suffices, frame, group, done, at_ret, ◌⊑◌, stop, addr, of_opd, bin, align_word, first, blocks, exec, returns, enter, alloc_all, pass_all, free_all, look_at, get, through, sets, sets_last, is, env, tables, no, follows, lends_Part, mem, layout, Laws, param_laws, RattleType, MutRef, mut_vals, mut_Tells, plain, mut_ref_to, nothing, says, Stays, stay_dropped, Goes-spent_ref, walk_of, ends_at, proved, after, IsSome, Some, Option, open_ref, declared}
 use types.Kit.{mean}
-use types.Mut.{open_ref}
-use denote.Enum.Declared.{declared}
 use denote.Param.Laws.{row_loose}
 use denote.Struct.Field.{Field, row_field}
 use denote.Struct.Loose.{Looses}

@@ -1,6 +1,5 @@
-use Rattle.std.proofs.Common.{◌≡◌, ◌-◌, ◌++◌, ◌∷◌, [], None, Some, ap, arith, ◌∙◌, suc, length, map, ◌<◌}
-use Rattle.std.proofs.lemmas.List.{length-append, map-append}
-use Rattle.ring_slots.proofs.Words.{sym}
+use Rattle.ring_slots.proofs.Words.{}
+use Rattle.ring_slots.proofs.Words.{sym, ◌≡◌, ◌-◌, ◌++◌, ◌∷◌, [], None, Some, ap, arith, ◌∙◌, suc, length, map, ◌<◌, length-append, map-append}
 use Rattle.ring_slots.proofs.Gap.{first_is_full, full_below, one_down, without}
 use Rattle.ring_slots.proofs.passing.pass_full_down.Goals as goal
 

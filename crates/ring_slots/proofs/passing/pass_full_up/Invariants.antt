@@ -1,5 +1,5 @@
 -- the cells hold all items but the one in hand
-use Rattle.std.proofs.Common.{◌≡◌, ◌-◌, ◌∷◌, None, Some, length, slice_index_or}
+use Rattle.ring_slots.proofs.Words.{◌≡◌, ◌-◌, ◌∷◌, None, Some, length, slice_index_or}
 use Rattle.ring_slots.proofs.Gap.{without}
 use Rattle.ring_slots.proofs.passing.pass_full_up.Given as goal
 

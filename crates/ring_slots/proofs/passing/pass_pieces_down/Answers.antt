@@ -1,4 +1,4 @@
-use Rattle.std.proofs.Common.{◌≡◌, ◌-◌, ◌+◌, arith}
+use Rattle.ring_slots.proofs.Words.{◌≡◌, ◌-◌, ◌+◌, arith}
 use Rattle.ring_slots.proofs.Pieces.{last_piece, piece_more}
 use Rattle.ring_slots.proofs.passing.pass_pieces_down.Goals as goal
 

@@ -1,6 +1,6 @@
 -- the items from `end` on have passed, and those before it are as they were
+use Rattle.ring_slots.proofs.Words.{passed_down}
 use Rattle.std.proofs.Common.{◌≡◌, ◌≤◌, length, take, drop}
-use Rattle.ring_slots.specs.Slots.{passed_down}
 use Rattle.ring_slots.proofs.passing.pass_pieces_down.Given as goal
 
 abbrev pub invariant-loop-end : goal.invariant-loop-end

@@ -1,8 +1,5 @@
 -- A `&` to the right to free a block shows nothing.
-use Rattle.ring_slots.proofs.Words.{RattleType, RawPtr, Laws, of_Lends, Lends-nothing}
-use denote.Param.Shared.{copy_shared}
-use denote.SharingLaws.{nothing_shr_laws}
-use denote.Struct.Laws.{field_copy}
+use Rattle.ring_slots.proofs.Words.{RattleType, RawPtr, Laws, of_Lends, Lends-nothing, copy_shared, nothing_shr_laws, field_copy}
 use Rattle.std.specs.contracts.marker.PhantomData as marker
 use Rattle.ring_slots.specs.contracts.block.Deed as C
 use Rattle.ring_slots.proofs.block.Deed.TheLaw.Statement.{statement}

@@ -1,5 +1,4 @@
-use denote.RattleType.{RattleType}
-use denote.Param.Send.{IsSend}
+use Rattle.ring_slots.proofs.Words.{RattleType, IsSend}
 use Rattle.ring_slots.proofs.SendSync.{Deed-send}
 use Rattle.ring_slots.specs.contracts.block.Deed.{the_row}
 

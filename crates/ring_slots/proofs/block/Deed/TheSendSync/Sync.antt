@@ -1,5 +1,4 @@
-use denote.RattleType.{RattleType}
-use denote.Param.Send.{IsSync}
+use Rattle.ring_slots.proofs.Words.{RattleType, IsSync}
 use Rattle.ring_slots.proofs.SendSync.{Deed-sync}
 use Rattle.ring_slots.specs.contracts.block.Deed.{the_row}
 

@@ -1,8 +1,6 @@
 -- A `&` to the slots reaches each item.
-use Rattle.ring_slots.proofs.Words.{[], ◌++◌, Incl-trans, RattleType, RawPtr, Laws, of_Lends}
+use Rattle.ring_slots.proofs.Words.{[], ◌++◌, Incl-trans, RattleType, RawPtr, Laws, of_Lends, copy_shared, field_copy}
 use contract.BorrowLft.{meet_⊑_left}
-use denote.Param.Shared.{copy_shared}
-use denote.Struct.Laws.{field_copy}
 use Rattle.std.specs.contracts.marker.PhantomData as marker
 use Rattle.ring_slots.specs.contracts.block.Owner as C
 use Rattle.ring_slots.proofs.block.Owner.TheLaw.Statement.{statement}

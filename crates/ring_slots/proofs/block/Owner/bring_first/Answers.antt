@@ -1,6 +1,5 @@
-use Rattle.ring_slots.proofs.Words.{arith, ◌∙◌}
+use Rattle.ring_slots.proofs.Words.{arith, ◌∙◌, ◌-◌}
 use mathlib.Core.Logic.{inr}
-use Rattle.std.specs.Prelude.{◌-◌}
 use Rattle.ring_slots.proofs.Filled.{first_item}
 use Rattle.ring_slots.proofs.MovedDown.{brought, stretch_filled}
 use Rattle.ring_slots.proofs.SlotsInMemory.{stretch_long}

@@ -1,5 +1,4 @@
-use Rattle.ring_slots.proofs.Words.{arith, ◌∙◌}
-use Rattle.std.specs.Prelude.{◌-◌}
+use Rattle.ring_slots.proofs.Words.{arith, ◌∙◌, ◌-◌}
 use Rattle.ring_slots.proofs.Filled.{first_item}
 use Rattle.ring_slots.proofs.MovedDown.{is_moved_down, stretch_filled}
 use Rattle.ring_slots.proofs.SlotsInMemory.{stretch_long}

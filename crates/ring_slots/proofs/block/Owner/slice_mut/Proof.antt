@@ -1,6 +1,5 @@
 -- The stretch is lent apart from the rest, which closes round any items that are written.
-use Rattle.ring_slots.proofs.Words.{◌≡◌, refl, sym, ap, subst, ◌∙◌, List, [], ◌∷◌, ◌++◌, ℕ, ◌+◌, ◌*◌, ◌^◌, ◌<◌, ◌≤◌, length, arith, Fn, a_type, named, inst_fn, Val, vint, w64, Ura, full_share, SProp, ent, sep, Fml, GName, ftrue, fsep, fat, flft, WpFn, Logic, sem, ‵, raw, ◌⊛◌, some, later, prop, at_ret, ◌$◌, ◌∵◌, !, qed, move, keep, drop, use1, use2, pick, split, split3, join, fsplit, fsplit3, fjoin, fjoin3, fpack, feq_l, flt_i, flt_l, rewrite, regoal, suffices, frame, group, await, done, of_opd, bin, agg, and_then, no_more, is, size_word, first, blocks, exec, returns, enter, alloc_all, pass_all, free_all, look_at, get, sets, sets_last, take_at, give_at, env, ◌⊑◌, fact, tables, usize, yes, no, follows, mem, cell_at, cells, part_of, layouts, RattleType, Ptr, RawPtr, block_ptr, ptr_val, MutRef, plain, mut_ref_to, nothing, heard, says, Stays, stay_dropped, Goes-dropped, Goes-spent_ref, walk_of, ends_at, Some, type_size, after, proved_at, ty_ptr, take, cut, map, Array, MutSlice, slice_val, length-map, IsFullStretch, refilled, row}
-use denote.FollowSlice.{lends_Elements}
+use Rattle.ring_slots.proofs.Words.{◌≡◌, refl, sym, ap, subst, ◌∙◌, List, [], ◌∷◌, ◌++◌, ℕ, ◌+◌, ◌*◌, ◌^◌, ◌<◌, ◌≤◌, length, arith, Fn, a_type, named, inst_fn, Val, vint, w64, Ura, full_share, SProp, ent, sep, Fml, GName, ftrue, fsep, fat, flft, WpFn, Logic, sem, ‵, raw, ◌⊛◌, some, later, prop, at_ret, ◌$◌, ◌∵◌, !, qed, move, keep, drop, use1, use2, pick, split, split3, join, fsplit, fsplit3, fjoin, fjoin3, fpack, feq_l, flt_i, flt_l, rewrite, regoal, suffices, frame, group, await, done, of_opd, bin, agg, and_then, no_more, is, size_word, first, blocks, exec, returns, enter, alloc_all, pass_all, free_all, look_at, get, sets, sets_last, take_at, give_at, env, ◌⊑◌, fact, tables, usize, yes, no, follows, mem, cell_at, cells, part_of, layouts, RattleType, Ptr, RawPtr, block_ptr, ptr_val, MutRef, plain, mut_ref_to, nothing, heard, says, Stays, stay_dropped, Goes-dropped, Goes-spent_ref, walk_of, ends_at, Some, type_size, after, proved_at, ty_ptr, take, cut, map, Array, MutSlice, slice_val, length-map, IsFullStretch, refilled, row, lends_Elements}
 use Rattle.ring_slots.specs.block.Memory.{owned}
 use Rattle.ring_slots.proofs.Filled.{length-filled, refilled_is}
 use Rattle.ring_slots.proofs.SlotsInMemory.{around, of_cells, product_is, stretch_fits, stretch_in, stretch_long, stretch_out, to_cells}

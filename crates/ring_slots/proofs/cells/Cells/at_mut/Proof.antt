@@ -1,10 +1,7 @@
 -- An element of the array is lent to the caller, which the borrow checker does not follow through an array. The element is
 -- taken out of the cells in memory with a way back at any value, and then lent.
-use Rattle.ring_slots.proofs.Words.{◌≡◌, refl, sym, ap, ◌∙◌, [], ◌∷◌, ℕ, zero, ◌+◌, ◌*◌, ◌^◌, ◌<◌, ◌≤◌, mul-le-mul_right, arith, length, get_or, set, length-set, Ura, ty_array, named, w64, inst_fn, vptr, vint, SProp, ent, sep, ex, guard, all, wand, all_e, apply∗, GName, ftrue, flft, size, align, up, Logic, sem, cells, ‵, raw, ◌⊛◌, some, given, later, ◌$◌, ◌∵◌, !, qed, by, move, keep, drop, split, split3, join, learn, check, fsplit3, use1, use2, await, pick, suffices, frame, group, show, done, ◌⊑◌, stop, fld, addr, bin, size_word, returns, enter, alloc_all, pass_all, free_all, look_at, get, through, sets, is, RefMutOf, usize, yes, no, follows, lends_Part, mem, number, layout, Laws, uint_vals, uint_Tells, RattleType, MutRef, mut_vals, mut_Tells, plain, nothing, says, Stays, stay_dropped, Goes-dropped, Goes-spent_ref, ends_at, proved, get_or_default}
-use types.Mut.{open_ref}
-use denote.Struct.CellSteps.{first_at}
-use denote.Triple.Clauses.{Ended}
-use borrow.Table.Elements.{at, at_mul, focus_any}
+use Rattle.ring_slots.proofs.Words.{◌≡◌, refl, sym, ap, ◌∙◌, [], ◌∷◌, ℕ, zero, ◌+◌, ◌*◌, ◌^◌, ◌<◌, ◌≤◌, mul-le-mul_right, arith, length, get_or, set, length-set, Ura, ty_array, named, w64, inst_fn, vptr, vint, SProp, ent, sep, ex, guard, all, wand, all_e, apply∗, GName, ftrue, flft, size, align, up, Logic, sem, cells, ‵, raw, ◌⊛◌, some, given, later, ◌$◌, ◌∵◌, !, qed, by, move, keep, drop, split, split3, join, learn, check, fsplit3, use1, use2, await, pick, suffices, frame, group, show, done, ◌⊑◌, stop, fld, addr, bin, size_word, returns, enter, alloc_all, pass_all, free_all, look_at, get, through, sets, is, RefMutOf, usize, yes, no, follows, lends_Part, mem, number, layout, Laws, uint_vals, uint_Tells, RattleType, MutRef, mut_vals, mut_Tells, plain, nothing, says, Stays, stay_dropped, Goes-dropped, Goes-spent_ref, ends_at, proved, get_or_default, open_ref, first_at, Ended, at_mul}
+use borrow.Table.Elements.{at, focus_any}
 use Rattle.ring_slots.proofs.CellsInMemory.{Cells, Element, Shell, arguments, array_in, array_out}
 use Rattle.ring_slots.proofs.Filled.{first_item}
 use Rattle.ring_slots.proofs.SlotsInMemory.{product_is}

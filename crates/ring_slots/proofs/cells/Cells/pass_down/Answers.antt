@@ -1,6 +1,4 @@
-use Rattle.ring_slots.proofs.Words.{◌≡◌, ◌+◌, arith}
-use Rattle.std.specs.Prelude.{◌-◌}
-use Rattle.std.proofs.lemmas.Grind.{common_steps}
+use Rattle.ring_slots.proofs.Words.{◌≡◌, ◌+◌, arith, ◌-◌, common_steps}
 use Rattle.ring_slots.proofs.cells.Cells.pass_down.Goals as goal
 
 -- The part that was lent is these.

@@ -1,15 +1,9 @@
 -- A stretch of the array is lent as a slice. The borrow checker doesn't follow a part of an array: the stretch is taken out
 -- of the cells in memory, which close round any items that are written.
-use Rattle.ring_slots.proofs.Words.{◌≡◌, refl, sym, ap, ◌∙◌, List, [], ◌∷◌, ◌++◌, ℕ, zero, ◌+◌, ◌*◌, ◌^◌, ◌<◌, ◌≤◌, mul-le-mul_right, arith, length, length-take, length-drop, length-append, take, cut, take-append-drop, drop-drop, take_front, Ura, named, w64, inst_fn, vptr, vint, SProp, ent, sep, GName, ftrue, flft, size, align, up, ty_array, Logic, sem, cells, ‵, raw, ◌⊛◌, some, given, later, ◌$◌, ◌∵◌, !, qed, by, move, keep, drop, split, split3, join, learn, fsplit3, use1, use2, await, pick, suffices, frame, group, rewrite, done, ◌⊑◌, stop, fld, addr, agg, and_then, no_more, bin, size_word, returns, enter, alloc_all, pass_all, free_all, look_at, get, through, sets, is, RefMutOf, usize, yes, no, follows, mem, number, layout, Laws, uint_vals, uint_Tells, RattleType, MutRef, MutSlice, slice_val, mut_vals, mut_Tells, plain, nothing, says, Stays, stay_dropped, Goes-dropped, Goes-spent_ref, ends_at, proved, Array}
-use types.Mut.{open_ref}
-use denote.FollowSlice.{lends_Elements}
-use denote.Struct.CellSteps.{first_at}
-use denote.Triple.Clauses.{Ended}
-use borrow.Table.Elements.{at, at_mul, cut_app, join_app}
+use Rattle.ring_slots.proofs.Words.{◌≡◌, refl, sym, ap, ◌∙◌, List, [], ◌∷◌, ◌++◌, ℕ, zero, ◌+◌, ◌*◌, ◌^◌, ◌<◌, ◌≤◌, mul-le-mul_right, arith, length, length-take, length-drop, length-append, take, cut, take-append-drop, drop-drop, take_front, Ura, named, w64, inst_fn, vptr, vint, SProp, ent, sep, GName, ftrue, flft, size, align, up, ty_array, Logic, sem, cells, ‵, raw, ◌⊛◌, some, given, later, ◌$◌, ◌∵◌, !, qed, by, move, keep, drop, split, split3, join, learn, fsplit3, use1, use2, await, pick, suffices, frame, group, rewrite, done, ◌⊑◌, stop, fld, addr, agg, and_then, no_more, bin, size_word, returns, enter, alloc_all, pass_all, free_all, look_at, get, through, sets, is, RefMutOf, usize, yes, no, follows, mem, number, layout, Laws, uint_vals, uint_Tells, RattleType, MutRef, MutSlice, slice_val, mut_vals, mut_Tells, plain, nothing, says, Stays, stay_dropped, Goes-dropped, Goes-spent_ref, ends_at, proved, Array, open_ref, lends_Elements, first_at, Ended, at_mul, ◌-◌, rewritten}
+use borrow.Table.Elements.{at, cut_app, join_app}
 use Rattle.ring_slots.proofs.CellsInMemory.{Cells, Element, Shell, arguments, array_in, array_out}
 use Rattle.ring_slots.proofs.SlotsInMemory.{product_is}
-use Rattle.std.specs.Prelude.{◌-◌}
-use Rattle.ring_slots.specs.cells.Lends.{rewritten}
 use Rattle.ring_slots.specs.contracts.cells.Cells.slice_mut as contract
 use Rattle.ring_slots.proofs.cells.Cells.slice_mut.Statement.{statement}
 use Rattle.ring_slots.proofs.cells.Cells.slice_mut.Code as code

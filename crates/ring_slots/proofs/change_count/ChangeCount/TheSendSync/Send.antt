@@ -1,4 +1,4 @@
-use denote.Param.Send.{IsSend}
+use Rattle.ring_slots.proofs.Words.{IsSend}
 use Rattle.ring_slots.proofs.SendSync.{ChangeCount-send}
 use Rattle.ring_slots.specs.contracts.change_count.ChangeCount.{the_row}
 

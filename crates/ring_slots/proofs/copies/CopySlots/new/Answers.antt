@@ -1,5 +1,4 @@
-use Rattle.ring_slots.proofs.Words.{◌≡◌, replicate, None}
-use Rattle.ring_slots.specs.copies.Shown.{shown}
+use Rattle.ring_slots.proofs.Words.{◌≡◌, replicate, None, shown}
 use Rattle.ring_slots.proofs.Shown.{shown-none}
 use Rattle.ring_slots.proofs.copies.CopySlots.new.Goals as goal
 

@@ -1,7 +1,5 @@
-use Rattle.std.proofs.Common.{rules}
-use Rattle.ring_slots.proofs.Words.{◌≡◌, ◌+◌, ◌≤◌, sym, ◌∙◌, arith, length, length-replicate, refl, replicate, true}
-use Rattle.ring_slots.specs.Slots.{filled}
-use Rattle.ring_slots.specs.copies.Shown.{shown}
+use Rattle.ring_slots.proofs.Words.{}
+use Rattle.ring_slots.proofs.Words.{◌≡◌, ◌+◌, ◌≤◌, sym, ◌∙◌, arith, length, length-replicate, refl, replicate, true, rules, filled, shown}
 use Rattle.ring_slots.proofs.Shown.{length-over, length-shown, shown-filled}
 use Rattle.ring_slots.proofs.copies.CopySlots.put_copies.Goals as goal
 

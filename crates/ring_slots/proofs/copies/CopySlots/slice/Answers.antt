@@ -1,5 +1,5 @@
-use Rattle.std.proofs.Common.{rules}
-use Rattle.ring_slots.proofs.Words.{sym, ◌∙◌, arith}
+use Rattle.ring_slots.proofs.Words.{}
+use Rattle.ring_slots.proofs.Words.{sym, ◌∙◌, arith, rules}
 use Rattle.ring_slots.proofs.Shown.{length-shown, stretch-shown}
 use Rattle.ring_slots.proofs.copies.CopySlots.slice.Goals as goal
 

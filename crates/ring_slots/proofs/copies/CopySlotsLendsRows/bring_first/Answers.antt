@@ -1,7 +1,4 @@
-use Rattle.ring_slots.proofs.Words.{◌≡◌, ◌+◌, ◌*◌, ◌≤◌, sym, ap, ◌∙◌, arith, length, IsFullStretch}
-use Rattle.std.specs.Prelude.{◌-◌}
-use Rattle.ring_slots.specs.Slots.{Slots, brought_first}
-use Rattle.ring_slots.specs.copies.Shown.{shown}
+use Rattle.ring_slots.proofs.Words.{◌≡◌, ◌+◌, ◌*◌, ◌≤◌, sym, ap, ◌∙◌, arith, length, IsFullStretch, ◌-◌, Slots, brought_first, shown}
 use Rattle.ring_slots.proofs.Shown.{length-shown}
 use Rattle.ring_slots.proofs.ShownMoved.{shown-brought}
 use Rattle.ring_slots.proofs.copies.CopySlotsLendsRows.bring_first.Goals as goal

@@ -1,7 +1,4 @@
-use Rattle.ring_slots.proofs.Words.{◌≡◌, ◌+◌, ◌*◌, sym, ap, ◌∙◌, arith, length, IsFullStretch}
-use Rattle.std.specs.Prelude.{◌-◌}
-use Rattle.ring_slots.specs.Slots.{Slots, moved_down}
-use Rattle.ring_slots.specs.copies.Shown.{shown}
+use Rattle.ring_slots.proofs.Words.{◌≡◌, ◌+◌, ◌*◌, sym, ap, ◌∙◌, arith, length, IsFullStretch, ◌-◌, Slots, moved_down, shown}
 use Rattle.ring_slots.proofs.Shown.{length-shown}
 use Rattle.ring_slots.proofs.ShownMoved.{shown-moved_down}
 use Rattle.ring_slots.proofs.copies.CopySlotsLendsRows.move_down.Goals as goal

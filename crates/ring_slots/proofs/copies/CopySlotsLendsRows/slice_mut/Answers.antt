@@ -1,8 +1,5 @@
-use Rattle.std.proofs.Common.{rules}
-use Rattle.std.specs.List.{length_refill}
-use Rattle.ring_slots.proofs.Words.{◌≡◌, ◌+◌, ◌≤◌, refl, sym, ◌∙◌, arith, length, take, cut, HoldsStretch, refill, refilled}
-use Rattle.ring_slots.specs.cells.Lends.{rewritten}
-use Rattle.ring_slots.specs.copies.Shown.{shown}
+use Rattle.ring_slots.proofs.Words.{}
+use Rattle.ring_slots.proofs.Words.{◌≡◌, ◌+◌, ◌≤◌, refl, sym, ◌∙◌, arith, length, take, cut, HoldsStretch, refill, refilled, rules, length_refill, rewritten, shown}
 use Rattle.ring_slots.proofs.Shown.{cells-long, length-over, length-shown, stretch-shown}
 use Rattle.ring_slots.proofs.ShownMoved.{shown-rewritten}
 use Rattle.ring_slots.proofs.copies.CopySlotsLendsRows.slice_mut.Goals as goal

@@ -1,5 +1,4 @@
-use Rattle.ring_slots.proofs.Words.{◌≡◌, sym, set, None}
-use Rattle.ring_slots.specs.copies.Shown.{shown}
+use Rattle.ring_slots.proofs.Words.{◌≡◌, sym, set, None, shown}
 use Rattle.ring_slots.proofs.Shown.{shown-take}
 use Rattle.ring_slots.proofs.copies.CopySlotsRingSlots.discard.Goals as goal
 

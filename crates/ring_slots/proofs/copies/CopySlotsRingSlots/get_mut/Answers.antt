@@ -1,5 +1,5 @@
-use Rattle.std.proofs.Common.{rules}
-use Rattle.ring_slots.proofs.Words.{refl, sym, ◌∙◌, arith}
+use Rattle.ring_slots.proofs.Words.{}
+use Rattle.ring_slots.proofs.Words.{refl, sym, ◌∙◌, arith, rules}
 use Rattle.ring_slots.proofs.Shown.{full-item, mark-full, shown-write, within}
 use Rattle.ring_slots.proofs.copies.CopySlotsRingSlots.get_mut.Goals as goal
 

@@ -1,6 +1,5 @@
-use Rattle.std.proofs.Common.{rules}
-use Rattle.ring_slots.proofs.Words.{◌+◌, ◌≤◌, sym, ◌∙◌, arith, length, length-replicate, replicate, true}
-use Rattle.ring_slots.specs.Slots.{passed_down}
+use Rattle.ring_slots.proofs.Words.{}
+use Rattle.ring_slots.proofs.Words.{◌+◌, ◌≤◌, sym, ◌∙◌, arith, length, length-replicate, replicate, true, rules, passed_down}
 use Rattle.ring_slots.proofs.Shown.{length-over, length-shown, shown-passes, down-long}
 use Rattle.ring_slots.proofs.copies.CopySlotsRingSlots.pass_down.Goals as goal
 

@@ -1,6 +1,5 @@
-use Rattle.std.proofs.Common.{rules}
-use Rattle.ring_slots.proofs.Words.{◌≡◌, sym, ◌∙◌, arith, set, Some}
-use Rattle.ring_slots.specs.copies.Shown.{shown}
+use Rattle.ring_slots.proofs.Words.{}
+use Rattle.ring_slots.proofs.Words.{◌≡◌, sym, ◌∙◌, arith, set, Some, rules, shown}
 use Rattle.ring_slots.proofs.Shown.{length-shown, shown-put}
 use Rattle.ring_slots.proofs.copies.CopySlotsRingSlots.put.Goals as goal
 

@@ -1,6 +1,5 @@
-use Rattle.std.proofs.Common.{rules}
-use Rattle.ring_slots.proofs.Words.{◌≡◌, sym, ◌∙◌, arith, set, None}
-use Rattle.ring_slots.specs.copies.Shown.{shown}
+use Rattle.ring_slots.proofs.Words.{}
+use Rattle.ring_slots.proofs.Words.{◌≡◌, sym, ◌∙◌, arith, set, None, rules, shown}
 use Rattle.ring_slots.proofs.Shown.{full-item, shown-take, within}
 use Rattle.ring_slots.proofs.copies.CopySlotsRingSlots.take.Goals as goal
 

@@ -1,5 +1,4 @@
-use Rattle.std.proofs.Common.{rules, ap, arith, length, None, sym, ◌≡◌, ◌<◌, ◌∙◌}
-use Rattle.std.proofs.lemmas.List.{length-replicate}
+use Rattle.ring_slots.proofs.Words.{rules, ap, arith, length, None, sym, ◌≡◌, ◌<◌, ◌∙◌, length-replicate}
 use Rattle.ring_slots.proofs.heap.HeapSlots.new.Goals as goal
 
 -- The block has as many slots as the power of two says.

@@ -1,4 +1,4 @@
-use Rattle.std.proofs.Common.{sym}
+use Rattle.ring_slots.proofs.Words.{sym}
 use Rattle.ring_slots.proofs.SlotsInMemory.{full_stretch}
 use Rattle.ring_slots.proofs.heap.HeapSlotsRingSlots.get.Goals as goal
 
