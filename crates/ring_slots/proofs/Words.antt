@@ -19,6 +19,7 @@ pub use denote.Ref.{MutRef, ShrRef, mut_Tells, mut_vals, shr_Tells, shr_vals}
 pub use denote.Shadow.{pure_i}
 pub use denote.Signature.{mut_ref_to, plain, types_at}
 pub use denote.Steps.{closes, facts, heard, nothing, only, opens, owned, peeks}
+pub use denote.Struct.Owning.{shape, to}
 pub use denote.Struct.Laws.{RawPtr-copy, field_copy, makes, usize-copy}
 pub use denote.Struct.Lending.{Lends, Lends-both, Lends-false, Lends-first, Lends-nothing, Lends-said, of_Lends}
 pub use denote.Struct.Struct.{Struct, Struct-Makes, within}
@@ -65,7 +66,7 @@ pub use Rattle.ring_slots.specs.Slots.{HoldsStretch, IsFullStretch, Passes, Slot
 pub use denote.Array.{Array}
 pub use Rattle.ring_slots.specs.block.Lends.{owner_with}
 pub use Rattle.std.specs.List.{length_refill, refill}
-pub use denote.Param.Send.{IsSend, IsSync}
+pub use denote.Param.Send.{IsSend, IsSync, owning_send, sendable, struct_sync}
 pub use Rattle.std.proofs.lemmas.Grind.{common_steps}
 pub use Rattle.std.proofs.Common.{ext_get_or, rules, slice_index_or, ◌-◌}
 pub use Rattle.ring_slots.specs.cells.Lends.{rewritten}

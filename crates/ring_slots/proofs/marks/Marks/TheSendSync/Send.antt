@@ -1,6 +1,5 @@
-use Rattle.ring_slots.proofs.Words.{IsSend}
-use Rattle.ring_slots.proofs.SendSync.{Marks-send}
-use Rattle.ring_slots.specs.contracts.marks.Marks.{the_row}
+use Rattle.ring_slots.proofs.Words.{IsSend, owning_send}
+use Rattle.ring_slots.specs.contracts.marks.Marks.{the_row, the_type}
 
 pub send : IsSend the_row
-send = Marks-send
+send = owning_send the_type tt (λ d. tt) (λ k d w. tt)

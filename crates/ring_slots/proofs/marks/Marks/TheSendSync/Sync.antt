@@ -1,6 +1,7 @@
 use Rattle.ring_slots.proofs.Words.{IsSync}
-use Rattle.ring_slots.proofs.SendSync.{Marks-sync}
+use denote.Param.Send.{whole-keyless}
 use Rattle.ring_slots.specs.contracts.marks.Marks.{the_row}
+use Rattle.ring_slots.proofs.marks.Marks.TheSendSync.Send.{send}
 
 pub sync : IsSync the_row
-sync = Marks-sync
+sync = record { shared = λ d b o κ q. whole-keyless _ _ send.owned q d b o }
