@@ -1,5 +1,5 @@
 -- Cells that hold every element of a list but one, which is in hand. It goes into a cell beside the gap, and that cell's own is in hand then.
-use Rattle.ring_slots.proofs.Words.{◌≡◌, refl, ap, sym, List, [], ◌∷◌, ◌++◌, ℕ, zero, suc, ◌<◌, arith, length, map, take, cut, get_or, set, Option, IsSome, Some, subst, common_steps}
+use Rattle.ring_slots.proofs.Words.{◌∙◌, ◌≡◌, refl, ap, sym, List, [], ◌∷◌, ◌++◌, ℕ, zero, suc, ◌<◌, arith, length, map, take, cut, get_or, set, Option, IsSome, Some, subst, common_steps}
 
 module _ {X : Type 0} where
   -- the list without its element at a place
@@ -31,22 +31,19 @@ each_full [] i d within = absurd (omega (arith, within))
 each_full (x ∷ xs) zero d within = refl
 each_full (x ∷ xs) (suc i) d within = each_full xs i d (omega (arith, within))
 
-module _ {X : Type 0} (xs : List X) (all cells : List (Option X)) (i : ℕ) (d : Option X) (within : suc i < length all) (full : all ≡ map Some xs) where
-  pub full_above : cells ≡ without all i → IsSome (get_or cells i d)
-  full_above are =
-      let is : get_or cells i d ≡ get_or (map Some xs) (suc i) d = rw (are, ← full) (grind (arith, common_steps)) in
-      subst IsSome (sym is) (each_full xs (suc i) d (subst (λ l. suc i < length l) full within))
+module _ {X : Type 0} (xs : List X) (all : List (Option X)) (full : all ≡ map Some xs) where
+  full_at : (i : ℕ) (d x : Option X) → i < length all → get_or all i d ≡ x → IsSome x
+  full_at i d x within is = subst IsSome (ap (λ l. get_or l i d) (sym full) ∙ is) (each_full xs i d (subst (λ l. i < length l) full within))
 
-  pub full_below : cells ≡ without all (suc i) → IsSome (get_or cells i d)
-  full_below are =
-      let is : get_or cells i d ≡ get_or (map Some xs) i d = rw (are, ← full) (grind (arith, common_steps)) in
-      subst IsSome (sym is) (each_full xs i d (subst (λ l. i < length l) full (omega (arith, within))))
+  pub full_above : (cells : List (Option X)) (i : ℕ) (d : Option X) → suc i < length all → cells ≡ without all i → IsSome (get_or cells i d)
+  full_above cells i d within are = full_at (suc i) d (get_or cells i d) within (rw are (grind (arith, common_steps)))
 
--- of full cells and one more, the one left over is full
-pub last_is_full : {X : Type 0} (zs : List X) (ys : List (Option X)) (over : Option X) → map Some zs ≡ ys ++ over ∷ [] → IsSome over
-last_is_full zs ys over same =
-    let is : get_or (map Some zs) (length ys) over ≡ over = rw same (grind (arith, common_steps)) in
-    subst IsSome is (each_full zs (length ys) over (subst (λ l. length ys < length l) (sym same) (grind (arith, common_steps))))
+  pub full_below : (cells : List (Option X)) (i : ℕ) (d : Option X) → suc i < length all → cells ≡ without all (suc i) → IsSome (get_or cells i d)
+  full_below cells i d within are = full_at i d (get_or cells i d) (omega arith) (rw are (grind (arith, common_steps)))
 
-pub first_is_full : {X : Type 0} (zs : List X) (ys : List (Option X)) (over : Option X) → map Some zs ≡ over ∷ ys → IsSome over
-first_is_full zs ys over same = subst IsSome (ap (λ l. get_or l 0 over) same) (each_full zs 0 over (subst (λ l. 0 < length l) (sym same) (grind (arith, common_steps))))
+  -- with one more put before or after them, the one left over is full
+  pub last_is_full : (ys : List (Option X)) (over : Option X) → all ≡ ys ++ over ∷ [] → IsSome over
+  last_is_full ys over same = full_at (length ys) over over (rw same (grind (arith, common_steps))) (rw same (grind (arith, common_steps)))
+
+  pub first_is_full : (ys : List (Option X)) (over : Option X) → all ≡ over ∷ ys → IsSome over
+  first_is_full ys over same = full_at 0 over over (omega (arith, ap length same)) (ap (λ l. get_or l 0 over) same)

@@ -1,6 +1,19 @@
 -- What slots of plain items show, once cells are written or marks change.
-use Rattle.ring_slots.proofs.Words.{drop-drop, take-append-drop, ◌≡◌, refl, sym, ap, ◌∙◌, Bool, true, false, List, [], ◌∷◌, ◌++◌, ℕ, zero, suc, ◌+◌, ◌<◌, ◌≤◌, arith, length, get_or, length-append, length-drop, length-replicate, length-take, replicate, set, take, cut, map, None, Some, IsSome, HoldsStretch, IsFullStretch, slice_get-get_or, if◌then◌else◌, slice_get, Passes, filled, shown}
+use Rattle.ring_slots.proofs.Words.{passed_up, passed_down, drop-drop, take-append-drop, ◌≡◌, refl, sym, ap, ◌∙◌, Bool, true, false, List, [], ◌∷◌, ◌++◌, ℕ, zero, suc, ◌+◌, ◌<◌, ◌≤◌, arith, length, get_or, length-append, length-drop, length-replicate, length-take, replicate, set, take, cut, map, None, Some, IsSome, HoldsStretch, IsFullStretch, slice_get-get_or, if◌then◌else◌, slice_get, Passes, filled, shown}
 use Rattle.ring_slots.proofs.SlotsInMemory.{full_within, item_of, stretch_long}
+
+-- marks that are all set to full
+pub all_marked : (n : ℕ) → replicate n true ++ cut n (replicate n false) ≡ replicate n true
+all_marked zero = refl
+all_marked (suc n) = ap (λ l. true ∷ l) (all_marked n)
+
+-- a list is what comes before a stretch of it, the stretch, and what comes after
+pub in_three : {A : Type 0} (xs : List A) (from n : ℕ) → xs ≡ take from xs ++ (take n (cut from xs) ++ cut (from + n) xs)
+in_three xs from n = sym (take-append-drop from xs) ∙ ap (λ l. take from xs ++ l) (sym (take-append-drop n (cut from xs)) ∙ rw (drop-drop n from xs) refl)
+
+-- elements written over a stretch of others leave as many
+pub length-over : {A : Type 0} (xs ys : List A) (from n : ℕ) → length ys ≡ n → from + n ≤ length xs → length (take from xs ++ (ys ++ cut (from + n) xs)) ≡ length xs
+length-over xs ys from n long low = omega (arith, length-append (take from xs) (ys ++ cut (from + n) xs), length-append ys (cut (from + n) xs), length-take from xs, length-drop (from + n) xs)
 
 module _ {X : Type 0} where
   pub shown-nil : (fs : List Bool) → shown {X = X} fs [] ≡ []
@@ -87,40 +100,16 @@ module _ {X : Type 0} where
   shown-none zero x = refl
   shown-none (suc n) x = ap (λ l. None ∷ l) (shown-none n x)
 
-  -- cells that are all shown
-  all-shown : (fs : List Bool) (xs ys : List X) → length fs ≡ length xs → shown fs xs ≡ map Some ys → xs ≡ ys
-  all-shown [] [] [] same is = refl
+  -- cells that are all shown have the items, and all their marks are set
+  all-shown : (fs : List Bool) (xs ys : List X) → length fs ≡ length xs → shown fs xs ≡ map Some ys → (fs ≡ replicate (length xs) true) × (xs ≡ ys)
+  all-shown [] [] [] same is = (refl, refl)
   all-shown [] [] (y ∷ ys) same is = cc
   all-shown [] (x ∷ xs) ys same is = absurd (omega arith)
   all-shown (f ∷ fs) [] ys same is = absurd (omega arith)
   all-shown (f ∷ fs) (x ∷ xs) [] same is = cc
   all-shown (true ∷ fs) (x ∷ xs) (y ∷ ys) same is =
-      let rest = all-shown fs xs ys (omega arith) (ap (cut 1) is) in let first : Some x ≡ Some y = cc in cc
+      let (marks, items) = all-shown fs xs ys (omega arith) (ap (cut 1) is) in let first : Some x ≡ Some y = cc in (ap (λ l. true ∷ l) marks, cc)
   all-shown (false ∷ fs) (x ∷ xs) (y ∷ ys) same is = let first : None ≡ Some y = cc in cc
-
-  -- and so are their marks set to full
-  all-marked : (fs : List Bool) (xs ys : List X) → length fs ≡ length xs → shown fs xs ≡ map Some ys → fs ≡ replicate (length xs) true
-  all-marked [] [] ys same is = refl
-  all-marked [] (x ∷ xs) ys same is = absurd (omega arith)
-  all-marked (f ∷ fs) [] ys same is = absurd (omega arith)
-  all-marked (f ∷ fs) (x ∷ xs) [] same is = cc
-  all-marked (true ∷ fs) (x ∷ xs) (y ∷ ys) same is = ap (λ l. true ∷ l) (all-marked fs xs ys (omega arith) (ap (cut 1) is))
-  all-marked (false ∷ fs) (x ∷ xs) (y ∷ ys) same is = let first : None ≡ Some y = cc in cc
-
-  pub stretch-marked : (fs : List Bool) (xs : List X) (from len : ℕ) → length fs ≡ length xs → IsFullStretch (shown fs xs) from len → take len (cut from fs) ≡ replicate len true
-  stretch-marked fs xs from len same full =
-      let parts : take len (cut from (shown fs xs)) ≡ shown (take len (cut from fs)) (take len (cut from xs)) = rw (shown-cut from fs xs) (shown-front len (cut from fs) (cut from xs)) in
-      let long : length (take len (cut from fs)) ≡ length (take len (cut from xs)) = omega (arith, length-take len (cut from fs), length-take len (cut from xs), length-drop from fs, length-drop from xs) in
-      let count : length (take len (cut from xs)) ≡ len = omega (arith, full.0, length-shown fs xs same, length-take len (cut from xs), length-drop from xs) in
-      all-marked (take len (cut from fs)) (take len (cut from xs)) full.1.0 long (sym parts ∙ full.1.1) ∙ ap (λ k. replicate k true) count
-
-  -- a full stretch shows its cells
-  pub stretch-shown : (fs : List Bool) (xs : List X) (from len : ℕ) → length fs ≡ length xs → IsFullStretch (shown fs xs) from len → HoldsStretch (shown fs xs) from len (take len (cut from xs))
-  stretch-shown fs xs from len same full =
-      let parts : take len (cut from (shown fs xs)) ≡ shown (take len (cut from fs)) (take len (cut from xs)) = rw (shown-cut from fs xs) (shown-front len (cut from fs) (cut from xs)) in
-      let long : length (take len (cut from fs)) ≡ length (take len (cut from xs)) = omega (arith, length-take len (cut from fs), length-take len (cut from xs), length-drop from fs, length-drop from xs) in
-      let are = all-shown (take len (cut from fs)) (take len (cut from xs)) full.1.0 long (sym parts ∙ full.1.1) in
-      full.1.1 ∙ ap (map Some) (sym are)
 
   -- items written over a stretch of cells, whose marks are set to full
   pub shown-filled : (fs : List Bool) (xs : List X) (from : ℕ) (ys : List X) → length fs ≡ length xs
@@ -131,33 +120,39 @@ module _ {X : Type 0} where
       let inner = shown-append (replicate n true) (cut (from + n) fs) ys (cut (from + n) xs) (length-replicate n true) in
       rw (outer, inner, shown-all ys, shown-front from fs xs, shown-cut (from + n) fs xs) refl
 
-  -- items passed along a full stretch, each by one change
-  pub shown-passes : (fs marks : List Bool) (xs new ys : List X) (from len : ℕ) (passed : List X → List X → Type 0) → length fs ≡ length xs → IsFullStretch (shown fs xs) from len
-      → marks ≡ take from fs ++ (replicate len true ++ cut (from + len) fs) → new ≡ take from xs ++ (ys ++ cut (from + len) xs) → length ys ≡ len → passed (take len (cut from xs)) ys
-      → (cap changes counted : ℕ) → counted ≡ changes + len
-      → Passes (record { slots = shown fs xs; changes = changes; capacity = cap }) (record { slots = shown marks new; changes = counted; capacity = cap }) from len passed
-  shown-passes fs marks xs new ys from len passed same full marked written long order cap changes counted count =
-      (take len (cut from xs), ys, stretch-shown fs xs from len same full, order, rw (marked, written, count, sym long) (λ i. record { slots = shown-filled fs xs from ys same i; changes = changes + length ys; capacity = cap }))
+  module _ (fs : List Bool) (xs : List X) (from len : ℕ) (same : length fs ≡ length xs) (full : IsFullStretch (shown fs xs) from len) where
+    stretch : (take len (cut from fs) ≡ replicate (length (take len (cut from xs))) true) × (take len (cut from xs) ≡ full.1.0)
+    stretch =
+        let parts : take len (cut from (shown fs xs)) ≡ shown (take len (cut from fs)) (take len (cut from xs)) = rw (shown-cut from fs xs) (shown-front len (cut from fs) (cut from xs)) in
+        all-shown (take len (cut from fs)) (take len (cut from xs)) full.1.0
+        (omega (arith, length-take len (cut from fs), length-take len (cut from xs), length-drop from fs, length-drop from xs)) (sym parts ∙ full.1.1)
 
-  -- as many items are passed on as stood in a full stretch
-  pub cells-long : (fs : List Bool) (xs : List X) (from len : ℕ) → length fs ≡ length xs → IsFullStretch (shown fs xs) from len → length (take len (cut from xs)) ≡ len
-  cells-long fs xs from len same full = stretch_long (shown fs xs) from len (take len (cut from xs)) full.0 (stretch-shown fs xs from len same full)
+    -- a full stretch shows its cells
+    pub stretch-shown : HoldsStretch (shown fs xs) from len (take len (cut from xs))
+    stretch-shown = full.1.1 ∙ ap (map Some) (sym stretch.1)
 
-  pub up-long : (fs : List Bool) (xs ys : List X) (from len : ℕ) (item over : X) → length fs ≡ length xs → IsFullStretch (shown fs xs) from len → item ∷ take len (cut from xs) ≡ ys ++ over ∷ [] → length ys ≡ len
-  up-long fs xs ys from len item over same full passed = omega (arith, cells-long fs xs from len same full, ap length passed, length-append ys (over ∷ []))
+    pub cells-long : length (take len (cut from xs)) ≡ len
+    cells-long = stretch_long (shown fs xs) from len (take len (cut from xs)) full.0 stretch-shown
 
-  pub down-long : (fs : List Bool) (xs ys : List X) (from len : ℕ) (item over : X) → length fs ≡ length xs → IsFullStretch (shown fs xs) from len → take len (cut from xs) ++ item ∷ [] ≡ over ∷ ys → length ys ≡ len
-  down-long fs xs ys from len item over same full passed = omega (arith, cells-long fs xs from len same full, ap length passed, length-append (take len (cut from xs)) (item ∷ []))
+    pub stretch-marked : take len (cut from fs) ≡ replicate len true
+    stretch-marked = stretch.0 ∙ ap (λ k. replicate k true) cells-long
 
--- marks that are all set to full
-pub all_marked : (n : ℕ) → replicate n true ++ cut n (replicate n false) ≡ replicate n true
-all_marked zero = refl
-all_marked (suc n) = ap (λ l. true ∷ l) (all_marked n)
+    -- as many items are passed on as stood there
+    pub up-long : (ys : List X) (item over : X) → passed_up item over (take len (cut from xs)) ys → length ys ≡ len
+    up-long ys item over passed = omega (arith, cells-long, ap length passed, length-append ys (over ∷ []))
 
--- a list is what comes before a stretch of it, the stretch, and what comes after
-pub in_three : {A : Type 0} (xs : List A) (from n : ℕ) → xs ≡ take from xs ++ (take n (cut from xs) ++ cut (from + n) xs)
-in_three xs from n = sym (take-append-drop from xs) ∙ ap (λ l. take from xs ++ l) (sym (take-append-drop n (cut from xs)) ∙ rw (drop-drop n from xs) refl)
+    pub down-long : (ys : List X) (item over : X) → passed_down item over (take len (cut from xs)) ys → length ys ≡ len
+    down-long ys item over passed = omega (arith, cells-long, ap length passed, length-append (take len (cut from xs)) (item ∷ []))
 
--- elements written over a stretch of others leave as many
-pub length-over : {A : Type 0} (xs ys : List A) (from n : ℕ) → length ys ≡ n → from + n ≤ length xs → length (take from xs ++ (ys ++ cut (from + n) xs)) ≡ length xs
-length-over xs ys from n long low = omega (arith, length-append (take from xs) (ys ++ cut (from + n) xs), length-append ys (cut (from + n) xs), length-take from xs, length-drop (from + n) xs)
+    -- items passed along it, each by one change
+    module _ (marks : List Bool) (new ys : List X) (long : length ys ≡ len)
+        (marked : marks ≡ take from fs ++ (replicate len true ++ cut (from + len) fs)) (written : new ≡ take from xs ++ (ys ++ cut (from + len) xs)) where
+      pub length-passed : (length new ≡ length xs) × (length marks ≡ length fs)
+      length-passed =
+          let low : from + len ≤ length xs = omega (arith, full.0, length-shown fs xs same) in
+          (rw written (length-over xs ys from len long low), rw marked (length-over fs (replicate len true) from len (length-replicate len true) (omega (arith, low, same))))
+
+      pub shown-passes : (passed : List X → List X → Type 0) → passed (take len (cut from xs)) ys → (cap changes counted : ℕ) → counted ≡ changes + len
+          → Passes (record { slots = shown fs xs; changes = changes; capacity = cap }) (record { slots = shown marks new; changes = counted; capacity = cap }) from len passed
+      shown-passes passed order cap changes counted count =
+          (take len (cut from xs), ys, stretch-shown, order, rw (marked, written, count, sym long) (λ i. record { slots = shown-filled fs xs from ys same i; changes = changes + length ys; capacity = cap }))

@@ -1,6 +1,5 @@
-use Rattle.ring_slots.proofs.Words.{}
-use Rattle.ring_slots.proofs.Words.{◌+◌, ◌≤◌, sym, ◌∙◌, arith, length, length-replicate, replicate, true, rules, passed_down}
-use Rattle.ring_slots.proofs.Shown.{length-over, length-shown, shown-passes, down-long}
+use Rattle.ring_slots.proofs.Words.{sym, ◌∙◌, arith, passed_down, rules}
+use Rattle.ring_slots.proofs.Shown.{length-passed, length-shown, shown-passes, down-long}
 use Rattle.ring_slots.proofs.copies.CopySlotsRingSlots.pass_down.Goals as goal
 
 pub pass_down-requires : goal.pass_down-requires
@@ -11,14 +10,13 @@ pass_down-requires g c =
 pub invariant_of-self : goal.invariant_of-self
 invariant_of-self g c =
     let fs = c.self.inside.marks.full in let xs = c.self.inside.cells.xs in let same = c.self.invariant.1 ∙ sym c.self.invariant.0 in let full = rw (sym c.self.view_is) at c.requires in
-    let (ys, passed, after) = c.pass_down.ensures in let from = c.args.from in let len = c.args.len in
-    let low : from + len ≤ length xs = omega (arith, full.0, length-shown fs xs same) in
-    let long = down-long fs xs ys from len c.args.item c.pass_down.result same full passed in
-    (rw after (length-over xs ys from len long low ∙ c.self.invariant.0), rw c.marked-self-inside.ensures (length-over fs (replicate len true) from len (length-replicate len true) (omega (arith, low, same)) ∙ c.self.invariant.1))
+    let (ys, passed, after) = c.pass_down.ensures in let long = down-long fs xs c.args.from c.args.len same full ys c.args.item c.pass_down.result passed in
+    let kept = length-passed fs xs c.args.from c.args.len same full c.marked-self-inside.result.full c.pass_down.new.self.xs ys long c.marked-self-inside.ensures after in
+    (kept.0 ∙ c.self.invariant.0, kept.1 ∙ c.self.invariant.1)
 
 pub returns : goal.returns
 returns g c =
     let fs = c.self.inside.marks.full in let xs = c.self.inside.cells.xs in let same = c.self.invariant.1 ∙ sym c.self.invariant.0 in let full = rw (sym c.self.view_is) at c.requires in
-    let (ys, passed, after) = c.pass_down.ensures in let from = c.args.from in let len = c.args.len in
-    let long = down-long fs xs ys from len c.args.item c.pass_down.result same full passed in
-    rw (sym c.self.view_is) (shown-passes fs c.marked-self-inside.result.full xs c.pass_down.new.self.xs ys from len (passed_down c.args.item c.pass_down.result) same full c.marked-self-inside.ensures after long passed g.row.CAP c.self.inside.changes.count c.after-self-inside.result.count c.after-self-inside.ensures)
+    let (ys, passed, after) = c.pass_down.ensures in let long = down-long fs xs c.args.from c.args.len same full ys c.args.item c.pass_down.result passed in
+    rw (sym c.self.view_is) (shown-passes fs xs c.args.from c.args.len same full c.marked-self-inside.result.full c.pass_down.new.self.xs ys long c.marked-self-inside.ensures after
+    (passed_down c.args.item c.pass_down.result) passed g.row.CAP c.self.inside.changes.count c.after-self-inside.result.count c.after-self-inside.ensures)
