@@ -14,7 +14,7 @@ pub use denote.Param.{ArrayAt, bounded, layout, layouts, number, param}
 pub use denote.Param.Laws.{Laws, number_array_laws, param_laws}
 pub use denote.Plain.{bool_Tells, bool_vals, uint_Tells, uint_vals}
 pub use denote.RattleType.{RattleType, RowLaws, Valss, owns}
-pub use denote.RawPtr.{Ptr, RawPtr, block_ptr, in_a_block, null_ptr, ptr_row_laws, ptr_val, room_for}
+pub use denote.RawPtr.{Ptr, RawPtr, block_ptr, in_a_block, null_ptr, ptr_row_laws, ptr_val, rawptr_Tells, rawptr_vals, room_for}
 pub use denote.Ref.{MutRef, ShrRef, mut_Tells, mut_vals, shr_Tells, shr_vals}
 pub use denote.Shadow.{pure_i}
 pub use denote.Signature.{mut_ref_to, plain, types_at}
@@ -26,7 +26,7 @@ pub use denote.Struct.Struct.{Struct, Struct-Makes, within}
 pub use denote.Triple.Call.{calls_at, calls_at_last}
 pub use denote.Triple.Entry.{Vals, alive, on_entry}
 pub use denote.Triple.Table.{framed}
-pub use denote.Triple.Walked.{Goes-dropped, Goes-none_ref, Goes-ref, Goes-spent_ref, Stays, ends_at, says, stay_dropped, stay_none_ref, stay_ref, walk_of}
+pub use denote.Triple.Walked.{Goes, Goes-dropped, Goes-none_ref, Goes-ref, Goes-spent_ref, Stays, ends_at, says, stay_dropped, stay_none_ref, stay_ref, walk_of, Stay}
 pub use lib.Dec.{T, eqb, eqb→eq, lit<}
 pub use lib.ListN.{drop as cut, get_or, length, length-append, length-drop, length-replicate, length-set, length-take, replicate, set, take, take-append-drop}
 pub use mathlib.Core.Bool.{Bool, false, true}
@@ -86,3 +86,17 @@ pub use Rattle.core.proofs.slots.Opens.{row_val}
 pub use denote.Struct.CellSteps.{first_at}
 pub use denote.Triple.Clauses.{Ended}
 pub use borrow.Table.Elements.{at_mul}
+
+-- nothing is had of a number at exit, or of a pointer, and nothing is said of it then
+abbrev pub stay_number : {n : ℕ} → Stay {n = n} (plain (λ _. usize)) yes
+stay_number = stay_dropped (plain (λ _. usize)) yes
+
+abbrev pub stay_pointer : {n : ℕ} → Stay {n = n} (plain (λ _. RawPtr)) yes
+stay_pointer = stay_dropped (plain (λ _. RawPtr)) yes
+
+module _ {M : Type 1} {𝓤 : Ura M} (𝓛 : Logic 𝓤) (n : ℕ) where
+  pub Goes-number : Goes 𝓛 n (plain (λ _. usize)) yes stay_number
+  Goes-number = Goes-dropped 𝓛 n (plain (λ _. usize)) yes (λ κs x w. refl)
+
+  pub Goes-pointer : Goes 𝓛 n (plain (λ _. RawPtr)) yes stay_pointer
+  Goes-pointer = Goes-dropped 𝓛 n (plain (λ _. RawPtr)) yes (λ κs x w. refl)

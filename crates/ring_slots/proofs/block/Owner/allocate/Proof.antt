@@ -1,5 +1,5 @@
 -- The new block is room for the items, which is a row of empty slots. The right to free it stays beside the row.
-use Rattle.ring_slots.proofs.Words.{refl, sym, ap, Bool, true, false, [], ◌∷◌, ◌*◌, ◌<◌, ◌^◌, arith, lit<, replicate, Fn, a_type, w64, ty_array, inst_fn, Val, WT, vint, vstruct, vcons, vnil, SProp, ftrue, flft, capped_fits, align, capped, Env, Wp, after_seq, at_return, any_q, ‵, raw, ◌⊛◌, later, at_ret, ◌$◌, ◌∵◌, !, qed, move, keep, drop, use1, use2, await, split, join, rewrite, suffices, frame, fjoin, done, live, vrt, in_variant, whole, agg, stop, fld, lit, from, addr, of_opd, bin, size_word, align_word, no_more, and_then, first, switches_on, exec, returns, enter, alloc_all, pass_all, free_all, look_at, get, get_in, get_tag, is, sets, sets_last, take_at, give_at, lands_as, env, ◌⊑◌, fact, tables, usize, yes, Is, layout, layouts, uint_vals, uint_Tells, RattleType, owns, block_ptr, plain, types_at, nothing, heard, owned, Struct, Struct-Makes, calls_at, Vals, framed, says, Stays, stay_dropped, Goes-dropped, walk_of, ends_at, None, Ok, Err, type_size, as_written, after, head, arm_body, Answer-typed, Answered, answers, proved, Body, row, right_if}
+use Rattle.ring_slots.proofs.Words.{Goes-number, stay_number, refl, sym, ap, Bool, true, false, [], ◌∷◌, ◌*◌, ◌<◌, ◌^◌, arith, lit<, replicate, Fn, a_type, w64, ty_array, inst_fn, Val, WT, vint, vstruct, vcons, vnil, SProp, ftrue, flft, capped_fits, align, capped, Env, Wp, after_seq, at_return, any_q, ‵, raw, ◌⊛◌, later, at_ret, ◌$◌, ◌∵◌, !, qed, move, keep, drop, use1, use2, await, split, join, rewrite, suffices, frame, fjoin, done, live, vrt, in_variant, whole, agg, stop, fld, lit, from, addr, of_opd, bin, size_word, align_word, no_more, and_then, first, switches_on, exec, returns, enter, alloc_all, pass_all, free_all, look_at, get, get_in, get_tag, is, sets, sets_last, take_at, give_at, lands_as, env, ◌⊑◌, fact, tables, usize, yes, Is, layout, layouts, uint_vals, uint_Tells, RattleType, owns, block_ptr, plain, types_at, nothing, heard, owned, Struct, Struct-Makes, calls_at, Vals, framed, says, Stays, stay_dropped, Goes-dropped, walk_of, ends_at, None, Ok, Err, type_size, as_written, after, head, arm_body, Answer-typed, Answered, answers, proved, Body, row, right_if}
 use types.Kit.{Post as After}
 use denote.Struct.Declared as Declared
 use Rattle.std.specs.Vec.Ownership.{FitsInBlock}
@@ -20,13 +20,13 @@ pub allocate_spec : {M : Type 1} → statement M
 allocate_spec 𝓤 𝓛 𝓜 𝓡 wired X L =
     let clauses = contract.clauses X 𝓛 𝓜.mem 𝓡.returns in
     let ended = contract.ended X in
-    let stayed : Stays ended.signature.params ended.kept = (stay_dropped (plain (λ _. heap.the_row)) yes, (stay_dropped (plain (λ _. usize)) yes, tt)) in
+    let stayed : Stays ended.signature.params ended.kept = (stay_dropped (plain (λ _. heap.the_row)) yes, (stay_number, tt)) in
     let fn : Fn = inst_fn (layouts (a_type ∷ []) (X, tt)) code.function in
     let 𝓣 = tables 𝓤 𝓛.H 𝓜 𝓡 𝓡.env in
     let Refusal : RattleType = Struct (Declared.shape refusal.the_type) in
     let Out : RattleType = result.the_row (Three X) refusal.the_row in
     proved 𝓛 ended stayed clauses 𝓜 𝓡
-    (Goes-dropped 𝓛 1 (plain (λ _. heap.the_row)) yes (λ κs x w. refl), (Goes-dropped 𝓛 1 (plain (λ _. usize)) yes (λ κs x w. refl), tt))
+    (Goes-dropped 𝓛 1 (plain (λ _. heap.the_row)) yes (λ κs x w. refl), (Goes-number 𝓛 1, tt))
     (contract.Key.name (layouts (a_type ∷ []) (X, tt))) fn (code.unfolded 𝓤 𝓛.H 𝓜 𝓡 wired (X, tt))
     (λ κs. ((λ h. heap_laws.lowered h ∷ []), (uint_vals w64, tt))) (λ κs. (heap_laws.lowers.val_is, (uint_Tells w64, tt))) (λ κs qs bounds a _ are.
     let alloc = a.0 in let n = a.1.0 in let fits = are.1.0.1 in let τ = layout X in let bytes = type_size (R X) in let al = capped (align τ) in

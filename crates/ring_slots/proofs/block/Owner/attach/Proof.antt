@@ -1,5 +1,5 @@
 -- The row becomes slots again, which the owner closes over.
-use Rattle.ring_slots.proofs.Words.{◌≡◌, refl, sym, subst, ◌∙◌, List, [], ◌∷◌, ◌++◌, ℕ, ◌*◌, ◌^◌, ◌<◌, length, Fn, a_type, named, inst_fn, Val, vptr, vunit, SProp, Bool, ftrue, flft, WpFn, ‵, raw, ◌⊛◌, given, later, learn, await, prop, at_ret, ◌$◌, ◌∵◌, !, qed, move, keep, drop, use1, use2, split, split3, join, fsplit, fsplit3, fjoin, fjoin3, feq_i, feq_l, flt_l, regoal, suffices, frame, done, unit_lit, of_opd, and_then, no_more, first, blocks, exec, returns, enter, alloc_all, pass_all, free_all, look_at, get, sets, lands_last, env, ◌⊑◌, fact, tables, usize, yes, no, layouts, RattleType, MutRef, plain, nothing, heard, says, Stays, stay_dropped, stay_ref, Goes-dropped, Goes-ref, walk_of, ends_at, calls_at_last, framed, type_size, after, proved_at, row, row_val}
+use Rattle.ring_slots.proofs.Words.{Goes-number, stay_number, ◌≡◌, refl, sym, subst, ◌∙◌, List, [], ◌∷◌, ◌++◌, ℕ, ◌*◌, ◌^◌, ◌<◌, length, Fn, a_type, named, inst_fn, Val, vptr, vunit, SProp, Bool, ftrue, flft, WpFn, ‵, raw, ◌⊛◌, given, later, learn, await, prop, at_ret, ◌$◌, ◌∵◌, !, qed, move, keep, drop, use1, use2, split, split3, join, fsplit, fsplit3, fjoin, fjoin3, feq_i, feq_l, flt_l, regoal, suffices, frame, done, unit_lit, of_opd, and_then, no_more, first, blocks, exec, returns, enter, alloc_all, pass_all, free_all, look_at, get, sets, lands_last, env, ◌⊑◌, fact, tables, usize, yes, no, layouts, RattleType, MutRef, plain, nothing, heard, says, Stays, stay_dropped, stay_ref, Goes-dropped, Goes-ref, walk_of, ends_at, calls_at_last, framed, type_size, after, proved_at, row, row_val}
 use Rattle.core.specs.Mem.Slots.{slots_counts, slots_filled, slots_items, slots_len, slots_ptr}
 use Rattle.core.specs.contracts.slots.Slots as C
 use Rattle.core.proofs.slots.Opens.{row_had, row_made}
@@ -13,7 +13,7 @@ use Rattle.ring_slots.proofs.block.Owner.attach.Statement.{statement}
 use Rattle.ring_slots.proofs.block.Owner.attach.Code as code
 
 abbrev stayed : (X : RattleType) → Stays (contract.ended X).signature.params (contract.ended X).kept
-stayed X = (stay_ref (0 ∷ []) tt (plain (λ _. Seen X)), (stay_dropped (plain (λ _. C.the_row (R X))) no, (stay_dropped (plain (λ _. usize)) yes, tt)))
+stayed X = (stay_ref (0 ∷ []) tt (plain (λ _. Seen X)), (stay_dropped (plain (λ _. C.the_row (R X))) no, (stay_number, tt)))
 
 pub attach_spec : {M : Type 1} → statement M
 attach_spec 𝓤 𝓛 𝓜 𝓡 wired X L =
@@ -21,7 +21,7 @@ attach_spec 𝓤 𝓛 𝓜 𝓡 wired X L =
     let args = layouts (a_type ∷ []) (X, tt) in let fn : Fn = inst_fn args code.function in
     let 𝓣 = tables 𝓤 𝓛.H 𝓜 𝓡 𝓡.env in let E = items_of X L in
     proved_at 𝓛 (contract.ended X) (stayed X) clauses 𝓜 𝓡
-    (Goes-ref 𝓛 2 0 tt (plain (λ _. Seen X)), (Goes-dropped 𝓛 2 (plain (λ _. Row E)) no (λ κs x w. refl), (Goes-dropped 𝓛 2 (plain (λ _. usize)) yes (λ κs x w. refl), tt)))
+    (Goes-ref 𝓛 2 0 tt (plain (λ _. Seen X)), (Goes-dropped 𝓛 2 (plain (λ _. Row E)) no (λ κs x w. refl), (Goes-number 𝓛 2, tt)))
     (contract.Key.name args) fn (code.unfolded 𝓤 𝓛.H 𝓜 𝓡 wired (X, tt)) (λ y _.
     let κs = y.0.0 in let qs = y.0.1 in let a = y.0.3 in let vss = y.0.4 in let κ = κs.1.0 in let q = qs.1.0 in
     let rb = a.0.ref_ptr.0 in let ro = a.0.ref_ptr.1 in let d = a.0.now in let r : (Row E).Denot = a.1.0 in let len = a.1.1.0 in

@@ -1,5 +1,5 @@
 -- The row of empty slots is memory again, which goes back to the heap with the right to free it.
-use Rattle.ring_slots.proofs.Words.{◌≡◌, refl, sym, ap, subst, ◌∙◌, Bool, List, [], ◌∷◌, ◌++◌, ℕ, ◌*◌, ◌<◌, ◌^◌, arith, T, length, replicate, length-replicate, Fn, a_type, w64, ty_array, ty_unit, inst_fn, Val, vint, vunit, has_ty, WT, SProp, never, id⊢, ftrue, froom, flft, capped_fits, align, capped, WpFn, ‵, raw, ◌⊛◌, later, given, prop, at_ret, ◌$◌, ◌∵◌, !, qed, move, keep, drop, use1, learn, await, split, join, split3, fsplit, feq_l, flt_l, rewrite, regoal, suffices, group, fjoin, feq_i, done, stop, from, addr, of_opd, bin, size_word, align_word, unit_lit, no_more, and_then, first, blocks, exec, returns, enter, alloc_all, pass_all, free_all, look_at, get, is, sets, take_at, give_at, lands_last, env, ◌⊑◌, fact, tables, usize, yes, no, layout, layouts, Is, shows, Ptr, RawPtr, block_ptr, ptr_val, in_a_block, plain, nothing, heard, peeks, calls_at_last, framed, Stays, stay_dropped, Goes-dropped, walk_of, ends_at, Option, None, type_size, Global, as_raw, after, Goes-blank, proved_at, right, right_if}
+use Rattle.ring_slots.proofs.Words.{Goes-number, Goes-pointer, stay_number, stay_pointer, ◌≡◌, refl, sym, ap, subst, ◌∙◌, Bool, List, [], ◌∷◌, ◌++◌, ℕ, ◌*◌, ◌<◌, ◌^◌, arith, T, length, replicate, length-replicate, Fn, a_type, w64, ty_array, ty_unit, inst_fn, Val, vint, vunit, has_ty, WT, SProp, never, id⊢, ftrue, froom, flft, capped_fits, align, capped, WpFn, ‵, raw, ◌⊛◌, later, given, prop, at_ret, ◌$◌, ◌∵◌, !, qed, move, keep, drop, use1, learn, await, split, join, split3, fsplit, feq_l, flt_l, rewrite, regoal, suffices, group, fjoin, feq_i, done, stop, from, addr, of_opd, bin, size_word, align_word, unit_lit, no_more, and_then, first, blocks, exec, returns, enter, alloc_all, pass_all, free_all, look_at, get, is, sets, take_at, give_at, lands_last, env, ◌⊑◌, fact, tables, usize, yes, no, layout, layouts, Is, shows, Ptr, RawPtr, block_ptr, ptr_val, in_a_block, plain, nothing, heard, peeks, calls_at_last, framed, Stays, stay_dropped, Goes-dropped, walk_of, ends_at, Option, None, type_size, Global, as_raw, after, Goes-blank, proved_at, right, right_if}
 use Rattle.std.specs.contracts.alloc.Global as heap
 use Rattle.std.proofs.alloc.Global.TheLaws as heap_laws
 use Rattle.std.proofs.impls.GlobalAllocator.deallocate.Met.{met}
@@ -16,19 +16,11 @@ pub deallocate_spec : {M : Type 1} → statement M
 deallocate_spec 𝓤 𝓛 𝓜 𝓡 wired X L =
     let clauses = contract.clauses X 𝓛 𝓜.mem 𝓡.returns in
     let ended = contract.ended X in
-    let stayed : Stays ended.signature.params ended.kept = (stay_dropped (plain (λ _. heap.the_row)) yes, (stay_dropped (plain (λ _. RawPtr)) yes, (stay_dropped (plain (λ _. usize)) yes, (stay_dropped (plain (λ _. Seen X)) no, (stay_dropped (plain (λ _. Right X)) no, tt))))) in
+    let stayed : Stays ended.signature.params ended.kept = (stay_dropped (plain (λ _. heap.the_row)) yes, (stay_pointer, (stay_number, (stay_dropped (plain (λ _. Seen X)) no, (stay_dropped (plain (λ _. Right X)) no, tt))))) in
     let fn : Fn = inst_fn (layouts (a_type ∷ []) (X, tt)) code.function in
     let 𝓣 = tables 𝓤 𝓛.H 𝓜 𝓡 𝓡.env in
-    proved_at 𝓛 ended stayed clauses 𝓜 𝓡 (
-      Goes-dropped 𝓛 1 (plain (λ _. heap.the_row)) yes (λ κs x w. refl),
-      (
-        Goes-dropped 𝓛 1 (plain (λ _. RawPtr)) yes (λ κs x w. refl),
-        (
-          Goes-dropped 𝓛 1 (plain (λ _. usize)) yes (λ κs x w. refl),
-          (Goes-blank 𝓛 1 (plain (λ _. Seen X)) no (λ κs x w. tt), (Goes-blank 𝓛 1 (plain (λ _. Right X)) no (λ κs x w. tt), tt)),
-        ),
-      ),
-    )
+    proved_at 𝓛 ended stayed clauses 𝓜 𝓡
+    (Goes-dropped 𝓛 1 (plain (λ _. heap.the_row)) yes (λ κs x w. refl), (Goes-pointer 𝓛 1, (Goes-number 𝓛 1, (Goes-blank 𝓛 1 (plain (λ _. Seen X)) no (λ κs x w. tt), (Goes-blank 𝓛 1 (plain (λ _. Right X)) no (λ κs x w. tt), tt)))))
     (contract.Key.name (layouts (a_type ∷ []) (X, tt))) fn (code.unfolded 𝓤 𝓛.H 𝓜 𝓡 wired (X, tt)) (λ y _.
     let κ = y.0.0.0 in let q = y.0.1.0 in let a = y.0.3 in let vss = y.0.4 in let alloc = a.0 in let ptr = a.1.0 in let n = a.1.1.0 in let slots = a.1.1.1.0 in let deed = a.1.1.1.1.0 in
     let bytes = type_size (R X) in let al = capped (align (layout X)) in

@@ -1,5 +1,5 @@
 -- The slots become a row, and none are left.
-use Rattle.ring_slots.proofs.Words.{◌≡◌, refl, sym, subst, ◌∙◌, List, [], ◌∷◌, ◌++◌, ℕ, ◌*◌, ◌^◌, ◌<◌, zero-mul, arith, length, length-map, map, get_or, false, None, Fn, a_type, named, inst_fn, Val, vptr, full_share, SProp, Bool, ftrue, fat, flft, WpFn, ‵, raw, ◌⊛◌, some, given, later, learn, await, pick, prop, at_ret, ◌$◌, ◌∵◌, !, qed, move, keep, use1, use2, split, split3, join, fsplit, fsplit3, fjoin, fjoin3, feq_i, feq_l, flt_l, rewrite, regoal, suffices, frame, done, of_opd, and_then, no_more, first, blocks, exec, returns, enter, alloc_all, pass_all, free_all, look_at, get, sets, is, lands_last, take_at, give_at, env, ◌⊑◌, fact, tables, usize, yes, layouts, RattleType, Ptr, RawPtr, ptr_val, MutRef, plain, nothing, heard, Stays, stay_dropped, stay_ref, Goes-dropped, Goes-ref, walk_of, ends_at, calls_at_last, framed, type_size, after, proved_at, ty_ptr, if◌then◌else◌, slice_get, row_val}
+use Rattle.ring_slots.proofs.Words.{drop, proved, rawptr_vals, rawptr_Tells, uint_vals, uint_Tells, mut_vals, mut_Tells, w64, Vals, Goes-number, Goes-pointer, stay_number, stay_pointer, ◌≡◌, refl, sym, subst, ◌∙◌, List, [], ◌∷◌, ◌++◌, ℕ, ◌*◌, ◌^◌, ◌<◌, zero-mul, arith, length, length-map, map, get_or, false, None, Fn, a_type, named, inst_fn, Val, vptr, full_share, SProp, Bool, ftrue, fat, flft, WpFn, ‵, raw, ◌⊛◌, some, given, later, learn, await, pick, prop, at_ret, ◌$◌, ◌∵◌, !, qed, move, keep, use1, use2, split, split3, join, fsplit, fsplit3, fjoin, fjoin3, feq_i, feq_l, flt_l, rewrite, regoal, suffices, frame, done, of_opd, and_then, no_more, first, blocks, exec, returns, enter, alloc_all, pass_all, free_all, look_at, get, sets, is, lands_last, take_at, give_at, env, ◌⊑◌, fact, tables, usize, yes, layouts, RattleType, Ptr, RawPtr, ptr_val, MutRef, plain, nothing, heard, Stays, stay_dropped, stay_ref, Goes-dropped, Goes-ref, walk_of, ends_at, calls_at_last, framed, type_size, after, proved_at, ty_ptr, if◌then◌else◌, slice_get, row_val}
 use Rattle.std.proofs.lemmas.List.{get_or_past}
 use Rattle.std_alloc.proofs.vec.Blocks.{all}
 use Rattle.std_alloc.proofs.vec.Spares.{Row, row_Typed, From, Made, at_from, from_gives, from_goes}
@@ -12,27 +12,25 @@ use Rattle.ring_slots.proofs.block.Owner.detach.Statement.{statement}
 use Rattle.ring_slots.proofs.block.Owner.detach.Code as code
 
 abbrev stayed : (X : RattleType) → Stays (contract.ended X).signature.params (contract.ended X).kept
-stayed X = (stay_ref (0 ∷ []) tt (plain (λ _. Seen X)), (stay_dropped (plain (λ _. RawPtr)) yes, (stay_dropped (plain (λ _. usize)) yes, tt)))
+stayed X = (stay_ref (0 ∷ []) tt (plain (λ _. Seen X)), (stay_pointer, (stay_number, tt)))
 
 pub detach_spec : {M : Type 1} → statement M
 detach_spec 𝓤 𝓛 𝓜 𝓡 wired X L =
     let clauses = contract.clauses X 𝓛 𝓜.mem 𝓡.returns in
     let args = layouts (a_type ∷ []) (X, tt) in let fn : Fn = inst_fn args code.function in
     let 𝓣 = tables 𝓤 𝓛.H 𝓜 𝓡 𝓡.env in let E = items_of X L in
-    proved_at 𝓛 (contract.ended X) (stayed X) clauses 𝓜 𝓡
-    (Goes-ref 𝓛 2 0 tt (plain (λ _. Seen X)), (Goes-dropped 𝓛 2 (plain (λ _. RawPtr)) yes (λ κs x w. refl), (Goes-dropped 𝓛 2 (plain (λ _. usize)) yes (λ κs x w. refl), tt)))
-    (contract.Key.name args) fn (code.unfolded 𝓤 𝓛.H 𝓜 𝓡 wired (X, tt)) (λ y _.
-    let κs = y.0.0 in let qs = y.0.1 in let a = y.0.3 in let vss = y.0.4 in let κ = κs.1.0 in let q = qs.1.0 in
+    proved 𝓛 (contract.ended X) (stayed X) clauses 𝓜 𝓡 (Goes-ref 𝓛 2 0 tt (plain (λ _. Seen X)), (Goes-pointer 𝓛 2, (Goes-number 𝓛 2, tt)))
+    (contract.Key.name args) fn (code.unfolded 𝓤 𝓛.H 𝓜 𝓡 wired (X, tt))
+    (λ κs. (mut_vals, (rawptr_vals, (uint_vals w64, tt)))) (λ κs. (mut_Tells (named 0) κs.0 (Seen X), (rawptr_Tells, (uint_Tells w64, tt)))) (λ κs qs bounds a _ are.
+    let κ = κs.1.0 in let q = qs.1.0 in let fits = are.1.1.0.1 in
     let rb = a.0.ref_ptr.0 in let ro = a.0.ref_ptr.1 in let d = a.0.now in let ptr = a.1.0 in let n = a.1.1.0 in
-    let Post : Val → SProp 𝓤 = (walk_of 𝓛 (contract.ended X) (stayed X) clauses).post y in
+    let vss : Vals (contract.signature X) κs = (mut_vals a.0, (rawptr_vals ptr, (uint_vals w64 n, tt))) in
+    let y : (walk_of 𝓛 (contract.ended X) (stayed X) clauses).Ghost = ((κs, qs, bounds, a, vss), tt) in let Post : Val → SProp 𝓤 = (walk_of 𝓛 (contract.ended X) (stayed X) clauses).post y in
     qed 𝓛 (((‵ (flft κs.0 qs.0) ⊛ ‵ (flft κ q) ⊛ ‵ ftrue)
     ⊛ ‵ ((MutRef (named 0) κs.0 (Seen X)).own_val a.0 vss.0) ⊛ ‵ (RawPtr.own_val ptr vss.1.0) ⊛ ‵ (usize.own_val n vss.1.1.0) ⊛ ‵ ftrue)
     ∷ (raw (fact 𝓤 (κ ⊑ X.lives)) ⊛ raw (fact 𝓤 (ptr ≡ d.at)) ⊛ raw (fact 𝓤 (n ≡ length d.slots)) ⊛ raw (fact 𝓤 X.Denot)) ∷ []) ∵
     move ! (1 ∷ []) $ split ! $ heard ! _ (λ lives. split ! $ heard ! _ (λ same. split ! $ heard ! _ (λ whole. heard ! _ (λ like.
-    split ! $ split ! $ move ! (2 ∷ []) $ split3 ! $ fsplit3 ! $ feq_l ! (λ refers.
-    move ! (2 ∷ []) $ feq_l ! (λ pointed. move ! (2 ∷ []) $ split ! $ fsplit ! $ feq_l ! (λ sized. flt_l ! (λ fits.
-    regoal ! (λ (ws : List Val × List Val × List Val). prop (WpFn 𝓤 𝓛.H 𝓣.C 𝓣.Λ fn (ws.0 ++ (ws.1 ++ (ws.2 ++ []))) Post)) (λ i. (refers i, pointed i, sized i)) refl $
-    keep ! (1 ∷ 2 ∷ 3 ∷ 4 ∷ []) $
+    split ! $ split ! $ move ! (2 ∷ []) $ split ! $ fsplit3 ! $ drop ! $ keep ! (0 ∷ 1 ∷ 3 ∷ 4 ∷ []) $
     enter ! _ _ _ _ _ $ alloc_all ! (λ l. pass_all ! refl ((tt, tt), (pointer_good ptr, ((tt, record { fits = fits }), tt))) $
     slots_opened X ! tt d rb ro (λ us b o lies fit.
     let xs : List X.Denot = map (or_this like) d.slots in let fs : List Bool = map is_full d.slots in
@@ -55,4 +53,4 @@ detach_spec 𝓤 𝓛 𝓜 𝓡 wired X L =
     suffices ! _ (ends_at 𝓛 (contract.ended X) (stayed X) clauses y (row_val b o n) r (none, (tt, (tt, tt))) (tt, (tt, (tt, tt)))) $
     says_both ! (made.1.0 ∙ sym lies, record { size = sym (made.1.1 ∙ whole); held = λ i low. held_in like d.slots i ∙ sym (λ j. if get_or (made.1.3 j) i false then slice_get (made.1.2 j) i else None); behind = λ i late. get_or_past d.slots i None (omega arith) }) (refl, refl) $
     nothing ! $ move ! (1 ∷ 0 ∷ []) $ join ! $ move ! (1 ∷ 0 ∷ []) $ join ! $ frame ! $
-    feq_i ! (List Val) vss.0 (vptr rb ro ∷ []) refers $ fjoin3 ! $ nothing ! $ nothing ! $ fjoin ! $ nothing ! $ fjoin ! $ move ! (1 ∷ 0 ∷ []) $ fjoin ! $ frame ! $ done !))))))))))))))
+    feq_i ! (List Val) vss.0 (vptr rb ro ∷ []) refl $ fjoin3 ! $ nothing ! $ nothing ! $ fjoin ! $ nothing ! $ fjoin ! $ move ! (1 ∷ 0 ∷ []) $ fjoin ! $ frame ! $ done !))))))))))

@@ -1,5 +1,5 @@
 -- What a `&` to the slots shows of a stretch of full ones is a slice of their items.
-use Rattle.ring_slots.proofs.Words.{◌≡◌, refl, ◌∙◌, List, [], ◌∷◌, ◌++◌, ℕ, ◌+◌, ◌*◌, length, Fn, a_type, named, inst_fn, Val, full_share, SProp, never, id⊢, ftrue, fat, flft, WpFn, ‵, raw, ◌⊛◌, prop, at_ret, ◌$◌, ◌∵◌, !, qed, move, keep, drop, use1, split, split3, join, fsplit, fjoin, feq_i, feq_l, flt_l, rewrite, regoal, suffices, frame, done, of_opd, bin, first, blocks, exec, returns, enter, alloc_all, pass_all, free_all, look_at, get, sets, sets_last, take_at, give_at, env, ◌⊑◌, fact, tables, RefOf, usize, yes, layouts, RattleType, Ptr, RawPtr, ptr_val, in_a_block, ShrRef, plain, nothing, heard, says, Stays, stay_dropped, Goes-dropped, walk_of, ends_at, type_size, after, proved_at, ap, sym, agg, and_then, no_more, flt_i, vint, w64, is, size_word, ◌^◌, ty_ptr, elements_shared, slice_val, lent, IsFullStretch, hide, unhide}
+use Rattle.ring_slots.proofs.Words.{proved, rawptr_vals, rawptr_Tells, uint_vals, uint_Tells, shr_vals, shr_Tells, Vals, Goes-number, Goes-pointer, stay_number, stay_pointer, ◌≡◌, refl, ◌∙◌, List, [], ◌∷◌, ◌++◌, ℕ, ◌+◌, ◌*◌, length, Fn, a_type, named, inst_fn, Val, full_share, SProp, never, id⊢, ftrue, fat, flft, WpFn, ‵, raw, ◌⊛◌, prop, at_ret, ◌$◌, ◌∵◌, !, qed, move, keep, drop, use1, split, split3, join, fsplit, fjoin, feq_i, feq_l, flt_l, rewrite, regoal, suffices, frame, done, of_opd, bin, first, blocks, exec, returns, enter, alloc_all, pass_all, free_all, look_at, get, sets, sets_last, take_at, give_at, env, ◌⊑◌, fact, tables, RefOf, usize, yes, layouts, RattleType, Ptr, RawPtr, ptr_val, in_a_block, ShrRef, plain, nothing, heard, says, Stays, stay_dropped, Goes-dropped, walk_of, ends_at, type_size, after, proved_at, ap, sym, agg, and_then, no_more, flt_i, vint, w64, is, size_word, ◌^◌, ty_ptr, elements_shared, slice_val, lent, IsFullStretch, hide, unhide}
 use Rattle.ring_slots.proofs.SlotsInMemory.{product_is, stretch_fits, stretch_long, stretch_seen}
 use Rattle.ring_slots.proofs.OwnerParts.{R, Seen, pointer_good}
 use Rattle.ring_slots.specs.contracts.block.Owner.slice as contract
@@ -7,35 +7,25 @@ use Rattle.ring_slots.proofs.block.Owner.slice.Statement.{statement}
 use Rattle.ring_slots.proofs.block.Owner.slice.Code as code
 
 abbrev stayed : (X : RattleType) → Stays (contract.ended X).signature.params (contract.ended X).kept
-stayed X = (stay_dropped (RefOf (0 ∷ []) tt (plain (λ _. Seen X)) (λ _. tt)) yes, (stay_dropped (plain (λ _. RawPtr)) yes, (stay_dropped (plain (λ _. usize)) yes, (stay_dropped (plain (λ _. usize)) yes, tt))))
+stayed X = (stay_dropped (RefOf (0 ∷ []) tt (plain (λ _. Seen X)) (λ _. tt)) yes, (stay_pointer, (stay_number, (stay_number, tt))))
 
 pub slice_spec : {M : Type 1} → statement M
 slice_spec 𝓤 𝓛 𝓜 𝓡 wired X L =
     let clauses = contract.clauses X 𝓛 𝓜.mem 𝓡.returns in
     let given = layouts (a_type ∷ []) (X, tt) in let fn : Fn = inst_fn given code.function in
     let 𝓣 = tables 𝓤 𝓛.H 𝓜 𝓡 𝓡.env in
-    proved_at 𝓛 (contract.ended X) (stayed X) clauses 𝓜 𝓡 (
-      Goes-dropped 𝓛 2 (RefOf (0 ∷ []) tt (plain (λ _. Seen X)) (λ _. tt)) yes (λ κs x w. refl),
-      (
-        Goes-dropped 𝓛 2 (plain (λ _. RawPtr)) yes (λ κs x w. refl),
-        (
-          Goes-dropped 𝓛 2 (plain (λ _. usize)) yes (λ κs x w. refl),
-          (Goes-dropped 𝓛 2 (plain (λ _. usize)) yes (λ κs x w. refl), tt),
-        ),
-      ),
-    )
-    (contract.Key.name given) fn (code.unfolded 𝓤 𝓛.H 𝓜 𝓡 wired (X, tt)) (λ y _.
-    let κs = y.0.0 in let qs = y.0.1 in let a = y.0.3 in let vss = y.0.4 in let κ = κs.0 in
-    let rb = a.0.ref_ptr.0 in let ro = a.0.ref_ptr.1 in let d = a.0.now in let ptr = a.1.0 in let from = a.1.1.0 in let len = a.1.1.1.0 in let bytes = type_size (R X) in
-    let Post : Val → SProp 𝓤 = (walk_of 𝓛 (contract.ended X) (stayed X) clauses).post y in
+    proved 𝓛 (contract.ended X) (stayed X) clauses 𝓜 𝓡 (Goes-dropped 𝓛 2 (RefOf (0 ∷ []) tt (plain (λ _. Seen X)) (λ _. tt)) yes (λ κs x w. refl), (Goes-pointer 𝓛 2, (Goes-number 𝓛 2, (Goes-number 𝓛 2, tt))))
+    (contract.Key.name given) fn (code.unfolded 𝓤 𝓛.H 𝓜 𝓡 wired (X, tt))
+    (λ κs. (shr_vals, (rawptr_vals, (uint_vals w64, (uint_vals w64, tt))))) (λ κs. (shr_Tells (named 0) κs.0 (Seen X), (rawptr_Tells, (uint_Tells w64, (uint_Tells w64, tt))))) (λ κs qs bounds a _ are.
+    let κ = κs.0 in let fits_from = are.1.1.0.1 in let fits_len = are.1.1.1.0.1 in
+    let d = a.0.now in let ptr = a.1.0 in let from = a.1.1.0 in let len = a.1.1.1.0 in let bytes = type_size (R X) in
+    let vss : Vals (contract.signature X) κs = (shr_vals a.0, (rawptr_vals ptr, (uint_vals w64 from, (uint_vals w64 len, tt)))) in
+    let y : (walk_of 𝓛 (contract.ended X) (stayed X) clauses).Ghost = ((κs, qs, bounds, a, vss), tt) in let Post : Val → SProp 𝓤 = (walk_of 𝓛 (contract.ended X) (stayed X) clauses).post y in
     qed 𝓛 (((‵ (flft κ qs.0) ⊛ ‵ (flft κs.1.0 qs.1.0) ⊛ ‵ ftrue)
     ⊛ ‵ ((ShrRef (named 0) κ (Seen X)).own_val a.0 vss.0) ⊛ ‵ (RawPtr.own_val ptr vss.1.0) ⊛ ‵ (usize.own_val from vss.1.1.0) ⊛ ‵ (usize.own_val len vss.1.1.1.0) ⊛ ‵ ftrue)
     ∷ (raw (fact 𝓤 (κs.1.0 ⊑ X.lives)) ⊛ raw (fact 𝓤 (ptr ≡ d.at)) ⊛ raw (fact 𝓤 (IsFullStretch d.slots from len))) ∷ []) ∵
     move ! (1 ∷ []) $ split ! $ drop ! $ split ! $ heard ! _ (λ same. heard ! _ (λ full.
-    split ! $ split ! $ move ! (2 ∷ []) $ split3 ! $ fsplit ! $ feq_l ! (λ refers.
-    move ! (1 ∷ []) $ feq_l ! (λ pointed. move ! (1 ∷ []) $ split3 ! $ fsplit ! $ feq_l ! (λ from_is. flt_l ! (λ fits_from. fsplit ! $ feq_l ! (λ len_is. flt_l ! (λ fits_len.
-    regoal ! (λ (ws : List Val × List Val × List Val × List Val). prop (WpFn 𝓤 𝓛.H 𝓣.C 𝓣.Λ fn (ws.0 ++ (ws.1 ++ (ws.2 ++ (ws.3 ++ [])))) Post)) (λ i. (refers i, pointed i, from_is i, len_is i)) refl $
-    keep ! (1 ∷ 2 ∷ 3 ∷ []) $
+    split ! $ split ! $ move ! (2 ∷ []) $ split ! $ fsplit ! $ drop ! $ keep ! (0 ∷ 2 ∷ 3 ∷ []) $
     enter ! _ _ _ _ _ $ alloc_all ! (λ l. pass_all ! refl ((tt, tt), (pointer_good ptr, ((tt, record { fits = fits_from }), ((tt, record { fits = fits_len }), tt)))) $
     unhide ! $ fsplit ! $ drop ! $
     in_a_block ! d.at (λ p. lent (R X) p d.slots κ) (id⊢ 𝓤 (never 𝓤)) (λ b o lies. fsplit ! $ flt_l ! (λ fit.
@@ -55,4 +45,4 @@ slice_spec 𝓤 𝓛 𝓜 𝓡 wired X L =
     suffices ! _ (ends_at 𝓛 (contract.ended X) (stayed X) clauses y (slice_val (b, at) len) (record { ref_ptr = (b, at); now = xs }) (tt, (tt, (tt, (tt, tt)))) (tt, (tt, (tt, (tt, tt))))) $ says ! holds $
     join ! $ frame ! $ nothing ! $ nothing ! $ fjoin ! $ nothing ! $ fjoin ! $ nothing ! $ fjoin ! $ nothing ! $ fjoin ! $ frame ! $
     flt_i ! (length xs * bytes) (2 ^ 63) (rw long fits.1) $ flt_i ! (length xs) (2 ^ 64) (rw long fits_len) $ fjoin ! $
-    feq_i ! (List Val) (slice_val (b, at) len ∷ []) (slice_val (b, at) (length xs) ∷ []) (ap (λ (k : ℕ). slice_val (b, at) k ∷ []) (sym long)) $ fjoin ! $ fjoin ! $ done !))))))))))))
+    feq_i ! (List Val) (slice_val (b, at) len ∷ []) (slice_val (b, at) (length xs) ∷ []) (ap (λ (k : ℕ). slice_val (b, at) k ∷ []) (sym long)) $ fjoin ! $ fjoin ! $ done !))))))

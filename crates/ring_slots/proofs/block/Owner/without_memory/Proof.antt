@@ -1,5 +1,5 @@
 -- Room for no item is had for nothing, and is room for any number of items without size.
-use Rattle.ring_slots.proofs.Words.{◌≡◌, refl, sym, ap, subst, ◌∙◌, Bool, [], ◌∷◌, ℕ, ◌*◌, ◌<◌, ◌^◌, arith, zero-mul, mul-zero, eqb, replicate, Fn, a_type, w64, ty_array, inst_fn, wand, froom, size, align, ‵, raw, ◌⊛◌, ◌$◌, ◌∵◌, !, qed, move, keep, drop, use0, use1, split, fjoin, frame, rewrite, suffices, done, agg, stop, from, addr, of_opd, no_more, and_then, returns, enter, alloc_all, pass_all, free_all, look_at, get, through, sets, ◌⊑◌, fact, usize, yes, layout, layouts, uint_vals, uint_Tells, owns, block_ptr, plain, types_at, nothing, heard, Vals, alive, says, Stays, stay_dropped, Goes-dropped, ends_at, None, type_size, proved, row, right_if}
+use Rattle.ring_slots.proofs.Words.{Goes-number, stay_number, ◌≡◌, refl, sym, ap, subst, ◌∙◌, Bool, [], ◌∷◌, ℕ, ◌*◌, ◌<◌, ◌^◌, arith, zero-mul, mul-zero, eqb, replicate, Fn, a_type, w64, ty_array, inst_fn, wand, froom, size, align, ‵, raw, ◌⊛◌, ◌$◌, ◌∵◌, !, qed, move, keep, drop, use0, use1, split, fjoin, frame, rewrite, suffices, done, agg, stop, from, addr, of_opd, no_more, and_then, returns, enter, alloc_all, pass_all, free_all, look_at, get, through, sets, ◌⊑◌, fact, usize, yes, layout, layouts, uint_vals, uint_Tells, owns, block_ptr, plain, types_at, nothing, heard, Vals, alive, says, Stays, stay_dropped, Goes-dropped, ends_at, None, type_size, proved, row, right_if}
 use prog.Align.{dv_self}
 use Rattle.std.specs.contracts.alloc.Global as heap
 use Rattle.std.proofs.alloc.Global.TheLaws as heap_laws
@@ -17,10 +17,10 @@ pub without_memory_spec : {M : Type 1} → statement M
 without_memory_spec 𝓤 𝓛 𝓜 𝓡 wired X L =
     let clauses = contract.clauses X 𝓛 𝓜.mem 𝓡.returns in
     let ended = contract.ended X in
-    let stayed : Stays ended.signature.params ended.kept = (stay_dropped (plain (λ _. heap.the_row)) yes, (stay_dropped (plain (λ _. usize)) yes, tt)) in
+    let stayed : Stays ended.signature.params ended.kept = (stay_dropped (plain (λ _. heap.the_row)) yes, (stay_number, tt)) in
     let fn : Fn = inst_fn (layouts (a_type ∷ []) (X, tt)) code.function in
     proved 𝓛 ended stayed clauses 𝓜 𝓡
-    (Goes-dropped 𝓛 1 (plain (λ _. heap.the_row)) yes (λ κs x w. refl), (Goes-dropped 𝓛 1 (plain (λ _. usize)) yes (λ κs x w. refl), tt))
+    (Goes-dropped 𝓛 1 (plain (λ _. heap.the_row)) yes (λ κs x w. refl), (Goes-number 𝓛 1, tt))
     (contract.Key.name (layouts (a_type ∷ []) (X, tt))) fn (code.unfolded 𝓤 𝓛.H 𝓜 𝓡 wired (X, tt))
     (λ κs. ((λ h. heap_laws.lowered h ∷ []), (uint_vals w64, tt))) (λ κs. (heap_laws.lowers.val_is, (uint_Tells w64, tt))) (λ κs qs bounds a _ are.
     let alloc = a.0 in let n = a.1.0 in let fits = are.1.0.1 in let τ = layout X in let vss : Vals ended.signature κs = (heap_laws.lowered alloc ∷ [], (uint_vals w64 n, tt)) in

@@ -1,6 +1,6 @@
 -- A stretch of the array is lent as a slice. The borrow checker doesn't follow a part of an array: the stretch is taken out
 -- of the cells in memory, which close round any items that are written.
-use Rattle.ring_slots.proofs.Words.{◌≡◌, refl, sym, ap, ◌∙◌, List, [], ◌∷◌, ◌++◌, ℕ, zero, ◌+◌, ◌*◌, ◌^◌, ◌<◌, ◌≤◌, mul-le-mul_right, arith, length, length-take, length-drop, length-append, take, cut, take-append-drop, drop-drop, take_front, Ura, named, w64, inst_fn, vptr, vint, SProp, ent, sep, GName, ftrue, flft, size, align, up, ty_array, Logic, sem, cells, ‵, raw, ◌⊛◌, some, given, later, ◌$◌, ◌∵◌, !, qed, by, move, keep, drop, split, split3, join, learn, fsplit3, use1, use2, await, pick, suffices, frame, group, rewrite, done, ◌⊑◌, stop, fld, addr, agg, and_then, no_more, bin, size_word, returns, enter, alloc_all, pass_all, free_all, look_at, get, through, sets, is, RefMutOf, usize, yes, no, follows, mem, number, layout, Laws, uint_vals, uint_Tells, RattleType, MutRef, MutSlice, slice_val, mut_vals, mut_Tells, plain, nothing, says, Stays, stay_dropped, Goes-dropped, Goes-spent_ref, ends_at, proved, Array, open_ref, lends_Elements, first_at, Ended, at_mul, ◌-◌, rewritten}
+use Rattle.ring_slots.proofs.Words.{Goes-number, stay_number, ◌≡◌, refl, sym, ap, ◌∙◌, List, [], ◌∷◌, ◌++◌, ℕ, zero, ◌+◌, ◌*◌, ◌^◌, ◌<◌, ◌≤◌, mul-le-mul_right, arith, length, length-take, length-drop, length-append, take, cut, take-append-drop, drop-drop, take_front, Ura, named, w64, inst_fn, vptr, vint, SProp, ent, sep, GName, ftrue, flft, size, align, up, ty_array, Logic, sem, cells, ‵, raw, ◌⊛◌, some, given, later, ◌$◌, ◌∵◌, !, qed, by, move, keep, drop, split, split3, join, learn, fsplit3, use1, use2, await, pick, suffices, frame, group, rewrite, done, ◌⊑◌, stop, fld, addr, agg, and_then, no_more, bin, size_word, returns, enter, alloc_all, pass_all, free_all, look_at, get, through, sets, is, RefMutOf, usize, yes, no, follows, mem, number, layout, Laws, uint_vals, uint_Tells, RattleType, MutRef, MutSlice, slice_val, mut_vals, mut_Tells, plain, nothing, says, Stays, stay_dropped, Goes-dropped, Goes-spent_ref, ends_at, proved, Array, open_ref, lends_Elements, first_at, Ended, at_mul, ◌-◌, rewritten}
 use borrow.Table.Elements.{at, cut_app, join_app}
 use Rattle.ring_slots.proofs.CellsInMemory.{Cells, Element, Shell, arguments, array_in, array_out}
 use Rattle.ring_slots.proofs.SlotsInMemory.{product_is}
@@ -62,14 +62,14 @@ module _ (X : RattleType) (n : ℕ) where
   ended = contract.ended X (number n)
 
   abbrev stayed : Stays ended.signature.params ended.kept
-  stayed = (stay_dropped (RefMutOf (0 ∷ []) tt (plain (λ _. Cells X n)) (λ _. tt)) no, (stay_dropped (plain (λ _. usize)) yes, (stay_dropped (plain (λ _. usize)) yes, tt)))
+  stayed = (stay_dropped (RefMutOf (0 ∷ []) tt (plain (λ _. Cells X n)) (λ _. tt)) no, (stay_number, (stay_number, tt)))
 
 pub slice_mut_spec : {M : Type 1} → statement M
 slice_mut_spec 𝓤 𝓛 𝓜 𝓡 wired X n L fits =
     let clauses = contract.clauses X (number n) 𝓛 𝓜.mem 𝓡.returns in
     let S : RattleType = Cells X n in let R : RattleType = Element X n in
     proved 𝓛 (ended X n) (stayed X n) clauses 𝓜 𝓡
-    (Goes-spent_ref 𝓛 3 (0 ∷ []) tt (plain (λ _. S)), (Goes-dropped 𝓛 3 (plain (λ _. usize)) yes (λ κs x w. refl), (Goes-dropped 𝓛 3 (plain (λ _. usize)) yes (λ κs x w. refl), tt)))
+    (Goes-spent_ref 𝓛 3 (0 ∷ []) tt (plain (λ _. S)), (Goes-number 𝓛 3, (Goes-number 𝓛 3, tt)))
     (contract.Key.name (arguments X n)) (inst_fn (arguments X n) code.function) (code.unfolded 𝓤 𝓛.H 𝓜 𝓡 wired (X, (number n, tt)))
     (λ κs. (mut_vals, (uint_vals w64, (uint_vals w64, tt)))) (λ κs. (mut_Tells (named 0) κs.0 S, (uint_Tells w64, (uint_Tells w64, tt)))) (λ κs qs bounds a _ are.
     let b = a.0.ref_ptr.0 in let o = a.0.ref_ptr.1 in let γ = a.0.ghost_name in let d = a.0.now in let from = a.1.0 in let len = a.1.1.0 in

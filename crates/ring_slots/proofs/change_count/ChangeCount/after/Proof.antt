@@ -1,17 +1,17 @@
 -- The proof gives the new struct the count behind the reference and the given number more.
-use Rattle.ring_slots.proofs.Words.{refl, drop, nothing, fsplit, fjoin, usize, stay_dropped, Goes-dropped, uint_vals, uint_Tells, w64, Vals, [], ◌∷◌, ◌+◌, named, vstruct, vnil, ftrue, ‵, raw, ◌⊛◌, ◌$◌, ◌∵◌, !, qed, move, keep, split, suffices, done, no_more, returns, enter, agg, alloc_all, pass_all, free_all, look_at, sets, yes, owns, shr_vals, shr_Tells, pure_i, plain, types_at, alive, says, ends_at, Stays, stay_none_ref, Goes-none_ref, proved}
+use Rattle.ring_slots.proofs.Words.{Goes-number, stay_number, refl, drop, nothing, fsplit, fjoin, usize, stay_dropped, Goes-dropped, uint_vals, uint_Tells, w64, Vals, [], ◌∷◌, ◌+◌, named, vstruct, vnil, ftrue, ‵, raw, ◌⊛◌, ◌$◌, ◌∵◌, !, qed, move, keep, split, suffices, done, no_more, returns, enter, agg, alloc_all, pass_all, free_all, look_at, sets, yes, owns, shr_vals, shr_Tells, pure_i, plain, types_at, alive, says, ends_at, Stays, stay_none_ref, Goes-none_ref, proved}
 use Rattle.ring_slots.specs.contracts.change_count.ChangeCount.{the_row}
 use Rattle.ring_slots.specs.contracts.change_count.ChangeCount.after as contract
 use Rattle.ring_slots.proofs.change_count.ChangeCount.after.Statement.{statement}
 use Rattle.ring_slots.proofs.change_count.ChangeCount.after.Code as code
 
 abbrev stayed : Stays contract.ended.signature.params contract.ended.kept
-stayed = (stay_none_ref (0 ∷ []) tt (plain (λ _. the_row)) yes, (stay_dropped (plain (λ _. usize)) yes, tt))
+stayed = (stay_none_ref (0 ∷ []) tt (plain (λ _. the_row)) yes, (stay_number, tt))
 
 pub after_spec : {M : Type 1} → statement M
 after_spec 𝓤 𝓛 𝓜 𝓡 wired =
     let clauses = contract.clauses 𝓛 𝓜.mem 𝓡.returns in
-    proved 𝓛 contract.ended stayed clauses 𝓜 𝓡 (Goes-none_ref 𝓛 1 (0 ∷ []) tt (plain (λ _. the_row)) yes, (Goes-dropped 𝓛 1 (plain (λ _. usize)) yes (λ κs x w. refl), tt))
+    proved 𝓛 contract.ended stayed clauses 𝓜 𝓡 (Goes-none_ref 𝓛 1 (0 ∷ []) tt (plain (λ _. the_row)) yes, (Goes-number 𝓛 1, tt))
     contract.Key.name code.function (code.unfolded 𝓤 𝓛.H 𝓜 𝓡 wired)
     (λ κs. (shr_vals, (uint_vals w64, tt))) (λ κs. (shr_Tells (named 0) κs.0 the_row, (uint_Tells w64, tt))) (λ κs qs bounds a _ are.
     let vss : Vals contract.signature κs = (shr_vals a.0, (uint_vals w64 a.1.0, tt)) in let fits = are.1.0.1 in let after : the_row.Denot = record { count = a.0.now.count + a.1.0 } in

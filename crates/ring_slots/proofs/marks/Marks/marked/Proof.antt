@@ -1,5 +1,5 @@
 -- The proof gives the new struct the marks behind the reference, with a stretch of them full, or empty.
-use Rattle.ring_slots.proofs.Words.{}
+use Rattle.ring_slots.proofs.Words.{Goes-number, stay_number}
 use Rattle.ring_slots.proofs.Words.{refl, cut, take, replicate, ◌++◌, ◌+◌, drop, nothing, fsplit, fjoin, usize, stay_dropped, Goes-dropped, uint_vals, uint_Tells, w64, Vals, [], ◌∷◌, named, vstruct, vnil, ftrue, ‵, raw, ◌⊛◌, ◌$◌, ◌∵◌, !, qed, move, keep, split, suffices, done, no_more, returns, enter, agg, alloc_all, pass_all, free_all, look_at, sets, yes, owns, shr_vals, shr_Tells, pure_i, plain, types_at, alive, says, ends_at, Stays, stay_none_ref, Goes-none_ref, proved, bool, bool_Tells, bool_vals}
 use Rattle.ring_slots.specs.contracts.marks.Marks.{the_row}
 use Rattle.ring_slots.specs.contracts.marks.Marks.marked as contract
@@ -7,12 +7,12 @@ use Rattle.ring_slots.proofs.marks.Marks.marked.Statement.{statement}
 use Rattle.ring_slots.proofs.marks.Marks.marked.Code as code
 
 abbrev stayed : Stays contract.ended.signature.params contract.ended.kept
-stayed = (stay_none_ref (0 ∷ []) tt (plain (λ _. the_row)) yes, (stay_dropped (plain (λ _. usize)) yes, (stay_dropped (plain (λ _. usize)) yes, (stay_dropped (plain (λ _. bool)) yes, tt))))
+stayed = (stay_none_ref (0 ∷ []) tt (plain (λ _. the_row)) yes, (stay_number, (stay_number, (stay_dropped (plain (λ _. bool)) yes, tt))))
 
 pub marked_spec : {M : Type 1} → statement M
 marked_spec 𝓤 𝓛 𝓜 𝓡 wired =
     let clauses = contract.clauses 𝓛 𝓜.mem 𝓡.returns in
-    proved 𝓛 contract.ended stayed clauses 𝓜 𝓡 (Goes-none_ref 𝓛 1 (0 ∷ []) tt (plain (λ _. the_row)) yes, (Goes-dropped 𝓛 1 (plain (λ _. usize)) yes (λ κs x w. refl), (Goes-dropped 𝓛 1 (plain (λ _. usize)) yes (λ κs x w. refl), (Goes-dropped 𝓛 1 (plain (λ _. bool)) yes (λ κs x w. refl), tt))))
+    proved 𝓛 contract.ended stayed clauses 𝓜 𝓡 (Goes-none_ref 𝓛 1 (0 ∷ []) tt (plain (λ _. the_row)) yes, (Goes-number 𝓛 1, (Goes-number 𝓛 1, (Goes-dropped 𝓛 1 (plain (λ _. bool)) yes (λ κs x w. refl), tt))))
     contract.Key.name code.function (code.unfolded 𝓤 𝓛.H 𝓜 𝓡 wired)
     (λ κs. (shr_vals, (uint_vals w64, (uint_vals w64, (bool_vals, tt))))) (λ κs. (shr_Tells (named 0) κs.0 the_row, (uint_Tells w64, (uint_Tells w64, (bool_Tells, tt))))) (λ κs qs bounds a _ are.
     let vss : Vals contract.signature κs = (shr_vals a.0, (uint_vals w64 a.1.0, (uint_vals w64 a.1.1.0, (bool_vals a.1.1.1.0, tt)))) in

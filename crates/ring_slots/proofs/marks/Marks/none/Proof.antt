@@ -1,17 +1,17 @@
 -- The proof gives the new struct an empty mark for each slot.
-use Rattle.ring_slots.proofs.Words.{refl, drop, nothing, fjoin, usize, stay_dropped, Goes-dropped, uint_vals, uint_Tells, w64, Vals, [], ◌∷◌, vstruct, vnil, ftrue, ‵, raw, ◌⊛◌, ◌$◌, ◌∵◌, !, qed, move, keep, split, suffices, done, no_more, returns, enter, agg, alloc_all, pass_all, free_all, look_at, sets, yes, owns, pure_i, plain, types_at, alive, says, ends_at, Stays, proved, replicate, false}
+use Rattle.ring_slots.proofs.Words.{Goes-number, stay_number, refl, drop, nothing, fjoin, usize, stay_dropped, Goes-dropped, uint_vals, uint_Tells, w64, Vals, [], ◌∷◌, vstruct, vnil, ftrue, ‵, raw, ◌⊛◌, ◌$◌, ◌∵◌, !, qed, move, keep, split, suffices, done, no_more, returns, enter, agg, alloc_all, pass_all, free_all, look_at, sets, yes, owns, pure_i, plain, types_at, alive, says, ends_at, Stays, proved, replicate, false}
 use Rattle.ring_slots.specs.contracts.marks.Marks.{the_row}
 use Rattle.ring_slots.specs.contracts.marks.Marks.none as contract
 use Rattle.ring_slots.proofs.marks.Marks.none.Statement.{statement}
 use Rattle.ring_slots.proofs.marks.Marks.none.Code as code
 
 abbrev stayed : Stays contract.ended.signature.params contract.ended.kept
-stayed = (stay_dropped (plain (λ _. usize)) yes, tt)
+stayed = (stay_number, tt)
 
 pub none_spec : {M : Type 1} → statement M
 none_spec 𝓤 𝓛 𝓜 𝓡 wired =
     let clauses = contract.clauses 𝓛 𝓜.mem 𝓡.returns in
-    proved 𝓛 contract.ended stayed clauses 𝓜 𝓡 (Goes-dropped 𝓛 0 (plain (λ _. usize)) yes (λ κs x w. refl), tt)
+    proved 𝓛 contract.ended stayed clauses 𝓜 𝓡 (Goes-number 𝓛 0, tt)
     contract.Key.name code.function (code.unfolded 𝓤 𝓛.H 𝓜 𝓡 wired)
     (λ κs. (uint_vals w64, tt)) (λ κs. (uint_Tells w64, tt)) (λ κs qs bounds a _ are.
     let vss : Vals contract.signature κs = (uint_vals w64 a.0, tt) in let fits = are.0.1 in let made : the_row.Denot = record { full = replicate a.0 false } in
