@@ -1,5 +1,5 @@
 -- The owner of slots is taken apart into their row and its mark, and is made of these again.
-use Rattle.ring_slots.proofs.Words.{shape, ◌≡◌, refl, sym, ap, subst, ◌∙◌, List, [], ◌∷◌, ◌++◌, ℕ, ◌*◌, ◌^◌, ◌<◌, T, lit<, length, replicate, length-replicate, Ura, full_share, ent, emp, never, id⊢, Lft, GName, Share, flft, fobs, fauth, fbor, fobor, Val, vunit, vptr, vstruct, vcons, vnil, of_list, has_ty, WT, Logic, sem, Item, Goal, Soaks, Seq, Step, step, ‵, ◌$◌, move, drop, use0, rewrite, fsplit, fjoin, fpick, fpack, feq_i, feq_l, flt_i, flt_l, Is, mem, cell_at, param, RattleType, Valss, Ptr, RawPtr, block_ptr, null_ptr, ptr_val, in_a_block, nothing, opens, closes, makes, Struct, within, None, type_size, Global, ty_ptr, row, right}
+use Rattle.ring_slots.proofs.Words.{SProp, Fml, fsep, fsplit3, part_of, refilled, length-map, map, Some, take, cut, ◌+◌, ◌≤◌, arith, cells, sep, sem, qed, ◌∵◌, !, use1, use2, done, shape, ◌≡◌, refl, sym, ap, subst, ◌∙◌, List, [], ◌∷◌, ◌++◌, ℕ, ◌*◌, ◌^◌, ◌<◌, T, lit<, length, replicate, length-replicate, Ura, full_share, ent, emp, never, id⊢, Lft, GName, Share, flft, fobs, fauth, fbor, fobor, Val, vunit, vptr, vstruct, vcons, vnil, of_list, has_ty, WT, Logic, sem, Item, Goal, Soaks, Seq, Step, step, ‵, ◌$◌, move, drop, use0, rewrite, fsplit, fjoin, fpick, fpack, feq_i, feq_l, flt_i, flt_l, Is, mem, cell_at, param, RattleType, Valss, Ptr, RawPtr, block_ptr, null_ptr, ptr_val, in_a_block, nothing, opens, closes, makes, Struct, within, None, type_size, Global, ty_ptr, row, right}
 use base.Stored.{Gv}
 use types.SemTy.{Body}
 use denote.Shadow.{makes_shadow}
@@ -8,6 +8,8 @@ use denote.Struct.Declared as Declared
 use denote.Struct.Tuple.{Tuple, tuple_type}
 use Rattle.std.specs.contracts.alloc.Global as heap
 use Rattle.std.proofs.alloc.Global.TheLaws as heap_laws
+use Rattle.ring_slots.proofs.Filled.{length-filled, refilled_is}
+use Rattle.ring_slots.proofs.SlotsInMemory.{around, of_cells, stretch_in}
 use Rattle.ring_slots.specs.block.Memory.{owned}
 use Rattle.ring_slots.specs.contracts.block.Deed as D
 use Rattle.ring_slots.specs.contracts.block.Owner as O
@@ -69,6 +71,30 @@ module _ (X : RattleType) where
 
   mark_made : {M : Type 1} {𝓤 : Ura M} (𝓛 : Logic 𝓤) → ent 𝓤 (emp 𝓤) (sem 𝓛 (Mark.own_val (tt, tt) (mark ∷ [])))
   mark_made 𝓛 = makes_shadow 𝓛 (Mark.own_val (tt, tt) (mark ∷ [])) (λ vss. (tt, ((λ uss. (tt, tt)), tt))) ((vstruct vnil ∷ [], tt), (refl, ((tt, (refl, tt)), tt)))
+
+-- a stretch of the slots is lent apart from the rest, which closes round any items that are written
+module _ (X : RattleType) {M : Type 1} {𝓤 : Ura M} (𝓛 : Logic 𝓤) (d : (Seen X).Denot) (us : List Val) (b o rb ro from len : ℕ) where
+  -- the owner with these items in a stretch of its slots
+  abbrev pub refilled_owner : List X.Denot → (Seen X).Denot
+  refilled_owner xs = record d { slots = refilled d.slots from len xs }
+
+  -- all but the stretch
+  abbrev pub Rest : Fml
+  Rest = fsep (around X b o d.slots from len) (fsep ((Mark X).own_val (tt, tt) us) (cell_at full_share (Seen X).mir us rb ro))
+
+  pub back : d.at ≡ block_ptr b o → AreSmall X d → from + len ≤ length d.slots
+      → (ws : List X.Denot) → length ws ≡ len → ent 𝓤 (sep 𝓤 (sem 𝓛 (cells (mem (R X)) ws b (from * type_size (R X) + o))) (sem 𝓛 Rest)) (sem 𝓛 ((mem (Seen X)).own_at (refilled_owner ws) rb ro))
+  unfolding part_of
+  back lies fit within ws long =
+      let at = from * type_size (R X) + o in let many : length (map Some ws) ≡ len = length-map ws Some ∙ long in
+      let is : take from d.slots ++ (map Some ws ++ cut (from + len) d.slots) ≡ (refilled_owner ws).slots = rw (sym long) (sym (refilled_is d.slots from ws)) in
+      let same : length (refilled_owner ws).slots ≡ length d.slots = ap length (sym is) ∙ rw (sym long) (length-filled d.slots from ws (omega arith)) in
+      qed 𝓛 (‵ (cells (mem (R X)) ws b at) ∷ ‵ Rest ∷ []) ∵ use1 𝓛 (‵ (row (R X) b at (map Some ws))) (of_cells X b 𝓛 ws at) $ move ! (1 ∷ []) $ fsplit3 ! $ move ! (3 ∷ 0 ∷ []) $
+      use2 𝓛 (‵ (row (R X) b o (take from d.slots ++ (map Some ws ++ cut (from + len) d.slots)))) (stretch_in X b 𝓛 d.slots from len o (map Some ws) (omega arith) many) $
+      rewrite ! 0 (λ (l : List _). ‵ (row (R X) b o l)) is refl $
+      flt_i ! (length (refilled_owner ws).slots * type_size (R X)) (2 ^ 63) (subst (λ (k : ℕ). k * type_size (R X) < 2 ^ 63) (sym same) fit) $ fjoin ! $
+      rewrite ! 0 (λ (p : Ptr). ‵ (owned (R X) p (refilled_owner ws).slots)) (sym lies) refl $ move ! (1 ∷ 0 ∷ []) $ fjoin ! $
+      move ! (1 ∷ 0 ∷ []) $ fjoin ! $ fpack ! (List Val) (λ vs. fsep (cell_at full_share (Seen X).mir vs rb ro) ((Seen X).own_val (refilled_owner ws) vs)) us $ done !
 
 -- a mark is one machine value
 module _ (X : RattleType) {M : Type 1} {𝓤 : Ura M} {𝓛 : Logic 𝓤} {K : Type 0} {Γ : List (Item 𝓤)} {G : Goal 𝓤 𝓛.H} where

@@ -68,10 +68,6 @@ module _ (X : RattleType) where
     abbrev pub around : ℕ → List (Option X.Denot) → ℕ → ℕ → Fml
     around o cs from len = fsep (row R b o (take from cs)) (row R b (len * bytes + (from * bytes + o)) (cut (from + len) cs))
 
-    -- the slots other than the one at a place
-    abbrev pub others : ℕ → List (Option X.Denot) → ℕ → Fml
-    others o cs i = around o cs i 1
-
     module _ {M : Type 1} {𝓤 : Ura M} (𝓛 : Logic 𝓤) where
       -- a row is cut in two, and joined
       cut_row : (n : ℕ) (cs : List (Option X.Denot)) (o : ℕ) → n ≤ length cs
@@ -111,22 +107,6 @@ module _ (X : RattleType) where
           rewrite ! 0 (λ (k : ℕ). ‵ (row R b (k * bytes + at) behind)) (sym long) refl $ move ! (2 ∷ 0 ∷ []) $
           use2 𝓛 (‵ (row R b at (new ++ behind))) (join_row new behind at) $
           rewrite ! 0 (λ (k : ℕ). ‵ (row R b (k * bytes + o) (new ++ behind))) (omega (arith, length-take from cs)) refl $ move ! (1 ∷ 0 ∷ []) $ by ! (join_row (take from cs) (new ++ behind) o)
-
-      -- and so is one slot
-      pub slot_out : (cs : List (Option X.Denot)) (i o : ℕ) → i < length cs
-          → ent 𝓤 (sem 𝓛 (row R b o cs)) (sep 𝓤 (sem 𝓛 (slot R b (i * bytes + o) (get_or cs i None))) (sem 𝓛 (others o cs i)))
-      slot_out cs i o within = qed 𝓛 (‵ (row R b o cs) ∷ []) ∵
-          use1 𝓛 (‵ (row R b (i * bytes + o) (take 1 (cut i cs))) ⊛ ‵ (others o cs i)) (stretch_out cs i 1 o (omega arith)) $ split ! $
-          rewrite ! 0 (λ (l : List (Option X.Denot)). ‵ (row R b (i * bytes + o) (take 1 l))) (drop-cons cs i None within) refl $ fsplit ! $ keep ! (0 ∷ 2 ∷ []) $ done !
-
-      pub slot_in : (cs : List (Option X.Denot)) (i o : ℕ) (new : Option X.Denot) → i < length cs
-          → ent 𝓤 (sep 𝓤 (sem 𝓛 (slot R b (i * bytes + o) new)) (sem 𝓛 (others o cs i))) (sem 𝓛 (row R b o (set cs i new)))
-      slot_in cs i o new within =
-          let next : i + 1 ≡ suc i = omega arith in
-          qed 𝓛 (‵ (slot R b (i * bytes + o) new) ∷ ‵ (others o cs i) ∷ []) ∵ nothing ! $ move ! (1 ∷ 0 ∷ []) $ fjoin ! $
-          use2 𝓛 (‵ (row R b o (take i cs ++ new ∷ cut (i + 1) cs))) (stretch_in cs i 1 o (new ∷ []) (omega arith) refl) $
-          rewrite ! 0 (λ (k : ℕ). ‵ (row R b o (take i cs ++ new ∷ cut k cs))) next refl $
-          rewrite ! 0 (λ (l : List (Option X.Denot)). ‵ (row R b o l)) (sym (set_split cs i new within)) refl $ done !
 
       -- full slots hold their items as a slice does
       pub to_cells : (xs : List X.Denot) (o : ℕ) → ent 𝓤 (sem 𝓛 (row R b o (map Some xs))) (sem 𝓛 (cells (mem R) xs b o))

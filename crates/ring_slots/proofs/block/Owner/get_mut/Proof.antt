@@ -1,8 +1,9 @@
 -- The item is lent apart from the rest, which closes round any item that is written.
-use Rattle.ring_slots.proofs.Words.{proved, rawptr_vals, rawptr_Tells, uint_vals, uint_Tells, mut_vals, mut_Tells, w64, Vals, Goes-number, Goes-pointer, stay_number, stay_pointer, ◌≡◌, refl, sym, subst, ◌∙◌, List, [], ◌∷◌, ◌++◌, ℕ, ◌+◌, ◌*◌, ◌^◌, ◌<◌, length, get_or, length-set, Fn, a_type, named, inst_fn, Val, vptr, Ura, full_share, SProp, ent, sep, Fml, GName, ftrue, fsep, fat, flft, WpFn, Logic, sem, ‵, raw, ◌⊛◌, some, later, prop, at_ret, ◌$◌, ◌∵◌, !, qed, move, keep, drop, use1, use2, pick, split, split3, join, fsplit, fsplit3, fjoin, fjoin3, fpack, feq_l, flt_i, flt_l, rewrite, regoal, suffices, frame, group, await, done, stop, addr, of_opd, bin, size_lit, first, blocks, exec, returns, enter, alloc_all, pass_all, free_all, look_at, get, through, sets, sets_last, take_at, give_at, env, ◌⊑◌, fact, tables, usize, yes, no, follows, lends_Part, mem, cell_at, part_of, layouts, RattleType, Ptr, RawPtr, block_ptr, ptr_val, MutRef, plain, mut_ref_to, nothing, heard, says, Stays, stay_dropped, Goes-dropped, Goes-spent_ref, walk_of, ends_at, Option, Some, None, IsSome, type_size, after, proved_at, ty_ptr, owner_with, slot, row}
-use Rattle.ring_slots.specs.block.Memory.{owned}
-use Rattle.ring_slots.proofs.SlotsInMemory.{item_of, full_within, place_fits, others, slot_out, slot_in}
-use Rattle.ring_slots.proofs.OwnerParts.{R, Seen, Mark, AreSmall, pointer_good, slots_opened}
+use Rattle.ring_slots.proofs.Words.{◌<◌, take, cut, refilled, set, set_split, drop-cons, arith, fjoin, proved, rawptr_vals, rawptr_Tells, uint_vals, uint_Tells, mut_vals, mut_Tells, w64, Vals, Goes-number, Goes-pointer, stay_number, stay_pointer, ◌≡◌, refl, sym, subst, ◌∙◌, List, [], ◌∷◌, ◌++◌, ℕ, ◌+◌, ◌*◌, ◌^◌, ◌<◌, length, get_or, length-set, Fn, a_type, named, inst_fn, Val, vptr, Ura, full_share, SProp, ent, sep, Fml, GName, ftrue, fsep, fat, flft, WpFn, Logic, sem, ‵, raw, ◌⊛◌, some, later, prop, at_ret, ◌$◌, ◌∵◌, !, qed, move, keep, drop, use1, use2, pick, split, split3, join, fsplit, fsplit3, fjoin, fjoin3, fpack, feq_l, flt_i, flt_l, rewrite, regoal, suffices, frame, group, await, done, stop, addr, of_opd, bin, size_lit, first, blocks, exec, returns, enter, alloc_all, pass_all, free_all, look_at, get, through, sets, sets_last, take_at, give_at, env, ◌⊑◌, fact, tables, usize, yes, no, follows, lends_Part, mem, cell_at, part_of, layouts, RattleType, Ptr, RawPtr, block_ptr, ptr_val, MutRef, plain, mut_ref_to, nothing, heard, says, Stays, stay_dropped, Goes-dropped, Goes-spent_ref, walk_of, ends_at, Option, Some, None, IsSome, type_size, after, proved_at, ty_ptr, owner_with, slot, row}
+use Rattle.std.proofs.Common.{add-one}
+use Rattle.ring_slots.proofs.Filled.{refilled_is}
+use Rattle.ring_slots.proofs.SlotsInMemory.{item_of, full_within, place_fits, around, stretch_out}
+use Rattle.ring_slots.proofs.OwnerParts.{R, Rest, Seen, AreSmall, back, pointer_good, refilled_owner, slots_opened}
 use Rattle.ring_slots.specs.contracts.block.Owner.get_mut as contract
 use Rattle.ring_slots.proofs.block.Owner.get_mut.Statement.{statement}
 use Rattle.ring_slots.proofs.block.Owner.get_mut.Code as code
@@ -11,20 +12,14 @@ abbrev stayed : (X : RattleType) → Stays (contract.ended X).signature.params (
 stayed X = (stay_dropped (mut_ref_to (0 ∷ []) tt (plain (λ _. Seen X))) no, (stay_pointer, (stay_number, tt)))
 
 module _ (X : RattleType) {M : Type 1} {𝓤 : Ura M} (𝓛 : Logic 𝓤) (d : (Seen X).Denot) (us : List Val) (b o rb ro place : ℕ) where
-  -- all but the item
-  abbrev Rest : Fml
-  Rest = fsep (others X b o d.slots place) (fsep ((Mark X).own_val (tt, tt) us) (cell_at full_share (Seen X).mir us rb ro))
-
-  back : d.at ≡ block_ptr b o → AreSmall X d → place < length d.slots
-      → (w : X.Denot) → ent 𝓤 (sep 𝓤 (sem 𝓛 ((mem (R X)).own_at w b (place * type_size (R X) + o))) (sem 𝓛 Rest)) (sem 𝓛 ((mem (Seen X)).own_at (owner_with d place (Some w)) rb ro))
-  unfolding part_of
-  back lies fit within w =
-      let new = owner_with d place (Some w) in
-      qed 𝓛 (‵ (slot (R X) b (place * type_size (R X) + o) (Some w)) ∷ ‵ Rest ∷ []) ∵ move ! (1 ∷ []) $ fsplit3 ! $ move ! (3 ∷ 0 ∷ []) $
-      use2 𝓛 (‵ (row (R X) b o new.slots)) (slot_in X b 𝓛 d.slots place o (Some w) within) $
-      flt_i ! (length new.slots * type_size (R X)) (2 ^ 63) (subst (λ (k : ℕ). k * type_size (R X) < 2 ^ 63) (sym (length-set d.slots place (Some w))) fit) $ fjoin ! $
-      rewrite ! 0 (λ (p : Ptr). ‵ (owned (R X) p new.slots)) (sym lies) refl $ move ! (1 ∷ 0 ∷ []) $ fjoin ! $
-      move ! (1 ∷ 0 ∷ []) $ fjoin ! $ fpack ! (List Val) (λ vs. fsep (cell_at full_share (Seen X).mir vs rb ro) ((Seen X).own_val new vs)) us $ done !
+  -- one slot is a stretch of one
+  back_one : d.at ≡ block_ptr b o → AreSmall X d → place < length d.slots → (w : X.Denot)
+      → ent 𝓤 (sep 𝓤 (sem 𝓛 ((mem (R X)).own_at w b (place * type_size (R X) + o))) (sem 𝓛 (Rest X 𝓛 d us b o rb ro place 1))) (sem 𝓛 ((mem (Seen X)).own_at (owner_with d place (Some w)) rb ro))
+  back_one lies fit within w =
+      let is : refilled d.slots place 1 (w ∷ []) ≡ set d.slots place (Some w) = refilled_is d.slots place (w ∷ []) ∙ rw add-one (sym (set_split d.slots place (Some w) within)) in
+      qed 𝓛 (‵ ((mem (R X)).own_at w b (place * type_size (R X) + o)) ∷ ‵ (Rest X 𝓛 d us b o rb ro place 1) ∷ []) ∵ nothing ! $ move ! (1 ∷ 0 ∷ []) $ fjoin ! $
+      use2 𝓛 (‵ ((mem (Seen X)).own_at (refilled_owner X 𝓛 d us b o rb ro place 1 (w ∷ [])) rb ro)) (back X 𝓛 d us b o rb ro place 1 lies fit (omega arith) (w ∷ []) refl) $
+      rewrite ! 0 (λ (cs : List (Option X.Denot)). ‵ ((mem (Seen X)).own_at (record d { slots = cs }) rb ro)) is refl $ done !
 
 pub get_mut_spec : {M : Type 1} → statement M
 get_mut_spec 𝓤 𝓛 𝓜 𝓡 wired X L =
@@ -49,7 +44,7 @@ get_mut_spec 𝓤 𝓛 𝓜 𝓡 wired X L =
     let within = full_within d.slots place x held.1 in
     let near = place_fits place (length d.slots) bytes within fit in
     let at : ℕ = place * bytes + o in
-    let rest = Rest X 𝓛 d us b o rb ro place in let way = back X 𝓛 d us b o rb ro place lies fit within in
+    let rest = Rest X 𝓛 d us b o rb ro place 1 in let way = back_one X 𝓛 d us b o rb ro place lies fit within in
     let new = λ (w : X.Denot). owner_with d place (Some w) in let was = (Seen X).coded.code d in
     take_at ! 2 $ rewrite ! 0 (λ (p : Ptr). ‵ (fat full_share ty_ptr (l 2) 0 (ptr_val p))) (same ∙ lies) refl $ give_at ! 2 $
     first ! $ blocks ! $
@@ -57,8 +52,9 @@ get_mut_spec 𝓤 𝓛 𝓜 𝓡 wired X L =
     sets ! (bin ! (get ! refl) (get ! refl) tt) refl (tt, tt) $
     sets_last ! (addr ! (through ! refl (stop !))) refl (tt, tt) $
     exec ! 𝓣.C 𝓣.Λ (env fn.locals l) (after 1 fn.body) (at_ret _ Post) $ sets ! (of_opd ! (get ! refl)) refl (tt, tt) $
-    use1 𝓛 (‵ (slot (R X) b at (get_or d.slots place None)) ⊛ ‵ (others X b o d.slots place)) (slot_out X b 𝓛 d.slots place o within) $ split ! $
-    rewrite ! 0 (λ (c : Option X.Denot). ‵ (slot (R X) b at c)) held.1 refl $
+    use1 𝓛 (‵ (row (R X) b at (take 1 (cut place d.slots))) ⊛ ‵ (around X b o d.slots place 1)) (stretch_out X b 𝓛 d.slots place 1 o (omega arith)) $ split ! $
+    rewrite ! 0 (λ (cs : List (Option X.Denot)). ‵ (row (R X) b at (take 1 cs))) (drop-cons d.slots place None within) refl $ fsplit ! $
+    rewrite ! 0 (λ (c : Option X.Denot). ‵ (slot (R X) b at c)) held.1 refl $ move ! (1 ∷ []) $ drop ! $
     -- [the item; the other slots; the mark; its cell; the open borrow, in three entries; the other tokens]
     move ! (1 ∷ 2 ∷ 3 ∷ []) $ fjoin3 ! $ move ! (2 ∷ 3 ∷ 4 ∷ 1 ∷ 0 ∷ []) $ group ! 5 $
     use1 𝓛 (later (some (λ (δ : GName). ‵ ((MutRef (named 0) κ (R X)).own_val (record { ref_ptr = (b, at); ghost_name = δ; now = x }) (vptr b at ∷ [])) ⊛ ‵ (flft κ q) ⊛ ‵ (follows (Seen X) (R X) γ δ new))))

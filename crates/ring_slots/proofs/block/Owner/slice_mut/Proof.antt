@@ -1,37 +1,13 @@
 -- The stretch is lent apart from the rest, which closes round any items that are written.
 use Rattle.ring_slots.proofs.Words.{proved, rawptr_vals, rawptr_Tells, uint_vals, uint_Tells, mut_vals, mut_Tells, Vals, Goes-number, Goes-pointer, stay_number, stay_pointer, ◌≡◌, refl, sym, ap, subst, ◌∙◌, List, [], ◌∷◌, ◌++◌, ℕ, ◌+◌, ◌*◌, ◌^◌, ◌<◌, ◌≤◌, length, arith, Fn, a_type, named, inst_fn, Val, vint, w64, Ura, full_share, SProp, ent, sep, Fml, GName, ftrue, fsep, fat, flft, WpFn, Logic, sem, ‵, raw, ◌⊛◌, some, later, prop, at_ret, ◌$◌, ◌∵◌, !, qed, move, keep, drop, use1, use2, pick, split, split3, join, fsplit, fsplit3, fjoin, fjoin3, fpack, feq_l, flt_i, flt_l, rewrite, regoal, suffices, frame, group, await, done, of_opd, bin, agg, and_then, no_more, is, size_word, first, blocks, exec, returns, enter, alloc_all, pass_all, free_all, look_at, get, sets, sets_last, take_at, give_at, env, ◌⊑◌, fact, tables, usize, yes, no, follows, mem, cell_at, cells, part_of, layouts, RattleType, Ptr, RawPtr, block_ptr, ptr_val, MutRef, plain, mut_ref_to, nothing, heard, says, Stays, stay_dropped, Goes-dropped, Goes-spent_ref, walk_of, ends_at, Some, type_size, after, proved_at, ty_ptr, take, cut, map, Array, MutSlice, slice_val, length-map, IsFullStretch, refilled, row, lends_Elements}
-use Rattle.ring_slots.specs.block.Memory.{owned}
-use Rattle.ring_slots.proofs.Filled.{length-filled, refilled_is}
-use Rattle.ring_slots.proofs.SlotsInMemory.{around, of_cells, product_is, stretch_fits, stretch_in, stretch_long, stretch_out, to_cells}
-use Rattle.ring_slots.proofs.OwnerParts.{R, Seen, Mark, AreSmall, pointer_good, slots_opened}
+use Rattle.ring_slots.proofs.SlotsInMemory.{around, product_is, stretch_fits, stretch_long, stretch_out, to_cells}
+use Rattle.ring_slots.proofs.OwnerParts.{R, Rest, Seen, back, pointer_good, refilled_owner, slots_opened}
 use Rattle.ring_slots.specs.contracts.block.Owner.slice_mut as contract
 use Rattle.ring_slots.proofs.block.Owner.slice_mut.Statement.{statement}
 use Rattle.ring_slots.proofs.block.Owner.slice_mut.Code as code
 
 abbrev stayed : (X : RattleType) → Stays (contract.ended X).signature.params (contract.ended X).kept
 stayed X = (stay_dropped (mut_ref_to (0 ∷ []) tt (plain (λ _. Seen X))) no, (stay_pointer, (stay_number, (stay_number, tt))))
-
-module _ (X : RattleType) {M : Type 1} {𝓤 : Ura M} (𝓛 : Logic 𝓤) (d : (Seen X).Denot) (us : List Val) (b o rb ro from len : ℕ) where
-  abbrev new : List X.Denot → (Seen X).Denot
-  new xs = record d { slots = refilled d.slots from len xs }
-
-  -- all but the stretch
-  abbrev Rest : Fml
-  Rest = fsep (around X b o d.slots from len) (fsep ((Mark X).own_val (tt, tt) us) (cell_at full_share (Seen X).mir us rb ro))
-
-  back : d.at ≡ block_ptr b o → AreSmall X d → from + len ≤ length d.slots
-      → (ws : List X.Denot) → length ws ≡ len → ent 𝓤 (sep 𝓤 (sem 𝓛 (cells (mem (R X)) ws b (from * type_size (R X) + o))) (sem 𝓛 Rest)) (sem 𝓛 ((mem (Seen X)).own_at (new ws) rb ro))
-  unfolding part_of
-  back lies fit within ws long =
-      let at = from * type_size (R X) + o in let many : length (map Some ws) ≡ len = length-map ws Some ∙ long in
-      let is : take from d.slots ++ (map Some ws ++ cut (from + len) d.slots) ≡ (new ws).slots = rw (sym long) (sym (refilled_is d.slots from ws)) in
-      let same : length (new ws).slots ≡ length d.slots = ap length (sym is) ∙ rw (sym long) (length-filled d.slots from ws (omega arith)) in
-      qed 𝓛 (‵ (cells (mem (R X)) ws b at) ∷ ‵ Rest ∷ []) ∵ use1 𝓛 (‵ (row (R X) b at (map Some ws))) (of_cells X b 𝓛 ws at) $ move ! (1 ∷ []) $ fsplit3 ! $ move ! (3 ∷ 0 ∷ []) $
-      use2 𝓛 (‵ (row (R X) b o (take from d.slots ++ (map Some ws ++ cut (from + len) d.slots)))) (stretch_in X b 𝓛 d.slots from len o (map Some ws) (omega arith) many) $
-      rewrite ! 0 (λ (l : List _). ‵ (row (R X) b o l)) is refl $
-      flt_i ! (length (new ws).slots * type_size (R X)) (2 ^ 63) (subst (λ (k : ℕ). k * type_size (R X) < 2 ^ 63) (sym same) fit) $ fjoin ! $
-      rewrite ! 0 (λ (p : Ptr). ‵ (owned (R X) p (new ws).slots)) (sym lies) refl $ move ! (1 ∷ 0 ∷ []) $ fjoin ! $
-      move ! (1 ∷ 0 ∷ []) $ fjoin ! $ fpack ! (List Val) (λ vs. fsep (cell_at full_share (Seen X).mir vs rb ro) ((Seen X).own_val (new ws) vs)) us $ done !
 
 pub slice_mut_spec : {M : Type 1} → statement M
 slice_mut_spec 𝓤 𝓛 𝓜 𝓡 wired X L =
@@ -56,7 +32,7 @@ slice_mut_spec 𝓤 𝓛 𝓜 𝓡 wired X L =
     let long = stretch_long d.slots from len xs full.0 holds in
     let fits = stretch_fits from len (length d.slots) bytes full.0 fit in
     let at : ℕ = from * bytes + o in
-    let rest = Rest X 𝓛 d us b o rb ro from len in let out = new X 𝓛 d us b o rb ro from len in
+    let rest = Rest X 𝓛 d us b o rb ro from len in let out = refilled_owner X 𝓛 d us b o rb ro from len in
     let roomy : length xs < 2 ^ 64 = rw long fits_len in let fitting : length xs * bytes < 2 ^ 63 = rw long fits.1 in
     let way : (ws : List X.Denot) → length ws ≡ length xs → ent 𝓤 (sep 𝓤 (sem 𝓛 (cells (mem (R X)) ws b at)) (sem 𝓛 rest)) (sem 𝓛 ((mem (Seen X)).own_at (out ws) rb ro)) =
     λ ws e. back X 𝓛 d us b o rb ro from len lies fit full.0 ws (e ∙ long) in

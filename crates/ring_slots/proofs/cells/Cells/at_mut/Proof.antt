@@ -1,52 +1,26 @@
 -- An element of the array is lent to the caller, which the borrow checker does not follow through an array. The element is
 -- taken out of the cells in memory with a way back at any value, and then lent.
-use Rattle.ring_slots.proofs.Words.{Goes-number, stay_number, ◌≡◌, refl, sym, ap, ◌∙◌, [], ◌∷◌, ℕ, zero, ◌+◌, ◌*◌, ◌^◌, ◌<◌, ◌≤◌, mul-le-mul_right, arith, length, get_or, set, length-set, Ura, ty_array, named, w64, inst_fn, vptr, vint, SProp, ent, sep, ex, guard, all, wand, all_e, apply∗, GName, ftrue, flft, size, align, up, Logic, sem, cells, ‵, raw, ◌⊛◌, some, given, later, ◌$◌, ◌∵◌, !, qed, by, move, keep, drop, split, split3, join, learn, check, fsplit3, use1, use2, await, pick, suffices, frame, group, show, done, ◌⊑◌, stop, fld, addr, bin, size_word, returns, enter, alloc_all, pass_all, free_all, look_at, get, through, sets, is, RefMutOf, usize, yes, no, follows, lends_Part, mem, number, layout, Laws, uint_vals, uint_Tells, RattleType, MutRef, mut_vals, mut_Tells, plain, nothing, says, Stays, stay_dropped, Goes-dropped, Goes-spent_ref, ends_at, proved, get_or_default, open_ref, first_at, Ended, at_mul}
-use borrow.Table.Elements.{at, focus_any}
-use Rattle.ring_slots.proofs.CellsInMemory.{Cells, Element, Shell, arguments, array_in, array_out}
+use Rattle.ring_slots.proofs.Words.{List, fsplit, fjoin, rewrite, take, cut, drop-cons, set_split, length-take, length-drop, Goes-number, stay_number, ◌≡◌, refl, sym, ap, ◌∙◌, [], ◌∷◌, ℕ, zero, ◌+◌, ◌*◌, ◌^◌, ◌<◌, ◌≤◌, mul-le-mul_right, arith, length, get_or, set, length-set, Ura, ty_array, named, w64, inst_fn, vptr, vint, SProp, ent, sep, ex, guard, all, wand, all_e, apply∗, GName, ftrue, flft, size, align, up, Logic, sem, cells, ‵, raw, ◌⊛◌, some, given, later, ◌$◌, ◌∵◌, !, qed, by, move, keep, drop, split, split3, join, learn, check, fsplit3, use1, use2, await, pick, suffices, frame, group, show, done, ◌⊑◌, stop, fld, addr, bin, size_word, returns, enter, alloc_all, pass_all, free_all, look_at, get, through, sets, is, RefMutOf, usize, yes, no, follows, lends_Part, mem, number, layout, Laws, uint_vals, uint_Tells, RattleType, MutRef, mut_vals, mut_Tells, plain, nothing, says, Stays, stay_dropped, Goes-dropped, Goes-spent_ref, ends_at, proved, get_or_default, open_ref, first_at, Ended, at_mul}
+use Rattle.std.proofs.Common.{add-one}
+use borrow.Table.Elements.{at}
+use Rattle.ring_slots.proofs.CellsInMemory.{Cells, Element, Rest, Shell, arguments, array_out, stretch_in, stretch_out, with_cells}
 use Rattle.ring_slots.proofs.Filled.{first_item}
 use Rattle.ring_slots.proofs.SlotsInMemory.{product_is}
 use Rattle.ring_slots.specs.contracts.cells.Cells.at_mut as contract
 use Rattle.ring_slots.proofs.cells.Cells.at_mut.Statement.{statement}
 use Rattle.ring_slots.proofs.cells.Cells.at_mut.Code as code
 
-module _ (X : RattleType) (n : ℕ) (L : Laws X) {M : Type 1} {𝓤 : Ura M} (𝓛 : Logic 𝓤) (b o m : ℕ) (d : (Cells X n).Denot) where
-  abbrev R : RattleType
-  R = Element X n
-
-  abbrev spot : ℕ
-  spot = at o (mem R).size m
-
+module _ (X : RattleType) (n : ℕ) {M : Type 1} {𝓤 : Ura M} (𝓛 : Logic 𝓤) (b o m : ℕ) (d : (Cells X n).Denot) where
   abbrev with : X.Denot → (Cells X n).Denot
   with x = record { xs = set d.xs m x }
 
-  -- the way from the element at any value back to the cells
-  abbrev cells_back : X.Denot → SProp 𝓤
-  cells_back x = wand 𝓤 (sem 𝓛 ((mem R).own_at x b spot)) (sem 𝓛 (cells (mem R) (set d.xs m x) b o))
-
-  -- the struct in memory without the element
-  abbrev Rest : SProp 𝓤
-  Rest = sep 𝓤 (all 𝓤 cells_back) (Shell X n 𝓛 b o)
-
-  back : length d.xs ≡ n → (x : X.Denot) → ent 𝓤 (sep 𝓤 (sem 𝓛 ((mem R).own_at x b spot)) Rest) (sem 𝓛 ((mem (Cells X n)).own_at (with x) b o))
-  back long x =
-      qed 𝓛 (‵ ((mem R).own_at x b spot) ∷ (raw (all 𝓤 cells_back) ⊛ raw (Shell X n 𝓛 b o)) ∷ []) ∵ move ! (1 ∷ []) $ split ! $
-      use1 𝓛 (raw (cells_back x)) (all_e 𝓤 cells_back x) $ move ! (2 ∷ 0 ∷ []) $
-      use2 𝓛 (‵ (cells (mem R) (set d.xs m x) b o)) (apply∗ 𝓤 (sem 𝓛 ((mem R).own_at x b spot)) (sem 𝓛 (cells (mem R) (set d.xs m x) b o))) $
-      by ! (array_in X n 𝓛 b o (with x) (length-set d.xs m x ∙ long))
-
-  -- the element is x, and lies apart from the rest
-  abbrev Apart : X.Denot → SProp 𝓤
-  Apart x = guard 𝓤 ((x ≡ get_or d.xs m x) × (length d.xs ≡ n)) (sep 𝓤 (sem 𝓛 ((mem R).own_at x b spot)) Rest)
-
-  element_out : m < n → ent 𝓤 (sem 𝓛 ((mem (Cells X n)).own_at d b o)) (ex 𝓤 Apart)
-  element_out within =
-      qed 𝓛 (‵ ((mem (Cells X n)).own_at d b o) ∷ []) ∵
-      use1 𝓛 (given (length d.xs ≡ n) (‵ (cells (mem R) d.xs b o) ⊛ raw (Shell X n 𝓛 b o))) (array_out X n 𝓛 b o L d) $ learn ! (λ long. split ! $
-      let is_there : m < length d.xs = omega arith in
-      let any : X.Denot = first_item d.xs (omega arith) in let read : X.Denot = get_or d.xs m any in
-      show ! Apart read $ check ! (get_or_default d.xs m any read is_there, long) $
-      use1 𝓛 (‵ ((mem R).own_at read b spot) ⊛ raw (all 𝓤 cells_back)) (focus_any 𝓛 (mem R) any m d.xs b o is_there) $
-      split ! $ frame ! $ done !)
+  back : length d.xs ≡ n → m < n → (x : X.Denot)
+      → ent 𝓤 (sep 𝓤 (sem 𝓛 ((mem (Element X n)).own_at x b (at o (mem (Element X n)).size m))) (Rest X n 𝓛 b o m 1 d)) (sem 𝓛 ((mem (Cells X n)).own_at (with x) b o))
+  back long within x =
+      let is : (with_cells X n 𝓛 b o m 1 d (x ∷ [])).xs ≡ set d.xs m x = rw add-one (sym (set_split d.xs m x (omega arith))) in
+      qed 𝓛 (‵ ((mem (Element X n)).own_at x b (at o (mem (Element X n)).size m)) ∷ raw (Rest X n 𝓛 b o m 1 d) ∷ []) ∵ nothing ! $ move ! (1 ∷ 0 ∷ []) $ fjoin ! $
+      use2 𝓛 (‵ ((mem (Cells X n)).own_at (with_cells X n 𝓛 b o m 1 d (x ∷ [])) b o)) (stretch_in X n 𝓛 b o m 1 d long (omega arith) (x ∷ []) (omega (arith, length-take 1 (cut m d.xs), length-drop m d.xs))) $
+      rewrite ! 0 (λ (l : List X.Denot). ‵ ((mem (Cells X n)).own_at (record { xs = l }) b o)) is refl $ done !
 
 module _ (X : RattleType) (n : ℕ) where
   abbrev ended : Ended
@@ -78,15 +52,18 @@ at_mut_spec 𝓤 𝓛 𝓜 𝓡 wired X n L fits =
     sets ! (addr ! (through ! refl (fld ! refl (stop !)))) refl (tt, tt) $
     sets ! (is ! (bin ! (get ! refl) (get ! refl) tt) (ap (vptr b) spot_is)) refl (tt, tt) $
     sets ! (addr ! (through ! refl (stop !))) refl (tt, tt) $
-    let with_element = with X n L 𝓛 b o m d in let spot = at o bytes m in let was = S.coded.code d in
+    let R : RattleType = Element X n in let with_element = with X n 𝓛 b o m d in let spot = at o bytes m in let rest = Rest X n 𝓛 b o m 1 d in let was = S.coded.code d in
     fsplit3 ! $ drop ! $ open_ref ! tt (mem S) {b = b} {o = o} $
-    use1 𝓛 (some (λ (x : X.Denot). given ((x ≡ get_or d.xs m x) × (length d.xs ≡ n)) (‵ ((mem (Element X n)).own_at x b spot) ⊛ raw (Rest X n L 𝓛 b o m d)))) (element_out X n L 𝓛 b o m d within) $
-    pick ! (λ x. learn ! (λ found. split ! $ move ! (2 ∷ 3 ∷ 4 ∷ 0 ∷ 1 ∷ []) $ group ! 5 $
-    use1 𝓛 (later (some (λ (δ : GName). ‵ ((MutRef (named 0) κs.0 (Element X n)).own_val (record { ref_ptr = (b, spot); ghost_name = δ; now = x }) (vptr b spot ∷ [])) ⊛ ‵ (flft κs.0 qs.0) ⊛ ‵ (follows S (Element X n) γ δ with_element))))
-    (lends_Part 𝓛 S (Element X n) with_element (named 0) κs.0 qs.0 b o b spot γ (Rest X n L 𝓛 b o m d) (back X n L 𝓛 b o m d found.1) was was x) $
+    use1 𝓛 (given (length d.xs ≡ n) (‵ (cells (mem R) d.xs b o) ⊛ raw (Shell X n 𝓛 b o))) (array_out X n 𝓛 b o L d) $ learn ! (λ long.
+    let there : m < length d.xs = omega arith in let any : X.Denot = first_item d.xs (omega arith) in let x : X.Denot = get_or d.xs m any in
+    use1 𝓛 (‵ (cells (mem R) (take 1 (cut m d.xs)) b spot) ⊛ raw rest) (stretch_out X n 𝓛 b o m 1 d (omega arith)) $ split ! $
+    rewrite ! 0 (λ (l : List X.Denot). ‵ (cells (mem R) (take 1 l) b spot)) (drop-cons d.xs m any there) refl $ fsplit ! $
+    move ! (1 ∷ []) $ drop ! $ move ! (2 ∷ 3 ∷ 4 ∷ 0 ∷ 1 ∷ []) $ group ! 5 $
+    use1 𝓛 (later (some (λ (δ : GName). ‵ ((MutRef (named 0) κs.0 R).own_val (record { ref_ptr = (b, spot); ghost_name = δ; now = x }) (vptr b spot ∷ [])) ⊛ ‵ (flft κs.0 qs.0) ⊛ ‵ (follows S R γ δ with_element))))
+    (lends_Part 𝓛 S R with_element (named 0) κs.0 qs.0 b o b spot γ rest (back X n 𝓛 b o m d long within) was was x) $
     await ! tt $ pick ! (λ δ. split3 ! $ returns ! (look_at ! 0 refl) $ free_all ! refl $
     -- [the reference; the token of its lifetime; what the struct ends as; the other tokens]
     suffices ! _ (ends_at 𝓛 (ended X n) (stayed X n) clauses ((κs, qs, bounds, a, (self, (place, tt))), tt) (vptr b (at o bytes m))
     (record { ref_ptr = (b, at o bytes m); ghost_name = δ; now = x }) (tt, (tt, tt)) (tt, (tt, tt))) $
     move ! (1 ∷ 3 ∷ []) $ join ! $ nothing ! $ nothing ! $ join ! $ nothing ! $ join ! $ move ! (1 ∷ 0 ∷ []) $
-    group ! 3 $ frame ! $ says ! found.0 $ done !)))))))
+    group ! 3 $ frame ! $ says ! (get_or_default d.xs m any x there) $ done !))))))

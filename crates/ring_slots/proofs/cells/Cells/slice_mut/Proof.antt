@@ -1,61 +1,12 @@
 -- A stretch of the array is lent as a slice. The borrow checker doesn't follow a part of an array: the stretch is taken out
 -- of the cells in memory, which close round any items that are written.
 use Rattle.ring_slots.proofs.Words.{Goes-number, stay_number, ◌≡◌, refl, sym, ap, ◌∙◌, List, [], ◌∷◌, ◌++◌, ℕ, zero, ◌+◌, ◌*◌, ◌^◌, ◌<◌, ◌≤◌, mul-le-mul_right, arith, length, length-take, length-drop, length-append, take, cut, take-append-drop, drop-drop, take_front, Ura, named, w64, inst_fn, vptr, vint, SProp, ent, sep, GName, ftrue, flft, size, align, up, ty_array, Logic, sem, cells, ‵, raw, ◌⊛◌, some, given, later, ◌$◌, ◌∵◌, !, qed, by, move, keep, drop, split, split3, join, learn, fsplit3, use1, use2, await, pick, suffices, frame, group, rewrite, done, ◌⊑◌, stop, fld, addr, agg, and_then, no_more, bin, size_word, returns, enter, alloc_all, pass_all, free_all, look_at, get, through, sets, is, RefMutOf, usize, yes, no, follows, mem, number, layout, Laws, uint_vals, uint_Tells, RattleType, MutRef, MutSlice, slice_val, mut_vals, mut_Tells, plain, nothing, says, Stays, stay_dropped, Goes-dropped, Goes-spent_ref, ends_at, proved, Array, open_ref, lends_Elements, first_at, Ended, at_mul, ◌-◌, rewritten}
-use borrow.Table.Elements.{at, cut_app, join_app}
-use Rattle.ring_slots.proofs.CellsInMemory.{Cells, Element, Shell, arguments, array_in, array_out}
+use borrow.Table.Elements.{at}
+use Rattle.ring_slots.proofs.CellsInMemory.{Cells, Element, Rest, Shell, arguments, array_out, stretch, stretch_in, stretch_out, with_cells}
 use Rattle.ring_slots.proofs.SlotsInMemory.{product_is}
 use Rattle.ring_slots.specs.contracts.cells.Cells.slice_mut as contract
 use Rattle.ring_slots.proofs.cells.Cells.slice_mut.Statement.{statement}
 use Rattle.ring_slots.proofs.cells.Cells.slice_mut.Code as code
-
-module _ (X : RattleType) (n : ℕ) (L : Laws X) {M : Type 1} {𝓤 : Ura M} (𝓛 : Logic 𝓤) (b o from len : ℕ) (d : (Cells X n).Denot) where
-  abbrev R : RattleType
-  R = Element X n
-
-  abbrev after : List X.Denot → (Cells X n).Denot
-  after ws = record { xs = rewritten d.xs from len ws }
-
-  abbrev stretch : List X.Denot
-  stretch = take len (cut from d.xs)
-
-  abbrev past : List X.Denot → ℕ → ℕ
-  past xs p = at p (mem R).size (length xs)
-
-  abbrev spot : ℕ
-  spot = at o (mem R).size from
-
-  -- the cells outside the stretch, and the struct without its array
-  abbrev Rest : SProp 𝓤
-  Rest = sep 𝓤 (sem 𝓛 (cells (mem R) (take from d.xs) b o)) (sep 𝓤 (sem 𝓛 (cells (mem R) (cut (from + len) d.xs) b (past stretch spot))) (Shell X n 𝓛 b o))
-
-  stretch_out : from + len ≤ length d.xs → ent 𝓤 (sep 𝓤 (sem 𝓛 (cells (mem R) d.xs b o)) (Shell X n 𝓛 b o)) (sep 𝓤 (sem 𝓛 (cells (mem R) stretch b spot)) Rest)
-  stretch_out within =
-      let before = take from d.xs in let others = cut from d.xs in
-      let count : length before ≡ from = omega (arith, length-take from d.xs) in
-      qed 𝓛 (‵ (cells (mem R) d.xs b o) ∷ raw (Shell X n 𝓛 b o) ∷ []) ∵
-      rewrite ! 0 (λ (l : List X.Denot). ‵ (cells (mem R) l b o)) (sym (take-append-drop from d.xs)) refl $
-      use1 𝓛 (‵ (cells (mem R) before b o) ⊛ ‵ (cells (mem R) others b (past before o))) (cut_app 𝓛 (mem R) before others b o) $ split ! $
-      rewrite ! 1 (λ (k : ℕ). ‵ (cells (mem R) others b (at o (mem R).size k))) count refl $ move ! (1 ∷ []) $
-      rewrite ! 0 (λ (l : List X.Denot). ‵ (cells (mem R) l b spot)) (sym (take-append-drop len others)) refl $
-      use1 𝓛 (‵ (cells (mem R) stretch b spot) ⊛ ‵ (cells (mem R) (cut len others) b (past stretch spot))) (cut_app 𝓛 (mem R) stretch (cut len others) b spot) $ split ! $
-      rewrite ! 1 (λ (l : List X.Denot). ‵ (cells (mem R) l b (past stretch spot))) (drop-drop len from d.xs) refl $
-      move ! (0 ∷ 2 ∷ 1 ∷ 3 ∷ []) $ done !
-
-  stretch_in : length d.xs ≡ n → from + len ≤ n → (ws : List X.Denot) → length ws ≡ length stretch
-      → ent 𝓤 (sep 𝓤 (sem 𝓛 (cells (mem R) ws b spot)) Rest) (sem 𝓛 ((mem (Cells X n)).own_at (after ws) b o))
-  stretch_in long within ws same =
-      let before = take from d.xs in let behind = cut (from + len) d.xs in
-      let count : length before ≡ from = omega (arith, length-take from d.xs) in
-      let many : length ws ≡ len = omega (arith, length-take len (cut from d.xs), length-drop from d.xs) in
-      let is : before ++ (ws ++ behind) ≡ (after ws).xs = ap (λ (l : List X.Denot). before ++ (l ++ behind)) (sym (take_front ws (cut (length ws) stretch) len many)) in
-      let whole : length (after ws).xs ≡ n = omega (arith, ap length is, length-append before (ws ++ behind), length-append ws behind, length-drop (from + len) d.xs) in
-      qed 𝓛 (‵ (cells (mem R) ws b spot) ∷ ‵ (cells (mem R) before b o) ∷ ‵ (cells (mem R) behind b (past stretch spot)) ∷ raw (Shell X n 𝓛 b o) ∷ []) ∵
-      move ! (0 ∷ 2 ∷ []) $ rewrite ! 1 (λ (k : ℕ). ‵ (cells (mem R) behind b (at spot (mem R).size k))) (sym same) refl $
-      use2 𝓛 (‵ (cells (mem R) (ws ++ behind) b spot)) (join_app 𝓛 (mem R) ws behind b spot) $ move ! (1 ∷ 0 ∷ []) $
-      rewrite ! 1 (λ (k : ℕ). ‵ (cells (mem R) (ws ++ behind) b (at o (mem R).size k))) (sym count) refl $
-      use2 𝓛 (‵ (cells (mem R) (before ++ (ws ++ behind)) b o)) (join_app 𝓛 (mem R) before (ws ++ behind) b o) $
-      rewrite ! 0 (λ (l : List X.Denot). ‵ (cells (mem R) l b o)) is refl $
-      by ! (array_in X n 𝓛 b o (after ws) whole)
 
 module _ (X : RattleType) (n : ℕ) where
   abbrev ended : Ended
@@ -95,14 +46,14 @@ slice_mut_spec 𝓤 𝓛 𝓜 𝓡 wired X n L fits =
     fsplit3 ! $ drop ! $ open_ref ! tt (mem S) {b = b} {o = o} $
     use1 𝓛 (given (length d.xs ≡ n) (‵ (cells (mem R) d.xs b o) ⊛ raw (Shell X n 𝓛 b o))) (array_out X n 𝓛 b o L d) $
     learn ! (λ long.
-    let lent : List X.Denot = stretch X n L 𝓛 b o from len d in let spot = at o bytes from in let rest = Rest X n L 𝓛 b o from len d in let out = after X n L 𝓛 b o from len d in
+    let lent : List X.Denot = stretch X n 𝓛 b o from len d in let spot = at o bytes from in let rest = Rest X n 𝓛 b o from len d in let out = with_cells X n 𝓛 b o from len d in
     let many : length lent ≡ len = omega (arith, length-take len (cut from d.xs), length-drop from d.xs) in
     let most : length lent * bytes ≤ n * bytes = mul-le-mul_right bytes (omega arith) in
     let was = S.coded.code d in
-    use1 𝓛 (‵ (cells (mem R) lent b spot) ⊛ raw rest) (stretch_out X n L 𝓛 b o from len d (omega arith)) $ split ! $
+    use1 𝓛 (‵ (cells (mem R) lent b spot) ⊛ raw rest) (stretch_out X n 𝓛 b o from len d (omega arith)) $ split ! $
     move ! (2 ∷ 3 ∷ 4 ∷ 0 ∷ 1 ∷ []) $ group ! 5 $
     use1 𝓛 (later (some (λ (δ : GName). ‵ ((MutSlice (named 0) κs.0 R).own_val (record { ref_ptr = (b, spot); ghost_name = δ; now = lent }) (slice_val (b, spot) (length lent) ∷ [])) ⊛ ‵ (flft κs.0 qs.0) ⊛ ‵ (follows S (Array R 0) γ δ out))))
-    (lends_Elements 𝓛 S R out (named 0) κs.0 qs.0 b o b spot γ lent (omega arith, omega arith) rest (stretch_in X n L 𝓛 b o from len d long within) was was) $
+    (lends_Elements 𝓛 S R out (named 0) κs.0 qs.0 b o b spot γ lent (omega arith, omega arith) rest (stretch_in X n 𝓛 b o from len d long within) was was) $
     await ! tt $ pick ! (λ δ. split3 ! $
     rewrite ! 0 (λ (k : ℕ). ‵ ((MutSlice (named 0) κs.0 R).own_val (record { ref_ptr = (b, spot); ghost_name = δ; now = lent }) (slice_val (b, spot) k ∷ []))) many refl $
     returns ! (look_at ! 0 refl) $ free_all ! refl $
