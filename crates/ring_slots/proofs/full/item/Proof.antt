@@ -7,19 +7,17 @@ use Rattle.ring_slots.specs.contracts.full.item as contract
 use Rattle.ring_slots.proofs.full.item.Statement.{statement}
 use Rattle.ring_slots.proofs.full.item.Code as code
 
-abbrev stayed : (X : RattleType) → Stays (contract.ended X).signature.params (contract.ended X).kept
-stayed X = (stay_dropped (RefOf (0 ∷ []) tt (plain (λ _. Cell X)) (λ _. tt)) yes, tt)
-
 pub item_spec : {M : Type 1} → statement M
 item_spec 𝓤 𝓛 𝓜 𝓡 wired X L =
     let clauses = contract.clauses X 𝓛 𝓜.mem 𝓡.returns in
+    let ended = contract.ended X in let stayed : Stays ended.signature.params ended.kept = (stay_dropped (RefOf (0 ∷ []) tt (plain (λ _. Cell X)) (λ _. tt)) yes, tt) in
     let fn : Fn = inst_fn (arguments X) code.function in
     let 𝓣 = tables 𝓤 𝓛.H 𝓜 𝓡 𝓡.env in
-    proved 𝓛 (contract.ended X) (stayed X) clauses 𝓜 𝓡 (Goes-dropped 𝓛 2 (RefOf (0 ∷ []) tt (plain (λ _. Cell X)) (λ _. tt)) yes (λ κs x w. refl), tt)
+    proved 𝓛 ended stayed clauses 𝓜 𝓡 (Goes-dropped 𝓛 2 (RefOf (0 ∷ []) tt (plain (λ _. Cell X)) (λ _. tt)) yes (λ κs x w. refl), tt)
     (contract.Key.name (arguments X)) fn (code.unfolded 𝓤 𝓛.H 𝓜 𝓡 wired (X, tt))
     (λ κs. (shr_vals, tt)) (λ κs. (shr_Tells (named 0) κs.0 (Cell X), tt)) (λ κs qs bounds a _ are.
     let b = a.0.ref_ptr.0 in let o = a.0.ref_ptr.1 in let cell = a.0.now in let self = shr_vals a.0 in let at = capped (align (layout X)) + o in
-    let y : (walk_of 𝓛 (contract.ended X) (stayed X) clauses).Ghost = ((κs, qs, bounds, a, (self, tt)), tt) in
+    let y : (walk_of 𝓛 ended stayed clauses).Ghost = ((κs, qs, bounds, a, (self, tt)), tt) in
     qed 𝓛 (((‵ (flft κs.0 qs.0) ⊛ ‵ (flft κs.1.0 qs.1.0) ⊛ ‵ ftrue) ⊛ ‵ ((ShrRef (named 0) κs.0 (Cell X)).own_val a.0 self) ⊛ ‵ ftrue)
     ∷ (given (κs.1.0 ⊑ X.lives) (‵ ftrue) ⊛ given (IsSome cell) (‵ ftrue)) ∷ []) ∵
     move ! (1 ∷ []) $ split ! $ drop ! $ learn ! (λ full. drop ! $
@@ -31,8 +29,8 @@ item_spec 𝓤 𝓛 𝓜 𝓡 wired X L =
     first ! $ blocks ! $ sets ! (addr ! (through ! refl (stop !))) refl (tt, tt) $ sets ! (of_opd ! (get ! refl)) refl (tt, tt) $
     sets ! (bin ! (get ! refl) (align_word !) tt) refl (tt, tt) $ sets ! (of_opd ! (get ! refl)) refl (tt, tt) $
     sets_last ! (addr ! (through ! refl (stop !))) refl (tt, tt) $
-    exec ! 𝓣.C 𝓣.Λ (env fn.locals l) (after 1 fn.body) (at_ret _ ((walk_of 𝓛 (contract.ended X) (stayed X) clauses).post y)) $ sets ! (of_opd ! (get ! refl)) refl (tt, tt) $
+    exec ! 𝓣.C 𝓣.Λ (env fn.locals l) (after 1 fn.body) (at_ret _ ((walk_of 𝓛 ended stayed clauses).post y)) $ sets ! (of_opd ! (get ! refl)) refl (tt, tt) $
     returns ! (look_at ! 0 refl) $ free_all ! refl $
-    suffices ! _ (ends_at 𝓛 (contract.ended X) (stayed X) clauses y (vptr b at) (record { ref_ptr = (b, at); now = x }) (tt, tt) (tt, tt)) $ says ! held.1 $
+    suffices ! _ (ends_at 𝓛 ended stayed clauses y (vptr b at) (record { ref_ptr = (b, at); now = x }) (tt, tt) (tt, tt)) $ says ! held.1 $
     feq_i ! (List Val) (vptr b at ∷ []) (vptr b at ∷ []) refl $ fjoin ! $
     nothing ! $ nothing ! $ fjoin ! $ keep ! (2 ∷ 0 ∷ 1 ∷ []) $ done !)))

@@ -12,9 +12,6 @@ use Rattle.ring_slots.specs.contracts.full.item_mut as contract
 use Rattle.ring_slots.proofs.full.item_mut.Statement.{statement}
 use Rattle.ring_slots.proofs.full.item_mut.Code as code
 
-abbrev stayed : (X : RattleType) → Stays (contract.ended X).signature.params (contract.ended X).kept
-stayed X = (stay_dropped (mut_ref_to (0 ∷ []) tt (plain (λ _. Cell X))) no, tt)
-
 module _ (X : RattleType) (L : Laws X) {M : Type 1} {𝓤 : Ura M} (𝓛 : Logic 𝓤) (b o : ℕ) where
   abbrev fields : List Field
   fields = row_field (Item X) ∷ []
@@ -35,13 +32,14 @@ module _ (X : RattleType) (L : Laws X) {M : Type 1} {𝓤 : Ura M} (𝓛 : Logic
 pub item_mut_spec : {M : Type 1} → statement M
 item_mut_spec 𝓤 𝓛 𝓜 𝓡 wired X L =
     let clauses = contract.clauses X 𝓛 𝓜.mem 𝓡.returns in
+    let ended = contract.ended X in let stayed : Stays ended.signature.params ended.kept = (stay_dropped (mut_ref_to (0 ∷ []) tt (plain (λ _. Cell X))) no, tt) in
     let fn : Fn = inst_fn (arguments X) code.function in
     let 𝓣 = tables 𝓤 𝓛.H 𝓜 𝓡 𝓡.env in
-    proved 𝓛 (contract.ended X) (stayed X) clauses 𝓜 𝓡 (Goes-spent_ref 𝓛 2 (0 ∷ []) tt (plain (λ _. Cell X)), tt)
+    proved 𝓛 ended stayed clauses 𝓜 𝓡 (Goes-spent_ref 𝓛 2 (0 ∷ []) tt (plain (λ _. Cell X)), tt)
     (contract.Key.name (arguments X)) fn (code.unfolded 𝓤 𝓛.H 𝓜 𝓡 wired (X, tt))
     (λ κs. (mut_vals, tt)) (λ κs. (mut_Tells (named 0) κs.0 (Cell X), tt)) (λ κs qs bounds a _ are.
     let b = a.0.ref_ptr.0 in let o = a.0.ref_ptr.1 in let γ = a.0.ghost_name in let cell = a.0.now in let self = mut_vals a.0 in
-    let y : (walk_of 𝓛 (contract.ended X) (stayed X) clauses).Ghost = ((κs, qs, bounds, a, (self, tt)), tt) in
+    let y : (walk_of 𝓛 ended stayed clauses).Ghost = ((κs, qs, bounds, a, (self, tt)), tt) in
     qed 𝓛 (((‵ (flft κs.0 qs.0) ⊛ ‵ (flft κs.1.0 qs.1.0) ⊛ ‵ ftrue) ⊛ ‵ ((MutRef (named 0) κs.0 (Cell X)).own_val a.0 self) ⊛ ‵ ftrue)
     ∷ (given (κs.1.0 ⊑ X.lives) (‵ ftrue) ⊛ given (IsSome cell) (‵ ftrue)) ∷ []) ∵
     move ! (1 ∷ []) $ split ! $ drop ! $ learn ! (λ full. drop ! $
@@ -50,7 +48,7 @@ item_mut_spec 𝓤 𝓛 𝓜 𝓡 wired X L =
     first ! $ blocks ! $ sets ! (addr ! (through ! refl (stop !))) refl (tt, tt) $ sets ! (of_opd ! (get ! refl)) refl (tt, tt) $
     sets ! (is ! (bin ! (get ! refl) (align_word !) tt) (ap (vptr b) (sym (behind_mark (layout X) o)))) refl (tt, tt) $ sets ! (of_opd ! (get ! refl)) refl (tt, tt) $
     sets_last ! (addr ! (through ! refl (stop !))) refl (tt, tt) $
-    exec ! 𝓣.C 𝓣.Λ (env fn.locals l) (after 1 fn.body) (at_ret _ ((walk_of 𝓛 (contract.ended X) (stayed X) clauses).post y)) $ sets ! (of_opd ! (get ! refl)) refl (tt, tt) $
+    exec ! 𝓣.C 𝓣.Λ (env fn.locals l) (after 1 fn.body) (at_ret _ ((walk_of 𝓛 ended stayed clauses).post y)) $ sets ! (of_opd ! (get ! refl)) refl (tt, tt) $
     let held = item_of cell full in let x : X.Denot = held.0 in let at = o + mark_bytes X in let was = (Cell X).coded.code cell in
     fsplit3 ! $ drop ! $ open_ref ! tt (mem (Cell X)) {b = b} {o = o} $
     rewrite ! 0 (λ (c : Option X.Denot). ‵ ((mem (Cell X)).own_at c b o)) held.1 refl $
@@ -60,7 +58,7 @@ item_mut_spec 𝓤 𝓛 𝓜 𝓡 wired X L =
     (lends_Part 𝓛 (Cell X) (Item X) Some (named 0) κs.0 qs.0 b o b at γ (Rest X L 𝓛 b o x) (item_in X L 𝓛 b o x) was was x) $
     await ! tt $ pick ! (λ δ. split3 ! $ returns ! (look_at ! 0 refl) $ free_all ! refl $
     -- [the reference; the token of its lifetime; what the cell ends as; the other tokens]
-    suffices ! _ (ends_at 𝓛 (contract.ended X) (stayed X) clauses y (vptr b at)
+    suffices ! _ (ends_at 𝓛 ended stayed clauses y (vptr b at)
     (record { ref_ptr = (b, at); ghost_name = δ; now = x }) (tt, tt) (tt, tt)) $
     move ! (1 ∷ 3 ∷ []) $ join ! $ nothing ! $ nothing ! $ join ! $ move ! (1 ∷ 0 ∷ []) $
     group ! 3 $ frame ! $ says ! held.1 $ done !))))

@@ -12,9 +12,6 @@ use Rattle.ring_slots.specs.contracts.full.take as contract
 use Rattle.ring_slots.proofs.full.take.Statement.{statement}
 use Rattle.ring_slots.proofs.full.take.Code as code
 
-abbrev stayed : (X : RattleType) → Stays (contract.ended X).signature.params (contract.ended X).kept
-stayed X = (stay_ref (0 ∷ []) tt (plain (λ _. Cell X)), tt)
-
 module _ (X : RattleType) (L : Laws X) {M : Type 1} {𝓤 : Ura M} (𝓛 : Logic 𝓤) (b o : ℕ) where
   open 𝓛 use {H}
 
@@ -68,14 +65,15 @@ module _ (X : RattleType) (L : Laws X) {M : Type 1} {𝓤 : Ura M} (𝓛 : Logic
 pub take_spec : {M : Type 1} → statement M
 take_spec 𝓤 𝓛 𝓜 𝓡 wired X L =
     let clauses = contract.clauses X 𝓛 𝓜.mem 𝓡.returns in
+    let ended = contract.ended X in let stayed : Stays ended.signature.params ended.kept = (stay_ref (0 ∷ []) tt (plain (λ _. Cell X)), tt) in
     let fn : Fn = inst_fn (arguments X) code.function in
     let 𝓣 = tables 𝓤 𝓛.H 𝓜 𝓡 𝓡.env in
-    proved 𝓛 (contract.ended X) (stayed X) clauses 𝓜 𝓡 (Goes-ref 𝓛 2 0 tt (plain (λ _. Cell X)), tt)
+    proved 𝓛 ended stayed clauses 𝓜 𝓡 (Goes-ref 𝓛 2 0 tt (plain (λ _. Cell X)), tt)
     (contract.Key.name (arguments X)) fn (code.unfolded 𝓤 𝓛.H 𝓜 𝓡 wired (X, tt))
     (λ κs. (mut_vals, tt)) (λ κs. (mut_Tells (named 0) κs.0 (Cell X), tt)) (λ κs qs bounds a _ are.
     let b = a.0.ref_ptr.0 in let o = a.0.ref_ptr.1 in let γ = a.0.ghost_name in let cell = a.0.now in let self = mut_vals a.0 in
-    let y : (walk_of 𝓛 (contract.ended X) (stayed X) clauses).Ghost = ((κs, qs, bounds, a, (self, tt)), tt) in
-    let Post : Val → SProp 𝓤 = (walk_of 𝓛 (contract.ended X) (stayed X) clauses).post y in
+    let y : (walk_of 𝓛 ended stayed clauses).Ghost = ((κs, qs, bounds, a, (self, tt)), tt) in
+    let Post : Val → SProp 𝓤 = (walk_of 𝓛 ended stayed clauses).post y in
     qed 𝓛 (((‵ (flft κs.0 qs.0) ⊛ ‵ (flft κs.1.0 qs.1.0) ⊛ ‵ ftrue) ⊛ ‵ ((MutRef (named 0) κs.0 (Cell X)).own_val a.0 self) ⊛ ‵ ftrue)
     ∷ (given (κs.1.0 ⊑ X.lives) (‵ ftrue) ⊛ given (IsSome cell) (‵ ftrue)) ∷ []) ∵
     move ! (1 ∷ []) $ split ! $ drop ! $ learn ! (λ is_full. drop ! $
@@ -98,7 +96,7 @@ take_spec 𝓤 𝓛 𝓜 𝓡 wired X L =
     exec ! 𝓣.C 𝓣.Λ (env fn.locals l) (after 2 fn.body) (at_ret _ Post) $ sets ! (of_opd ! (get ! refl)) refl good $
     use1 𝓛 (‵ ((mem (Cell X)).own_at None b o)) (emptied X L 𝓛 b o) $ move ! (0 ∷ 2 ∷ 3 ∷ 4 ∷ []) $ close_ref ! tt (mem (Cell X)) None {b = b} {o = o} $
     returns ! (look_at ! 0 refl) $ free_all ! refl $
-    suffices ! _ (ends_at 𝓛 (contract.ended X) (stayed X) clauses y v x (None, tt) (tt, tt)) $ says_two ! (held.1, refl) $
+    suffices ! _ (ends_at 𝓛 ended stayed clauses y v x (None, tt) (tt, tt)) $ says_two ! (held.1, refl) $
     -- [what the caller watches; the borrow; its token; what the item owns; the other tokens]
     feq_i ! (List Val) (vptr b o ∷ []) (vptr b o ∷ []) refl $ fjoin3 ! $ nothing ! $ move ! (1 ∷ 0 ∷ []) $ fjoin ! $
     move ! (1 ∷ 3 ∷ []) $ join ! $ keep ! (0 ∷ 1 ∷ 2 ∷ []) $ done !)))))

@@ -12,21 +12,19 @@ use Rattle.ring_slots.specs.contracts.block.Owner.attach as contract
 use Rattle.ring_slots.proofs.block.Owner.attach.Statement.{statement}
 use Rattle.ring_slots.proofs.block.Owner.attach.Code as code
 
-abbrev stayed : (X : RattleType) → Stays (contract.ended X).signature.params (contract.ended X).kept
-stayed X = (stay_ref (0 ∷ []) tt (plain (λ _. Seen X)), (stay_dropped (plain (λ _. C.the_row (R X))) no, (stay_number, tt)))
-
 pub attach_spec : {M : Type 1} → statement M
 attach_spec 𝓤 𝓛 𝓜 𝓡 wired X L =
     let clauses = contract.clauses X 𝓛 𝓜.mem 𝓡.returns in
+    let ended = contract.ended X in let stayed : Stays ended.signature.params ended.kept = (stay_ref (0 ∷ []) tt (plain (λ _. Seen X)), (stay_dropped (plain (λ _. C.the_row (R X))) no, (stay_number, tt))) in
     let args = layouts (a_type ∷ []) (X, tt) in let fn : Fn = inst_fn args code.function in
     let 𝓣 = tables 𝓤 𝓛.H 𝓜 𝓡 𝓡.env in let E = items_of X L in
-    proved_at 𝓛 (contract.ended X) (stayed X) clauses 𝓜 𝓡
+    proved_at 𝓛 ended stayed clauses 𝓜 𝓡
     (Goes-ref 𝓛 2 0 tt (plain (λ _. Seen X)), (Goes-dropped 𝓛 2 (plain (λ _. Row E)) no (λ κs x w. refl), (Goes-number 𝓛 2, tt)))
     (contract.Key.name args) fn (code.unfolded 𝓤 𝓛.H 𝓜 𝓡 wired (X, tt)) (λ y _.
     let κs = y.0.0 in let qs = y.0.1 in let a = y.0.3 in let vss = y.0.4 in let κ = κs.1.0 in let q = qs.1.0 in
     let rb = a.0.ref_ptr.0 in let ro = a.0.ref_ptr.1 in let d = a.0.now in let r : (Row E).Denot = a.1.0 in let len = a.1.1.0 in
     let n : ℕ = slots_len r in let xs : List X.Denot = slots_items r in let fs : List Bool = slots_filled r in
-    let Post : Val → SProp 𝓤 = (walk_of 𝓛 (contract.ended X) (stayed X) clauses).post y in
+    let Post : Val → SProp 𝓤 = (walk_of 𝓛 ended stayed clauses).post y in
     qed 𝓛 (((‵ (flft κs.0 qs.0) ⊛ ‵ (flft κ q) ⊛ ‵ ftrue)
     ⊛ ‵ ((MutRef (named 0) κs.0 (Seen X)).own_val a.0 vss.0) ⊛ ‵ ((Row E).own_val r vss.1.0) ⊛ ‵ (usize.own_val len vss.1.1.0) ⊛ ‵ ftrue)
     ∷ (raw (fact 𝓤 (κ ⊑ X.lives)) ⊛ raw (fact 𝓤 (slots_ptr r ≡ d.at)) ⊛ raw (fact 𝓤 (d.slots ≡ []))) ∷ []) ∵
@@ -54,7 +52,7 @@ attach_spec 𝓤 𝓛 𝓜 𝓡 wired X L =
     slots_closed X ! tt new us b o rb ro (sym same ∙ lies) (subst (λ (k : ℕ). k * type_size (R X) < 2 ^ 63) (sym long) fit) $
     -- [the slots' owner, in two entries; its token; the other token; nothing]
     returns ! (look_at ! 0 refl) $ free_all ! refl $ keep ! (3 ∷ 4 ∷ 2 ∷ 0 ∷ 1 ∷ []) $
-    suffices ! _ (ends_at 𝓛 (contract.ended X) (stayed X) clauses y vunit tt (new, (tt, (tt, tt))) (tt, (tt, (tt, tt)))) $
+    suffices ! _ (ends_at 𝓛 ended stayed clauses y vunit tt (new, (tt, (tt, tt))) (tt, (tt, (tt, tt)))) $
     says ! (refl, record { size = long; held = λ i low. held_to len xs fs i many low; behind = λ i late. empty_from len xs fs i late }) $
     join ! $ move ! (1 ∷ 0 ∷ []) $ join ! $ frame ! $
     feq_i ! (List Val) vss.0 (vptr rb ro ∷ []) refers $ fjoin3 ! $ nothing ! $ nothing ! $ fjoin ! $ nothing ! $ fjoin ! $ move ! (1 ∷ 0 ∷ []) $ fjoin ! $ frame ! $

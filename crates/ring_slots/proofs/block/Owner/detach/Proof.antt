@@ -11,21 +11,19 @@ use Rattle.ring_slots.specs.contracts.block.Owner.detach as contract
 use Rattle.ring_slots.proofs.block.Owner.detach.Statement.{statement}
 use Rattle.ring_slots.proofs.block.Owner.detach.Code as code
 
-abbrev stayed : (X : RattleType) → Stays (contract.ended X).signature.params (contract.ended X).kept
-stayed X = (stay_ref (0 ∷ []) tt (plain (λ _. Seen X)), (stay_pointer, (stay_number, tt)))
-
 pub detach_spec : {M : Type 1} → statement M
 detach_spec 𝓤 𝓛 𝓜 𝓡 wired X L =
     let clauses = contract.clauses X 𝓛 𝓜.mem 𝓡.returns in
+    let ended = contract.ended X in let stayed : Stays ended.signature.params ended.kept = (stay_ref (0 ∷ []) tt (plain (λ _. Seen X)), (stay_pointer, (stay_number, tt))) in
     let args = layouts (a_type ∷ []) (X, tt) in let fn : Fn = inst_fn args code.function in
     let 𝓣 = tables 𝓤 𝓛.H 𝓜 𝓡 𝓡.env in let E = items_of X L in
-    proved 𝓛 (contract.ended X) (stayed X) clauses 𝓜 𝓡 (Goes-ref 𝓛 2 0 tt (plain (λ _. Seen X)), (Goes-pointer 𝓛 2, (Goes-number 𝓛 2, tt)))
+    proved 𝓛 ended stayed clauses 𝓜 𝓡 (Goes-ref 𝓛 2 0 tt (plain (λ _. Seen X)), (Goes-pointer 𝓛 2, (Goes-number 𝓛 2, tt)))
     (contract.Key.name args) fn (code.unfolded 𝓤 𝓛.H 𝓜 𝓡 wired (X, tt))
     (λ κs. (mut_vals, (rawptr_vals, (uint_vals w64, tt)))) (λ κs. (mut_Tells (named 0) κs.0 (Seen X), (rawptr_Tells, (uint_Tells w64, tt)))) (λ κs qs bounds a _ are.
     let κ = κs.1.0 in let q = qs.1.0 in let fits = are.1.1.0.1 in
     let rb = a.0.ref_ptr.0 in let ro = a.0.ref_ptr.1 in let d = a.0.now in let ptr = a.1.0 in let n = a.1.1.0 in
     let vss : Vals (contract.signature X) κs = (mut_vals a.0, (rawptr_vals ptr, (uint_vals w64 n, tt))) in
-    let y : (walk_of 𝓛 (contract.ended X) (stayed X) clauses).Ghost = ((κs, qs, bounds, a, vss), tt) in let Post : Val → SProp 𝓤 = (walk_of 𝓛 (contract.ended X) (stayed X) clauses).post y in
+    let y : (walk_of 𝓛 ended stayed clauses).Ghost = ((κs, qs, bounds, a, vss), tt) in let Post : Val → SProp 𝓤 = (walk_of 𝓛 ended stayed clauses).post y in
     qed 𝓛 (((‵ (flft κs.0 qs.0) ⊛ ‵ (flft κ q) ⊛ ‵ ftrue)
     ⊛ ‵ ((MutRef (named 0) κs.0 (Seen X)).own_val a.0 vss.0) ⊛ ‵ (RawPtr.own_val ptr vss.1.0) ⊛ ‵ (usize.own_val n vss.1.1.0) ⊛ ‵ ftrue)
     ∷ (raw (fact 𝓤 (κ ⊑ X.lives)) ⊛ raw (fact 𝓤 (ptr ≡ d.at)) ⊛ raw (fact 𝓤 (n ≡ length d.slots)) ⊛ raw (fact 𝓤 X.Denot)) ∷ []) ∵
@@ -50,7 +48,7 @@ detach_spec 𝓤 𝓛 𝓜 𝓡 wired X L =
     move ! (2 ∷ 3 ∷ 4 ∷ 5 ∷ 6 ∷ 7 ∷ []) $ slots_closed X ! tt none us b o rb ro lies (omega (arith, zero-mul (type_size (R X)))) $
     -- [the slots' owner, in two entries; its token; the row; the other token]
     returns ! (look_at ! 0 refl) $ free_all ! refl $ keep ! (4 ∷ 2 ∷ 0 ∷ 1 ∷ 3 ∷ []) $
-    suffices ! _ (ends_at 𝓛 (contract.ended X) (stayed X) clauses y (row_val b o n) r (none, (tt, (tt, tt))) (tt, (tt, (tt, tt)))) $
+    suffices ! _ (ends_at 𝓛 ended stayed clauses y (row_val b o n) r (none, (tt, (tt, tt))) (tt, (tt, (tt, tt)))) $
     says_both ! (made.1.0 ∙ sym lies, record { size = sym (made.1.1 ∙ whole); held = λ i low. held_in like d.slots i ∙ sym (λ j. if get_or (made.1.3 j) i false then slice_get (made.1.2 j) i else None); behind = λ i late. get_or_past d.slots i None (omega arith) }) (refl, refl) $
     nothing ! $ move ! (1 ∷ 0 ∷ []) $ join ! $ move ! (1 ∷ 0 ∷ []) $ join ! $ frame ! $
     feq_i ! (List Val) vss.0 (vptr rb ro ∷ []) refl $ fjoin3 ! $ nothing ! $ nothing ! $ fjoin ! $ nothing ! $ fjoin ! $ move ! (1 ∷ 0 ∷ []) $ fjoin ! $ frame ! $ done !))))))))))

@@ -8,9 +8,6 @@ use Rattle.ring_slots.specs.contracts.block.Owner.get_mut as contract
 use Rattle.ring_slots.proofs.block.Owner.get_mut.Statement.{statement}
 use Rattle.ring_slots.proofs.block.Owner.get_mut.Code as code
 
-abbrev stayed : (X : RattleType) → Stays (contract.ended X).signature.params (contract.ended X).kept
-stayed X = (stay_dropped (mut_ref_to (0 ∷ []) tt (plain (λ _. Seen X))) no, (stay_pointer, (stay_number, tt)))
-
 module _ (X : RattleType) {M : Type 1} {𝓤 : Ura M} (𝓛 : Logic 𝓤) (d : (Seen X).Denot) (us : List Val) (b o rb ro place : ℕ) where
   -- one slot is a stretch of one
   back_one : d.at ≡ block_ptr b o → AreSmall X d → place < length d.slots → (w : X.Denot)
@@ -24,15 +21,16 @@ module _ (X : RattleType) {M : Type 1} {𝓤 : Ura M} (𝓛 : Logic 𝓤) (d : (
 pub get_mut_spec : {M : Type 1} → statement M
 get_mut_spec 𝓤 𝓛 𝓜 𝓡 wired X L =
     let clauses = contract.clauses X 𝓛 𝓜.mem 𝓡.returns in
+    let ended = contract.ended X in let stayed : Stays ended.signature.params ended.kept = (stay_dropped (mut_ref_to (0 ∷ []) tt (plain (λ _. Seen X))) no, (stay_pointer, (stay_number, tt))) in
     let given = layouts (a_type ∷ []) (X, tt) in let fn : Fn = inst_fn given code.function in
     let 𝓣 = tables 𝓤 𝓛.H 𝓜 𝓡 𝓡.env in
-    proved 𝓛 (contract.ended X) (stayed X) clauses 𝓜 𝓡 (Goes-spent_ref 𝓛 2 (0 ∷ []) tt (plain (λ _. Seen X)), (Goes-pointer 𝓛 2, (Goes-number 𝓛 2, tt)))
+    proved 𝓛 ended stayed clauses 𝓜 𝓡 (Goes-spent_ref 𝓛 2 (0 ∷ []) tt (plain (λ _. Seen X)), (Goes-pointer 𝓛 2, (Goes-number 𝓛 2, tt)))
     (contract.Key.name given) fn (code.unfolded 𝓤 𝓛.H 𝓜 𝓡 wired (X, tt))
     (λ κs. (mut_vals, (rawptr_vals, (uint_vals w64, tt)))) (λ κs. (mut_Tells (named 0) κs.0 (Seen X), (rawptr_Tells, (uint_Tells w64, tt)))) (λ κs qs bounds a _ are.
     let κ = κs.0 in let q = qs.0 in let γ = a.0.ghost_name in
     let rb = a.0.ref_ptr.0 in let ro = a.0.ref_ptr.1 in let d = a.0.now in let ptr = a.1.0 in let place = a.1.1.0 in let bytes = type_size (R X) in
     let vss : Vals (contract.signature X) κs = (mut_vals a.0, (rawptr_vals ptr, (uint_vals w64 place, tt))) in
-    let y : (walk_of 𝓛 (contract.ended X) (stayed X) clauses).Ghost = ((κs, qs, bounds, a, vss), tt) in let Post : Val → SProp 𝓤 = (walk_of 𝓛 (contract.ended X) (stayed X) clauses).post y in
+    let y : (walk_of 𝓛 ended stayed clauses).Ghost = ((κs, qs, bounds, a, vss), tt) in let Post : Val → SProp 𝓤 = (walk_of 𝓛 ended stayed clauses).post y in
     qed 𝓛 (((‵ (flft κ q) ⊛ ‵ (flft κs.1.0 qs.1.0) ⊛ ‵ ftrue)
     ⊛ ‵ ((MutRef (named 0) κ (Seen X)).own_val a.0 vss.0) ⊛ ‵ (RawPtr.own_val ptr vss.1.0) ⊛ ‵ (usize.own_val place vss.1.1.0) ⊛ ‵ ftrue)
     ∷ (raw (fact 𝓤 (κs.1.0 ⊑ X.lives)) ⊛ raw (fact 𝓤 (ptr ≡ d.at)) ⊛ raw (fact 𝓤 (IsSome (get_or d.slots place None)))) ∷ []) ∵
@@ -60,6 +58,6 @@ get_mut_spec 𝓤 𝓛 𝓜 𝓡 wired X L =
     use1 𝓛 (later (some (λ (δ : GName). ‵ ((MutRef (named 0) κ (R X)).own_val (record { ref_ptr = (b, at); ghost_name = δ; now = x }) (vptr b at ∷ [])) ⊛ ‵ (flft κ q) ⊛ ‵ (follows (Seen X) (R X) γ δ new))))
     (lends_Part 𝓛 (Seen X) (R X) new (named 0) κ q rb ro b at γ (sem 𝓛 rest) way was was x) $ await ! tt $ pick ! (λ δ. split3 ! $
     returns ! (look_at ! 0 refl) $ free_all ! refl $
-    suffices ! _ (ends_at 𝓛 (contract.ended X) (stayed X) clauses y (vptr b at) (record { ref_ptr = (b, at); ghost_name = δ; now = x }) (tt, (tt, (tt, tt))) (tt, (tt, (tt, tt)))) $
+    suffices ! _ (ends_at 𝓛 ended stayed clauses y (vptr b at) (record { ref_ptr = (b, at); ghost_name = δ; now = x }) (tt, (tt, (tt, tt))) (tt, (tt, (tt, tt)))) $
     -- [the reference; its token; what the slots end as; the other tokens]
     move ! (1 ∷ 3 ∷ []) $ join ! $ nothing ! $ nothing ! $ join ! $ nothing ! $ join ! $ nothing ! $ join ! $ move ! (1 ∷ 0 ∷ 2 ∷ []) $ group ! 3 $ frame ! $ says ! held.1 $ done !))))))

@@ -6,21 +6,19 @@ use Rattle.ring_slots.specs.contracts.block.Owner.slice as contract
 use Rattle.ring_slots.proofs.block.Owner.slice.Statement.{statement}
 use Rattle.ring_slots.proofs.block.Owner.slice.Code as code
 
-abbrev stayed : (X : RattleType) → Stays (contract.ended X).signature.params (contract.ended X).kept
-stayed X = (stay_dropped (RefOf (0 ∷ []) tt (plain (λ _. Seen X)) (λ _. tt)) yes, (stay_pointer, (stay_number, (stay_number, tt))))
-
 pub slice_spec : {M : Type 1} → statement M
 slice_spec 𝓤 𝓛 𝓜 𝓡 wired X L =
     let clauses = contract.clauses X 𝓛 𝓜.mem 𝓡.returns in
+    let ended = contract.ended X in let stayed : Stays ended.signature.params ended.kept = (stay_dropped (RefOf (0 ∷ []) tt (plain (λ _. Seen X)) (λ _. tt)) yes, (stay_pointer, (stay_number, (stay_number, tt)))) in
     let given = layouts (a_type ∷ []) (X, tt) in let fn : Fn = inst_fn given code.function in
     let 𝓣 = tables 𝓤 𝓛.H 𝓜 𝓡 𝓡.env in
-    proved 𝓛 (contract.ended X) (stayed X) clauses 𝓜 𝓡 (Goes-dropped 𝓛 2 (RefOf (0 ∷ []) tt (plain (λ _. Seen X)) (λ _. tt)) yes (λ κs x w. refl), (Goes-pointer 𝓛 2, (Goes-number 𝓛 2, (Goes-number 𝓛 2, tt))))
+    proved 𝓛 ended stayed clauses 𝓜 𝓡 (Goes-dropped 𝓛 2 (RefOf (0 ∷ []) tt (plain (λ _. Seen X)) (λ _. tt)) yes (λ κs x w. refl), (Goes-pointer 𝓛 2, (Goes-number 𝓛 2, (Goes-number 𝓛 2, tt))))
     (contract.Key.name given) fn (code.unfolded 𝓤 𝓛.H 𝓜 𝓡 wired (X, tt))
     (λ κs. (shr_vals, (rawptr_vals, (uint_vals w64, (uint_vals w64, tt))))) (λ κs. (shr_Tells (named 0) κs.0 (Seen X), (rawptr_Tells, (uint_Tells w64, (uint_Tells w64, tt))))) (λ κs qs bounds a _ are.
     let κ = κs.0 in let fits_from = are.1.1.0.1 in let fits_len = are.1.1.1.0.1 in
     let d = a.0.now in let ptr = a.1.0 in let from = a.1.1.0 in let len = a.1.1.1.0 in let bytes = type_size (R X) in
     let vss : Vals (contract.signature X) κs = (shr_vals a.0, (rawptr_vals ptr, (uint_vals w64 from, (uint_vals w64 len, tt)))) in
-    let y : (walk_of 𝓛 (contract.ended X) (stayed X) clauses).Ghost = ((κs, qs, bounds, a, vss), tt) in let Post : Val → SProp 𝓤 = (walk_of 𝓛 (contract.ended X) (stayed X) clauses).post y in
+    let y : (walk_of 𝓛 ended stayed clauses).Ghost = ((κs, qs, bounds, a, vss), tt) in let Post : Val → SProp 𝓤 = (walk_of 𝓛 ended stayed clauses).post y in
     qed 𝓛 (((‵ (flft κ qs.0) ⊛ ‵ (flft κs.1.0 qs.1.0) ⊛ ‵ ftrue)
     ⊛ ‵ ((ShrRef (named 0) κ (Seen X)).own_val a.0 vss.0) ⊛ ‵ (RawPtr.own_val ptr vss.1.0) ⊛ ‵ (usize.own_val from vss.1.1.0) ⊛ ‵ (usize.own_val len vss.1.1.1.0) ⊛ ‵ ftrue)
     ∷ (raw (fact 𝓤 (κs.1.0 ⊑ X.lives)) ⊛ raw (fact 𝓤 (ptr ≡ d.at)) ⊛ raw (fact 𝓤 (IsFullStretch d.slots from len))) ∷ []) ∵
@@ -42,7 +40,7 @@ slice_spec 𝓤 𝓛 𝓜 𝓡 wired X L =
     exec ! 𝓣.C 𝓣.Λ (env fn.locals l) (after 1 fn.body) (at_ret _ Post) $ sets ! (of_opd ! (get ! refl)) refl (tt, (tt, (record { fits = fits_len }, tt))) $
     -- [the items; the token; the other tokens]
     returns ! (look_at ! 0 refl) $ free_all ! refl $ keep ! (1 ∷ 2 ∷ 0 ∷ []) $
-    suffices ! _ (ends_at 𝓛 (contract.ended X) (stayed X) clauses y (slice_val (b, at) len) (record { ref_ptr = (b, at); now = xs }) (tt, (tt, (tt, (tt, tt)))) (tt, (tt, (tt, (tt, tt))))) $ says ! holds $
+    suffices ! _ (ends_at 𝓛 ended stayed clauses y (slice_val (b, at) len) (record { ref_ptr = (b, at); now = xs }) (tt, (tt, (tt, (tt, tt)))) (tt, (tt, (tt, (tt, tt))))) $ says ! holds $
     join ! $ frame ! $ nothing ! $ nothing ! $ fjoin ! $ nothing ! $ fjoin ! $ nothing ! $ fjoin ! $ nothing ! $ fjoin ! $ frame ! $
     flt_i ! (length xs * bytes) (2 ^ 63) (rw long fits.1) $ flt_i ! (length xs) (2 ^ 64) (rw long fits_len) $ fjoin ! $
     feq_i ! (List Val) (slice_val (b, at) len ∷ []) (slice_val (b, at) (length xs) ∷ []) (ap (λ (k : ℕ). slice_val (b, at) k ∷ []) (sym long)) $ fjoin ! $ fjoin ! $ done !))))))

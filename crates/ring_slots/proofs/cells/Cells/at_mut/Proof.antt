@@ -22,18 +22,12 @@ module _ (X : RattleType) (n : ℕ) {M : Type 1} {𝓤 : Ura M} (𝓛 : Logic �
       use2 𝓛 (‵ ((mem (Cells X n)).own_at (with_cells X n 𝓛 b o m 1 d (x ∷ [])) b o)) (stretch_in X n 𝓛 b o m 1 d long (omega arith) (x ∷ []) (omega (arith, length-take 1 (cut m d.xs), length-drop m d.xs))) $
       rewrite ! 0 (λ (l : List X.Denot). ‵ ((mem (Cells X n)).own_at (record { xs = l }) b o)) is refl $ done !
 
-module _ (X : RattleType) (n : ℕ) where
-  abbrev ended : Ended
-  ended = contract.ended X (number n)
-
-  abbrev stayed : Stays ended.signature.params ended.kept
-  stayed = (stay_dropped (RefMutOf (0 ∷ []) tt (plain (λ _. Cells X n)) (λ _. tt)) no, (stay_number, tt))
-
 pub at_mut_spec : {M : Type 1} → statement M
 at_mut_spec 𝓤 𝓛 𝓜 𝓡 wired X n L fits =
     let clauses = contract.clauses X (number n) 𝓛 𝓜.mem 𝓡.returns in
+    let ended = contract.ended X (number n) in let stayed : Stays ended.signature.params ended.kept = (stay_dropped (RefMutOf (0 ∷ []) tt (plain (λ _. Cells X n)) (λ _. tt)) no, (stay_number, tt)) in
     let S : RattleType = Cells X n in
-    proved 𝓛 (ended X n) (stayed X n) clauses 𝓜 𝓡
+    proved 𝓛 ended stayed clauses 𝓜 𝓡
     (Goes-spent_ref 𝓛 3 (0 ∷ []) tt (plain (λ _. S)), (Goes-number 𝓛 3, tt))
     (contract.Key.name (arguments X n)) (inst_fn (arguments X n) code.function) (code.unfolded 𝓤 𝓛.H 𝓜 𝓡 wired (X, (number n, tt)))
     (λ κs. (mut_vals, (uint_vals w64, tt))) (λ κs. (mut_Tells (named 0) κs.0 S, (uint_Tells w64, tt))) (λ κs qs bounds a _ are.
@@ -63,7 +57,7 @@ at_mut_spec 𝓤 𝓛 𝓜 𝓡 wired X n L fits =
     (lends_Part 𝓛 S R with_element (named 0) κs.0 qs.0 b o b spot γ rest (back X n 𝓛 b o m d long within) was was x) $
     await ! tt $ pick ! (λ δ. split3 ! $ returns ! (look_at ! 0 refl) $ free_all ! refl $
     -- [the reference; the token of its lifetime; what the struct ends as; the other tokens]
-    suffices ! _ (ends_at 𝓛 (ended X n) (stayed X n) clauses ((κs, qs, bounds, a, (self, (place, tt))), tt) (vptr b (at o bytes m))
+    suffices ! _ (ends_at 𝓛 ended stayed clauses ((κs, qs, bounds, a, (self, (place, tt))), tt) (vptr b (at o bytes m))
     (record { ref_ptr = (b, at o bytes m); ghost_name = δ; now = x }) (tt, (tt, tt)) (tt, (tt, tt))) $
     move ! (1 ∷ 3 ∷ []) $ join ! $ nothing ! $ nothing ! $ join ! $ nothing ! $ join ! $ move ! (1 ∷ 0 ∷ []) $
     group ! 3 $ frame ! $ says ! (get_or_default d.xs m any x there) $ done !))))))

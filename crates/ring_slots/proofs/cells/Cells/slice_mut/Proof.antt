@@ -8,18 +8,12 @@ use Rattle.ring_slots.specs.contracts.cells.Cells.slice_mut as contract
 use Rattle.ring_slots.proofs.cells.Cells.slice_mut.Statement.{statement}
 use Rattle.ring_slots.proofs.cells.Cells.slice_mut.Code as code
 
-module _ (X : RattleType) (n : ℕ) where
-  abbrev ended : Ended
-  ended = contract.ended X (number n)
-
-  abbrev stayed : Stays ended.signature.params ended.kept
-  stayed = (stay_dropped (RefMutOf (0 ∷ []) tt (plain (λ _. Cells X n)) (λ _. tt)) no, (stay_number, (stay_number, tt)))
-
 pub slice_mut_spec : {M : Type 1} → statement M
 slice_mut_spec 𝓤 𝓛 𝓜 𝓡 wired X n L fits =
     let clauses = contract.clauses X (number n) 𝓛 𝓜.mem 𝓡.returns in
+    let ended = contract.ended X (number n) in let stayed : Stays ended.signature.params ended.kept = (stay_dropped (RefMutOf (0 ∷ []) tt (plain (λ _. Cells X n)) (λ _. tt)) no, (stay_number, (stay_number, tt))) in
     let S : RattleType = Cells X n in let R : RattleType = Element X n in
-    proved 𝓛 (ended X n) (stayed X n) clauses 𝓜 𝓡
+    proved 𝓛 ended stayed clauses 𝓜 𝓡
     (Goes-spent_ref 𝓛 3 (0 ∷ []) tt (plain (λ _. S)), (Goes-number 𝓛 3, (Goes-number 𝓛 3, tt)))
     (contract.Key.name (arguments X n)) (inst_fn (arguments X n) code.function) (code.unfolded 𝓤 𝓛.H 𝓜 𝓡 wired (X, (number n, tt)))
     (λ κs. (mut_vals, (uint_vals w64, (uint_vals w64, tt)))) (λ κs. (mut_Tells (named 0) κs.0 S, (uint_Tells w64, (uint_Tells w64, tt)))) (λ κs qs bounds a _ are.
@@ -58,7 +52,7 @@ slice_mut_spec 𝓤 𝓛 𝓜 𝓡 wired X n L fits =
     rewrite ! 0 (λ (k : ℕ). ‵ ((MutSlice (named 0) κs.0 R).own_val (record { ref_ptr = (b, spot); ghost_name = δ; now = lent }) (slice_val (b, spot) k ∷ []))) many refl $
     returns ! (look_at ! 0 refl) $ free_all ! refl $
     -- [the reference; the token of its lifetime; what the struct ends as; the other tokens]
-    suffices ! _ (ends_at 𝓛 (ended X n) (stayed X n) clauses ((κs, qs, bounds, a, (self, (first, (count, tt)))), tt) (slice_val (b, spot) len)
+    suffices ! _ (ends_at 𝓛 ended stayed clauses ((κs, qs, bounds, a, (self, (first, (count, tt)))), tt) (slice_val (b, spot) len)
     (record { ref_ptr = (b, spot); ghost_name = δ; now = lent }) (tt, (tt, (tt, tt))) (tt, (tt, (tt, tt)))) $
     move ! (1 ∷ 3 ∷ []) $ join ! $ nothing ! $ nothing ! $ join ! $ nothing ! $ join ! $ nothing ! $ join ! $ move ! (1 ∷ 0 ∷ []) $
     group ! 3 $ frame ! $ says ! refl $ done !))))))

@@ -6,12 +6,10 @@ use Rattle.ring_slots.specs.contracts.marks.Marks.marked as contract
 use Rattle.ring_slots.proofs.marks.Marks.marked.Statement.{statement}
 use Rattle.ring_slots.proofs.marks.Marks.marked.Code as code
 
-abbrev stayed : Stays contract.ended.signature.params contract.ended.kept
-stayed = (stay_none_ref (0 ∷ []) tt (plain (λ _. the_row)) yes, (stay_number, (stay_number, (stay_dropped (plain (λ _. bool)) yes, tt))))
-
 pub marked_spec : {M : Type 1} → statement M
 marked_spec 𝓤 𝓛 𝓜 𝓡 wired =
     let clauses = contract.clauses 𝓛 𝓜.mem 𝓡.returns in
+    let stayed : Stays contract.ended.signature.params contract.ended.kept = (stay_none_ref (0 ∷ []) tt (plain (λ _. the_row)) yes, (stay_number, (stay_number, (stay_dropped (plain (λ _. bool)) yes, tt)))) in
     proved 𝓛 contract.ended stayed clauses 𝓜 𝓡 (Goes-none_ref 𝓛 1 (0 ∷ []) tt (plain (λ _. the_row)) yes, (Goes-number 𝓛 1, (Goes-number 𝓛 1, (Goes-dropped 𝓛 1 (plain (λ _. bool)) yes (λ κs x w. refl), tt))))
     contract.Key.name code.function (code.unfolded 𝓤 𝓛.H 𝓜 𝓡 wired)
     (λ κs. (shr_vals, (uint_vals w64, (uint_vals w64, (bool_vals, tt))))) (λ κs. (shr_Tells (named 0) κs.0 the_row, (uint_Tells w64, (uint_Tells w64, (bool_Tells, tt))))) (λ κs qs bounds a _ are.

@@ -5,12 +5,10 @@ use Rattle.ring_slots.specs.contracts.marks.Marks.none as contract
 use Rattle.ring_slots.proofs.marks.Marks.none.Statement.{statement}
 use Rattle.ring_slots.proofs.marks.Marks.none.Code as code
 
-abbrev stayed : Stays contract.ended.signature.params contract.ended.kept
-stayed = (stay_number, tt)
-
 pub none_spec : {M : Type 1} → statement M
 none_spec 𝓤 𝓛 𝓜 𝓡 wired =
     let clauses = contract.clauses 𝓛 𝓜.mem 𝓡.returns in
+    let stayed : Stays contract.ended.signature.params contract.ended.kept = (stay_number, tt) in
     proved 𝓛 contract.ended stayed clauses 𝓜 𝓡 (Goes-number 𝓛 0, tt)
     contract.Key.name code.function (code.unfolded 𝓤 𝓛.H 𝓜 𝓡 wired)
     (λ κs. (uint_vals w64, tt)) (λ κs. (uint_Tells w64, tt)) (λ κs qs bounds a _ are.
