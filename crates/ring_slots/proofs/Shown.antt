@@ -64,14 +64,17 @@ module _ {X : Type 0} where
   item-shown (f ∷ fs) (x ∷ xs) zero full = ap (λ (b : Bool). if b then Some x else None) full
   item-shown (f ∷ fs) (x ∷ xs) (suc k) full = item-shown fs xs k full
 
-  -- there is a cell where a slot is full
-  pub within : (fs : List Bool) (xs : List X) (k : ℕ) → length fs ≡ length xs → IsSome (get_or (shown fs xs) k None) → k < length xs
-  within fs xs k same full =
-      let (x, is) = item_of (get_or (shown fs xs) k None) full in let low = full_within (shown fs xs) k x is in omega (arith, low, length-shown fs xs same)
+  pub shown-size : {n : ℕ} (fs : List Bool) (xs : List X) → (length xs ≡ n) × (length fs ≡ n) → length (shown fs xs) ≡ n
+  shown-size fs xs (long, marked) = length-shown fs xs (marked ∙ sym long) ∙ long
 
-  pub full-item : (fs : List Bool) (xs : List X) (k : ℕ) (x : X) → length fs ≡ length xs → IsSome (get_or (shown fs xs) k None) → x ≡ get_or xs k x → get_or (shown fs xs) k None ≡ Some x
-  full-item fs xs k x same full is =
-      item-shown fs xs k (mark-full fs xs k full) ∙ slice_get-get_or xs k x (within fs xs k same full) ∙ ap Some (sym is)
+  -- there is a cell where a slot is full
+  pub within : {n : ℕ} (fs : List Bool) (xs : List X) (k : ℕ) → (length xs ≡ n) × (length fs ≡ n) → IsSome (get_or (shown fs xs) k None) → k < n
+  within fs xs k sized full =
+      let (x, is) = item_of (get_or (shown fs xs) k None) full in let low = full_within (shown fs xs) k x is in omega (arith, low, shown-size fs xs sized)
+
+  pub full-item : {n : ℕ} (fs : List Bool) (xs : List X) (k : ℕ) (x : X) → (length xs ≡ n) × (length fs ≡ n) → IsSome (get_or (shown fs xs) k None) → x ≡ get_or xs k x → get_or (shown fs xs) k None ≡ Some x
+  full-item fs xs k x sized full is =
+      item-shown fs xs k (mark-full fs xs k full) ∙ slice_get-get_or xs k x (omega (arith, within fs xs k sized full, sized.0)) ∙ ap Some (sym is)
 
   -- a part of what is shown is what parts show
   shown-cut : (n : ℕ) (fs : List Bool) (xs : List X) → cut n (shown fs xs) ≡ shown (cut n fs) (cut n xs)

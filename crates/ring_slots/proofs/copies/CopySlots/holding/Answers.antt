@@ -1,4 +1,3 @@
-use Rattle.ring_slots.proofs.Words.{}
 use Rattle.ring_slots.proofs.Words.{◌≡◌, ◌+◌, ◌++◌, ap, sym, ◌∙◌, arith, cut, false, length, map, replicate, true, Some, rules, shown}
 use Rattle.ring_slots.proofs.Shown.{all_marked, shown-all}
 use Rattle.ring_slots.proofs.copies.CopySlots.holding.Goals as goal

@@ -1,13 +1,11 @@
-use Rattle.ring_slots.proofs.Words.{}
 use Rattle.ring_slots.proofs.Words.{◌≡◌, ◌+◌, ◌≤◌, sym, ◌∙◌, arith, length, length-replicate, refl, replicate, true, rules, filled, shown}
-use Rattle.ring_slots.proofs.Shown.{length-over, length-shown, shown-filled}
+use Rattle.ring_slots.proofs.Shown.{length-over, length-shown, shown-size, shown-filled}
 use Rattle.ring_slots.proofs.copies.CopySlots.put_copies.Goals as goal
 
 pub put_slice-requires : goal.put_slice-requires
 put_slice-requires g c =
-    let fs = c.self.inside.marks.full in let xs = c.self.inside.cells.xs in let same = c.self.invariant.1 ∙ sym c.self.invariant.0 in
     let empty = rw (sym c.self.view_is) at c.requires in
-    (search rules, omega (arith, empty.0, length-shown fs xs same, c.self.invariant.0))
+    (search rules, omega (arith, empty.0, shown-size c.self.inside.marks.full c.self.inside.cells.xs c.self.invariant))
 
 pub invariant_of-self : goal.invariant_of-self
 invariant_of-self g c =
@@ -18,7 +16,5 @@ invariant_of-self g c =
 
 pub returns : goal.returns
 returns g c =
-    let fs = c.self.inside.marks.full in let xs = c.self.inside.cells.xs in let same = c.self.invariant.1 ∙ sym c.self.invariant.0 in
-    let items = c.args.items.now in
-    let slots : shown c.marked-self-inside.result.full c.put_slice.new.self.xs ≡ filled (shown fs xs) c.args.from items = rw (c.marked-self-inside.ensures, c.put_slice.ensures) (shown-filled fs xs c.args.from items same) in
-    rw (sym c.self.view_is) (λ i. record { slots = slots i; changes = c.after-self-inside.ensures i; capacity = g.row.CAP })
+    let slots = shown-filled c.self.inside.marks.full c.self.inside.cells.xs c.args.from c.args.items.now (c.self.invariant.1 ∙ sym c.self.invariant.0) in
+    rw (sym c.self.view_is, c.marked-self-inside.ensures, c.put_slice.ensures) (λ i. record { slots = slots i; changes = c.after-self-inside.ensures i; capacity = g.row.CAP })

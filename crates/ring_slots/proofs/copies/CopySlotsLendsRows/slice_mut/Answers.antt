@@ -1,13 +1,12 @@
-use Rattle.ring_slots.proofs.Words.{}
 use Rattle.ring_slots.proofs.Words.{◌≡◌, ◌+◌, ◌≤◌, refl, sym, ◌∙◌, arith, length, take, cut, HoldsStretch, refill, refilled, rules, length_refill, rewritten, shown}
-use Rattle.ring_slots.proofs.Shown.{cells-long, length-over, length-shown, stretch-shown}
+use Rattle.ring_slots.proofs.Shown.{cells-long, length-over, length-shown, shown-size, stretch-shown}
 use Rattle.ring_slots.proofs.ShownMoved.{shown-rewritten}
 use Rattle.ring_slots.proofs.copies.CopySlotsLendsRows.slice_mut.Goals as goal
 
 pub slice_mut-requires : goal.slice_mut-requires
 slice_mut-requires g c =
-    let fs = c.self.inside.marks.full in let xs = c.self.inside.cells.xs in let same = c.self.invariant.1 ∙ sym c.self.invariant.0 in let full = rw (sym c.self.view_is) at c.requires.full in
-    (search rules, omega (arith, full.0, length-shown fs xs same, c.self.invariant.0))
+    let full = rw (sym c.self.view_is) at c.requires.full in
+    (search rules, omega (arith, full.0, shown-size c.self.inside.marks.full c.self.inside.cells.xs c.self.invariant))
 
 -- As many cells as were lent are written.
 pub invariant_of-self-lent : goal.invariant_of-self-lent

@@ -1,11 +1,11 @@
 use Rattle.ring_slots.proofs.Words.{sym, ◌∙◌, arith, passed_up, rules}
-use Rattle.ring_slots.proofs.Shown.{length-passed, length-shown, shown-passes, up-long}
+use Rattle.ring_slots.proofs.Shown.{length-passed,  shown-passes, shown-size, up-long}
 use Rattle.ring_slots.proofs.copies.CopySlotsRingSlots.pass_up.Goals as goal
 
 pub pass_up-requires : goal.pass_up-requires
 pass_up-requires g c =
-    let fs = c.self.inside.marks.full in let xs = c.self.inside.cells.xs in let same = c.self.invariant.1 ∙ sym c.self.invariant.0 in let full = rw (sym c.self.view_is) at c.requires in
-    (search rules, omega (arith, full.0, length-shown fs xs same, c.self.invariant.0))
+    let full = rw (sym c.self.view_is) at c.requires in
+    (search rules, omega (arith, full.0, shown-size c.self.inside.marks.full c.self.inside.cells.xs c.self.invariant))
 
 pub invariant_of-self : goal.invariant_of-self
 invariant_of-self g c =
