@@ -9,7 +9,7 @@ use denote.Struct.Tuple.{Tuple, tuple_type}
 use Rattle.std.specs.contracts.alloc.Global as heap
 use Rattle.std.proofs.alloc.Global.TheLaws as heap_laws
 use Rattle.ring_slots.proofs.Filled.{length-filled, refilled_is}
-use Rattle.ring_slots.proofs.SlotsInMemory.{around, of_cells, stretch_in}
+use Rattle.ring_slots.proofs.SlotsInMemory.{around, row-cells, stretch_in}
 use Rattle.ring_slots.specs.block.Memory.{owned}
 use Rattle.ring_slots.specs.contracts.block.Deed as D
 use Rattle.ring_slots.specs.contracts.block.Owner as O
@@ -89,7 +89,7 @@ module _ (X : RattleType) {M : Type 1} {𝓤 : Ura M} (𝓛 : Logic 𝓤) (d : (
       let at = from * type_size (R X) + o in let many : length (map Some ws) ≡ len = length-map ws Some ∙ long in
       let is : take from d.slots ++ (map Some ws ++ cut (from + len) d.slots) ≡ (refilled_owner ws).slots = rw (sym long) (sym (refilled_is d.slots from ws)) in
       let same : length (refilled_owner ws).slots ≡ length d.slots = ap length (sym is) ∙ rw (sym long) (length-filled d.slots from ws (omega arith)) in
-      qed 𝓛 (‵ (cells (mem (R X)) ws b at) ∷ ‵ Rest ∷ []) ∵ use1 𝓛 (‵ (row (R X) b at (map Some ws))) (of_cells X b 𝓛 ws at) $ move ! (1 ∷ []) $ fsplit3 ! $ move ! (3 ∷ 0 ∷ []) $
+      qed 𝓛 (‵ (cells (mem (R X)) ws b at) ∷ ‵ Rest ∷ []) ∵ rewrite ! 0 (λ (f : Fml). ‵ f) (sym (row-cells X b ws at)) refl $ move ! (1 ∷ []) $ fsplit3 ! $ move ! (3 ∷ 0 ∷ []) $
       use2 𝓛 (‵ (row (R X) b o (take from d.slots ++ (map Some ws ++ cut (from + len) d.slots)))) (stretch_in X b 𝓛 d.slots from len o (map Some ws) (omega arith) many) $
       rewrite ! 0 (λ (l : List _). ‵ (row (R X) b o l)) is refl $
       flt_i ! (length (refilled_owner ws).slots * type_size (R X)) (2 ^ 63) (subst (λ (k : ℕ). k * type_size (R X) < 2 ^ 63) (sym same) fit) $ fjoin ! $

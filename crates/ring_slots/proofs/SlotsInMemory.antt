@@ -68,6 +68,11 @@ module _ (X : RattleType) where
     abbrev pub around : ℕ → List (Option X.Denot) → ℕ → ℕ → Fml
     around o cs from len = fsep (row R b o (take from cs)) (row R b (len * bytes + (from * bytes + o)) (cut (from + len) cs))
 
+    -- full slots hold their items as a slice does
+    pub row-cells : (xs : List X.Denot) (o : ℕ) → row R b o (map Some xs) ≡ cells (mem R) xs b o
+    row-cells [] o = refl
+    row-cells (x ∷ xs) o = ap (fsep (part_at R full_share x b o)) (row-cells xs (o + bytes))
+
     module _ {M : Type 1} {𝓤 : Ura M} (𝓛 : Logic 𝓤) where
       -- a row is cut in two, and joined
       cut_row : (n : ℕ) (cs : List (Option X.Denot)) (o : ℕ) → n ≤ length cs
@@ -107,15 +112,6 @@ module _ (X : RattleType) where
           rewrite ! 0 (λ (k : ℕ). ‵ (row R b (k * bytes + at) behind)) (sym long) refl $ move ! (2 ∷ 0 ∷ []) $
           use2 𝓛 (‵ (row R b at (new ++ behind))) (join_row new behind at) $
           rewrite ! 0 (λ (k : ℕ). ‵ (row R b (k * bytes + o) (new ++ behind))) (omega (arith, length-take from cs)) refl $ move ! (1 ∷ 0 ∷ []) $ by ! (join_row (take from cs) (new ++ behind) o)
-
-      -- full slots hold their items as a slice does
-      pub to_cells : (xs : List X.Denot) (o : ℕ) → ent 𝓤 (sem 𝓛 (row R b o (map Some xs))) (sem 𝓛 (cells (mem R) xs b o))
-      to_cells [] o = id⊢ 𝓤 (emp 𝓤)
-      to_cells (x ∷ xs) o = mono_r 𝓤 (sem 𝓛 (part_at R full_share x b o)) (to_cells xs (o + bytes))
-
-      pub of_cells : (xs : List X.Denot) (o : ℕ) → ent 𝓤 (sem 𝓛 (cells (mem R) xs b o)) (sem 𝓛 (row R b o (map Some xs)))
-      of_cells [] o = id⊢ 𝓤 (emp 𝓤)
-      of_cells (x ∷ xs) o = mono_r 𝓤 (sem 𝓛 (part_at R full_share x b o)) (of_cells xs (o + bytes))
 
       -- room for n items is a row of n empty slots
       pub of_room : (n o : ℕ) → ent 𝓤 (sem 𝓛 (froom (ty_array (layout X) n) b o)) (sem 𝓛 (row R b o (replicate n None)))

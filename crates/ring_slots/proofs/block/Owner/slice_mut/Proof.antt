@@ -1,6 +1,6 @@
 -- The stretch is lent apart from the rest, which closes round any items that are written.
 use Rattle.ring_slots.proofs.Words.{proved, rawptr_vals, rawptr_Tells, uint_vals, uint_Tells, mut_vals, mut_Tells, Vals, Goes-number, Goes-pointer, stay_number, stay_pointer, ◌≡◌, refl, sym, ap, subst, ◌∙◌, List, [], ◌∷◌, ◌++◌, ℕ, ◌+◌, ◌*◌, ◌^◌, ◌<◌, ◌≤◌, length, arith, Fn, a_type, named, inst_fn, Val, vint, w64, Ura, full_share, SProp, ent, sep, Fml, GName, ftrue, fsep, fat, flft, WpFn, Logic, sem, ‵, raw, ◌⊛◌, some, later, prop, at_ret, ◌$◌, ◌∵◌, !, qed, move, keep, drop, use1, use2, pick, split, split3, join, fsplit, fsplit3, fjoin, fjoin3, fpack, feq_l, flt_i, flt_l, rewrite, regoal, suffices, frame, group, await, done, of_opd, bin, agg, and_then, no_more, is, size_word, first, blocks, exec, returns, enter, alloc_all, pass_all, free_all, look_at, get, sets, sets_last, take_at, give_at, env, ◌⊑◌, fact, tables, usize, yes, no, follows, mem, cell_at, cells, part_of, layouts, RattleType, Ptr, RawPtr, block_ptr, ptr_val, MutRef, plain, mut_ref_to, nothing, heard, says, Stays, stay_dropped, Goes-dropped, Goes-spent_ref, walk_of, ends_at, Some, type_size, after, proved_at, ty_ptr, take, cut, map, Array, MutSlice, slice_val, length-map, IsFullStretch, refilled, row, lends_Elements}
-use Rattle.ring_slots.proofs.SlotsInMemory.{around, product_is, stretch_fits, stretch_long, stretch_out, to_cells}
+use Rattle.ring_slots.proofs.SlotsInMemory.{around, product_is, stretch_fits, stretch_long, row-cells, stretch_out}
 use Rattle.ring_slots.proofs.OwnerParts.{R, Rest, Seen, back, pointer_good, refilled_owner, slots_opened}
 use Rattle.ring_slots.specs.contracts.block.Owner.slice_mut as contract
 use Rattle.ring_slots.proofs.block.Owner.slice_mut.Statement.{statement}
@@ -42,7 +42,7 @@ slice_mut_spec 𝓤 𝓛 𝓜 𝓡 wired X L =
     sets_last ! (agg ! (and_then ! (get ! refl) (and_then ! (get ! refl) (no_more !)))) refl (tt, (tt, (record { fits = fits_len }, tt))) $
     exec ! 𝓣.C 𝓣.Λ (env fn.locals l) (after 1 fn.body) (at_ret _ Post) $ sets ! (of_opd ! (get ! refl)) refl (tt, (tt, (record { fits = fits_len }, tt))) $
     use1 𝓛 (‵ (row (R X) b at (take len (cut from d.slots))) ⊛ ‵ (around X b o d.slots from len)) (stretch_out X b 𝓛 d.slots from len o full.0) $ split ! $
-    rewrite ! 0 (λ (cs : List _). ‵ (row (R X) b at cs)) holds refl $ use1 𝓛 (‵ (cells (mem (R X)) xs b at)) (to_cells X b 𝓛 xs at) $
+    rewrite ! 0 (λ (cs : List _). ‵ (row (R X) b at cs)) holds refl $ rewrite ! 0 (λ (f : Fml). ‵ f) (row-cells X b xs at) refl $
     -- [the items; the other slots; the mark; its cell; the open borrow, in three entries; the other tokens]
     move ! (1 ∷ 2 ∷ 3 ∷ []) $ fjoin3 ! $ move ! (2 ∷ 3 ∷ 4 ∷ 1 ∷ 0 ∷ []) $ group ! 5 $
     use1 𝓛 (later (some (λ (δ : GName). ‵ ((MutSlice (named 0) κ (R X)).own_val (record { ref_ptr = (b, at); ghost_name = δ; now = xs }) (slice_val (b, at) (length xs) ∷ [])) ⊛ ‵ (flft κ q) ⊛ ‵ (follows (Seen X) (Array (R X) 0) γ δ out))))
