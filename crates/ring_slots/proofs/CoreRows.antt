@@ -1,5 +1,5 @@
 -- The slots of an owner become a row of core's, and a row becomes slots.
-use Rattle.ring_slots.proofs.Words.{◌≡◌, refl, ap, Bool, true, false, List, [], ◌∷◌, ℕ, zero, suc, ◌+◌, ◌<◌, ◌≤◌, arith, length, map, get_or, Ura, ent, emp, id⊢, Fml, Logic, sem, ‵, ◌$◌, ◌∵◌, !, qed, use1, frame, by, layout, froom, RattleType, Option, Some, None, row, slot, mono_r, Laws, block_ptr, if◌then◌else◌, slice_get}
+use Rattle.ring_slots.proofs.Words.{is_some, ◌≡◌, refl, ap, Bool, true, false, List, [], ◌∷◌, ℕ, zero, suc, ◌+◌, ◌<◌, ◌≤◌, arith, length, map, get_or, Ura, ent, emp, id⊢, Fml, Logic, sem, ‵, ◌$◌, ◌∵◌, !, qed, use1, frame, by, layout, froom, RattleType, Option, Some, None, row, slot, mono_r, Laws, block_ptr, if◌then◌else◌, slice_get}
 use Rattle.core.specs.Mem.Slots.Ownership.{slots}
 use Rattle.std_alloc.proofs.VecSteps.El.{El, no_al}
 use Rattle.ring_slots.proofs.SlotsInMemory.{R, bytes, room_of}
@@ -13,11 +13,6 @@ module _ {A : Type 0} where
   abbrev pub or_this : A → Option A → A
   or_this x None = x
   or_this x (Some y) = y
-
-  -- whether a slot holds an item
-  abbrev pub is_full : Option A → Bool
-  is_full None = false
-  is_full (Some y) = true
 
   -- the slots of a row, of which those from the n-th on are empty
   abbrev pub slots_to : ℕ → List A → List Bool → List (Option A)
@@ -33,7 +28,7 @@ module _ {A : Type 0} where
   length-slots_to (suc n) (x ∷ xs) (f ∷ fs) same = ap suc (length-slots_to n xs fs (omega arith))
 
   -- a slot holds what its place of the row says
-  pub held_in : (x : A) (cs : List (Option A)) (i : ℕ) → get_or cs i None ≡ (if get_or (map is_full cs) i false then slice_get (map (or_this x) cs) i else None)
+  pub held_in : (x : A) (cs : List (Option A)) (i : ℕ) → get_or cs i None ≡ (if get_or (map is_some cs) i false then slice_get (map (or_this x) cs) i else None)
   held_in x [] i = refl
   held_in x (None ∷ cs) zero = refl
   held_in x (Some y ∷ cs) zero = refl
@@ -59,7 +54,7 @@ module _ (X : RattleType) {M : Type 1} {𝓤 : Ura M} (𝓛 : Logic 𝓤) (b : �
   abbrev places : ℕ → List X.Denot → List Bool → Fml
   places o xs fs = slots (R X) (block_ptr b o) xs fs
 
-  pub to_row : (x : X.Denot) (cs : List (Option X.Denot)) (o : ℕ) → ent 𝓤 (sem 𝓛 (row (R X) b o cs)) (sem 𝓛 (places o (map (or_this x) cs) (map is_full cs)))
+  pub to_row : (x : X.Denot) (cs : List (Option X.Denot)) (o : ℕ) → ent 𝓤 (sem 𝓛 (row (R X) b o cs)) (sem 𝓛 (places o (map (or_this x) cs) (map is_some cs)))
   to_row x [] o = id⊢ 𝓤 (emp 𝓤)
   to_row x (None ∷ cs) o = mono_r 𝓤 (sem 𝓛 (slot (R X) b o None)) (to_row x cs (o + bytes X))
   to_row x (Some y ∷ cs) o = mono_r 𝓤 (sem 𝓛 (slot (R X) b o (Some y))) (to_row x cs (o + bytes X))

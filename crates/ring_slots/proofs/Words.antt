@@ -56,6 +56,7 @@ pub use Rattle.std.proofs.VecSteps.Shapes.{after, arm_body, head}
 pub use Rattle.std.proofs.alloc.Calls.{Al, Answer, Answer-typed, Answered, Goes-blank, answer_val, answers, got, lends}
 pub use Rattle.std.proofs.raw_atomic.Walks.{proved, proved_at}
 pub use Rattle.std.specs.Mem.{type_size}
+pub use Rattle.std.specs.Option.{is_some}
 pub use Rattle.std.specs.Prelude.{Err, IsSome, None, Ok, Option, Some, if◌then◌else◌, min, slice_get}
 pub use Rattle.std.specs.declared.alloc.Global.{Global}
 pub use Rattle.ring_slots.specs.block.Memory.{lent, right, right_if, row, row_shown, slot, slot_shown, small}

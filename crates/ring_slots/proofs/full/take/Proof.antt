@@ -7,7 +7,7 @@ use Rattle.core.proofs.mem.Facts.{says_two}
 use borrow.Enum.Known.{at}
 use borrow.Enum.Open.{variant_shut}
 use Rattle.ring_slots.proofs.FullCell.{Cell, Item, arguments, behind_mark, cell_enum, mark_bytes}
-use Rattle.ring_slots.proofs.SlotsInMemory.{item_of}
+use Rattle.ring_slots.proofs.SlotsInMemory.{item_of, one_value}
 use Rattle.ring_slots.specs.contracts.full.take as contract
 use Rattle.ring_slots.proofs.full.take.Statement.{statement}
 use Rattle.ring_slots.proofs.full.take.Code as code
@@ -15,52 +15,38 @@ use Rattle.ring_slots.proofs.full.take.Code as code
 module _ (X : RattleType) (L : Laws X) {M : Type 1} {𝓤 : Ura M} (𝓛 : Logic 𝓤) (b o : ℕ) where
   open 𝓛 use {H}
 
-  abbrev τ : Ty
-  τ = layout X
-
-  abbrev ω : Ty
-  ω = layout (Cell X)
-
   abbrev full : Val → Val
   full v = live 1 (vcons v vnil)
 
-  abbrev nil : Val
-  nil = live 0 vnil
-
   -- a value of an item's type
   abbrev Good : Val → Type 0
-  Good v = T (has_ty τ v) × WT v
+  Good v = T (has_ty (layout X) v) × WT v
 
   -- the way from any value in the item's place back to the cell
   abbrev Back : Val → SProp 𝓤
-  Back v = wand 𝓤 (H.at full_share τ b (o + mark_bytes X) v) (H.at full_share ω b o (full v))
+  Back v = wand 𝓤 (H.at full_share (layout X) b (o + mark_bytes X) v) (H.at full_share (layout (Cell X)) b o (full v))
 
   -- the value in the item's place, the way back, and what the item owns
   abbrev Apart : X.Denot → Val → SProp 𝓤
-  Apart x v = guard 𝓤 (Good v) (sep 𝓤 (H.at full_share τ b (o + mark_bytes X) v) (sep 𝓤 (all 𝓤 Back) (sem 𝓛 (X.own_val x (v ∷ [])))))
-
-  cut_out : (x : X.Denot) (vs : List Val) → Typed (τ ∷ []) vs → ent 𝓤 (sep 𝓤 (H.at full_share ω b o (live 1 (of_list (vs ++ [])))) (sem 𝓛 (X.own_val x vs))) (ex 𝓤 (Apart x))
-  cut_out x [] typed = absurd typed
-  cut_out x (v ∷ u ∷ vs) typed = absurd typed.1
-  cut_out x (v ∷ []) typed =
-      qed 𝓛 (‵ (fat full_share ω b o (full v)) ∷ ‵ (X.own_val x (v ∷ [])) ∷ []) ∵
-      use1 𝓛 (‵ (fat full_share τ b (o + mark_bytes X) v) ⊛ raw (all 𝓤 Back)) (𝓛.laws.at_variant full_share _ _ 1 (tcons τ tnil) refl 0 τ (mark_bytes X) refl b o (vcons v vnil)) $ split ! $
-      show ! (Apart x) v $ check ! typed.0 $ done !
+  Apart x v = guard 𝓤 (Good v) (sep 𝓤 (H.at full_share (layout X) b (o + mark_bytes X) v) (sep 𝓤 (all 𝓤 Back) (sem 𝓛 (X.own_val x (v ∷ [])))))
 
   apart : (x : X.Denot) → ent 𝓤 (sem 𝓛 ((mem (Cell X)).own_at (Some x) b o)) (ex 𝓤 (Apart x))
   apart x =
       qed 𝓛 (‵ ((mem (Cell X)).own_at (Some x) b o) ∷ []) ∵
-      use1 𝓛 (some (λ (w : Val). ‵ (fat full_share ω b o w) ⊛ ‵ ((Cell X).own_val (Some x) (w ∷ [])))) (part_out 𝓛 (Cell X) refl full_share (Some x) b o) $ pick ! (λ w. split ! $
+      use1 𝓛 (some (λ (w : Val). ‵ (fat full_share (layout (Cell X)) b o w) ⊛ ‵ ((Cell X).own_val (Some x) (w ∷ [])))) (part_out 𝓛 (Cell X) refl full_share (Some x) b o) $ pick ! (λ w. split ! $
       move ! (1 ∷ []) $ fpick ! (λ ws. fsplit ! $ feq_l ! (λ e. fpick ! (λ vss. fsplit ! $ feq_l ! (λ e₂. fsplit ! $ move ! (1 ∷ []) $ drop ! $
       peeks ! (Item X) (Is (Item X)) (shows 𝓛 (Item X)) x vss.0 (λ is.
-      rewrite ! 1 (λ (c : Val). ‵ (fat full_share ω b o c)) (ap only e ∙ ap (λ (vs : List Val). live 1 (of_list vs)) e₂) refl $
-      move ! (1 ∷ 0 ∷ []) $ by ! (cut_out x vss.0 (((param_laws 0 X L).lawful 𝓛).typed x vss.0 is))))))))
+      let (v, (one, good)) = one_value (layout X) vss.0 (((param_laws 0 X L).lawful 𝓛).typed x vss.0 is) in
+      rewrite ! 0 (λ (vs : List Val). ‵ (X.own_val x vs)) one refl $
+      rewrite ! 1 (λ (c : Val). ‵ (fat full_share (layout (Cell X)) b o c)) (ap only e ∙ ap (λ (vs : List Val). live 1 (of_list vs)) (e₂ ∙ ap (λ (vs : List Val). vs ++ []) one)) refl $ move ! (1 ∷ 0 ∷ []) $
+      use1 𝓛 (‵ (fat full_share (layout X) b (o + mark_bytes X) v) ⊛ raw (all 𝓤 Back)) (𝓛.laws.at_variant full_share _ _ 1 (tcons (layout X) tnil) refl 0 (layout X) (mark_bytes X) refl b o (vcons v vnil)) $ split ! $
+      show ! (Apart x) v $ check ! good $ done !))))))
 
-  emptied : ent 𝓤 (H.at full_share ω b o nil) (sem 𝓛 ((mem (Cell X)).own_at None b o))
+  emptied : ent 𝓤 (H.at full_share (layout (Cell X)) b o (live 0 vnil)) (sem 𝓛 ((mem (Cell X)).own_at None b o))
   emptied =
-      qed 𝓛 (‵ (fat full_share ω b o nil) ∷ []) ∵ nothing ! $
-      use1 𝓛 (‵ ((Cell X).own_val None (nil ∷ []))) (variant_shut (declared (cell_enum X)) 0 [] tt (at (cell_enum X) 0) (λ v us. refl) (λ v. refl) 𝓛 tt tt) $
-      move ! (1 ∷ 0 ∷ []) $ by ! (part_in 𝓛 (Cell X) refl full_share None b o nil)
+      qed 𝓛 (‵ (fat full_share (layout (Cell X)) b o (live 0 vnil)) ∷ []) ∵ nothing ! $
+      use1 𝓛 (‵ ((Cell X).own_val None ((live 0 vnil) ∷ []))) (variant_shut (declared (cell_enum X)) 0 [] tt (at (cell_enum X) 0) (λ v us. refl) (λ v. refl) 𝓛 tt tt) $
+      move ! (1 ∷ 0 ∷ []) $ by ! (part_in 𝓛 (Cell X) refl full_share None b o (live 0 vnil))
 
 pub take_spec : {M : Type 1} → statement M
 take_spec 𝓤 𝓛 𝓜 𝓡 wired X L =

@@ -1,10 +1,10 @@
 -- The slots become a row, and none are left.
-use Rattle.ring_slots.proofs.Words.{drop, proved, rawptr_vals, rawptr_Tells, uint_vals, uint_Tells, mut_vals, mut_Tells, w64, Vals, Goes-number, Goes-pointer, stay_number, stay_pointer, ◌≡◌, refl, sym, subst, ◌∙◌, List, [], ◌∷◌, ◌++◌, ℕ, ◌*◌, ◌^◌, ◌<◌, zero-mul, arith, length, length-map, map, get_or, false, None, Fn, a_type, named, inst_fn, Val, vptr, full_share, SProp, Bool, ftrue, fat, flft, WpFn, ‵, raw, ◌⊛◌, some, given, later, learn, await, pick, prop, at_ret, ◌$◌, ◌∵◌, !, qed, move, keep, use1, use2, split, split3, join, fsplit, fsplit3, fjoin, fjoin3, feq_i, feq_l, flt_l, rewrite, regoal, suffices, frame, done, of_opd, and_then, no_more, first, blocks, exec, returns, enter, alloc_all, pass_all, free_all, look_at, get, sets, is, lands_last, take_at, give_at, env, ◌⊑◌, fact, tables, usize, yes, layouts, RattleType, Ptr, RawPtr, ptr_val, MutRef, plain, nothing, heard, Stays, stay_dropped, stay_ref, Goes-dropped, Goes-ref, walk_of, ends_at, calls_at_last, framed, type_size, after, proved_at, ty_ptr, if◌then◌else◌, slice_get, row_val}
+use Rattle.ring_slots.proofs.Words.{is_some, drop, proved, rawptr_vals, rawptr_Tells, uint_vals, uint_Tells, mut_vals, mut_Tells, w64, Vals, Goes-number, Goes-pointer, stay_number, stay_pointer, ◌≡◌, refl, sym, subst, ◌∙◌, List, [], ◌∷◌, ◌++◌, ℕ, ◌*◌, ◌^◌, ◌<◌, zero-mul, arith, length, length-map, map, get_or, false, None, Fn, a_type, named, inst_fn, Val, vptr, full_share, SProp, Bool, ftrue, fat, flft, WpFn, ‵, raw, ◌⊛◌, some, given, later, learn, await, pick, prop, at_ret, ◌$◌, ◌∵◌, !, qed, move, keep, use1, use2, split, split3, join, fsplit, fsplit3, fjoin, fjoin3, feq_i, feq_l, flt_l, rewrite, regoal, suffices, frame, done, of_opd, and_then, no_more, first, blocks, exec, returns, enter, alloc_all, pass_all, free_all, look_at, get, sets, is, lands_last, take_at, give_at, env, ◌⊑◌, fact, tables, usize, yes, layouts, RattleType, Ptr, RawPtr, ptr_val, MutRef, plain, nothing, heard, Stays, stay_dropped, stay_ref, Goes-dropped, Goes-ref, walk_of, ends_at, calls_at_last, framed, type_size, after, proved_at, ty_ptr, if◌then◌else◌, slice_get, row_val}
 use Rattle.std.proofs.lemmas.List.{get_or_past}
 use Rattle.std_alloc.proofs.vec.Blocks.{all}
 use Rattle.std_alloc.proofs.vec.Spares.{Row, row_Typed, From, Made, at_from, from_gives, from_goes}
 use Rattle.core.proofs.slots.Slots.from_raw_parts.Met as callee
-use Rattle.ring_slots.proofs.CoreRows.{held_in, is_full, items_of, or_this, to_row}
+use Rattle.ring_slots.proofs.CoreRows.{held_in, items_of, or_this, to_row}
 use Rattle.ring_slots.proofs.SlotsInMemory.{says_both}
 use Rattle.ring_slots.proofs.OwnerParts.{R, Seen, pointer_good, slots_opened, slots_closed}
 use Rattle.ring_slots.specs.contracts.block.Owner.detach as contract
@@ -31,7 +31,7 @@ detach_spec 𝓤 𝓛 𝓜 𝓡 wired X L =
     split ! $ split ! $ move ! (2 ∷ []) $ split ! $ fsplit3 ! $ drop ! $ keep ! (0 ∷ 1 ∷ 3 ∷ 4 ∷ []) $
     enter ! _ _ _ _ _ $ alloc_all ! (λ l. pass_all ! refl ((tt, tt), (pointer_good ptr, ((tt, record { fits = fits }), tt))) $
     slots_opened X ! tt d rb ro (λ us b o lies fit.
-    let xs : List X.Denot = map (or_this like) d.slots in let fs : List Bool = map is_full d.slots in
+    let xs : List X.Denot = map (or_this like) d.slots in let fs : List Bool = map is_some d.slots in
     let z : (From E 𝓛 𝓜.mem 𝓡.returns).Ghost = at_from E 𝓛 𝓜.mem 𝓡.returns κ q b o n xs fs in
     let few : n * type_size (R X) < 2 ^ 63 = subst (λ (k : ℕ). k * type_size (R X) < 2 ^ 63) (sym whole) fit in
     let none : (Seen X).Denot = record d { slots = [] } in
@@ -39,7 +39,7 @@ detach_spec 𝓤 𝓛 𝓜 𝓡 wired X L =
     use1 𝓛 (‵ (all E b o xs fs)) (to_row X 𝓛 b like d.slots o) $
     first ! $ blocks ! $
     move ! (6 ∷ []) $ split ! $ move ! (2 ∷ 0 ∷ []) $
-    use2 𝓛 (raw ((From E 𝓛 𝓜.mem 𝓡.returns).pre z)) (from_goes E 𝓛 𝓜.mem 𝓡.returns κ q b o n xs fs lives (whole ∙ sym (length-map d.slots (or_this like))) (whole ∙ sym (length-map d.slots is_full)) fits few) $
+    use2 𝓛 (raw ((From E 𝓛 𝓜.mem 𝓡.returns).pre z)) (from_goes E 𝓛 𝓜.mem 𝓡.returns κ q b o n xs fs lives (whole ∙ sym (length-map d.slots (or_this like))) (whole ∙ sym (length-map d.slots is_some)) fits few) $
     calls_at_last ! (framed 𝓤 𝓛.H 𝓜 𝓣) (From E 𝓛 𝓜.mem 𝓡.returns) (callee.met 𝓤 𝓛 𝓜 𝓡 (code.calls-core::slots::Slots::from_raw_parts 𝓡.env wired) X L) z (and_then ! (get ! refl) (and_then ! (get ! refl) (no_more !))) (λ v.
     use1 𝓛 (later (some (λ (r : (Row E).Denot). given ((v ≡ row_val b o n) × Made E 𝓛 𝓜.mem 𝓡.returns κ q b o n xs fs r) (‵ ((Row E).own_val r (row_val b o n ∷ [])) ⊛ ‵ (flft κ q)))))
     (from_gives E 𝓛 𝓜.mem 𝓡.returns κ q b o n xs fs v) $ await ! tt $ pick ! (λ r. learn ! (λ made. split ! $
