@@ -53,7 +53,7 @@ module _ (X : RattleType) (n : ℕ) where
         fsplit ! $ feq_l ! (λ long. check ! long $
         use1 𝓛 (‵ (cells (mem Element) d.xs b o)) (whole_in 𝓛 Element d.xs b o) $ done !)
 
-    pub array_in : (d : Cells.Denot) → length d.xs ≡ n → ent 𝓤 (sep 𝓤 (sem 𝓛 (cells (mem Element) d.xs b o)) Shell) (sem 𝓛 ((mem Cells).own_at d b o))
+    array_in : (d : Cells.Denot) → length d.xs ≡ n → ent 𝓤 (sep 𝓤 (sem 𝓛 (cells (mem Element) d.xs b o)) Shell) (sem 𝓛 ((mem Cells).own_at d b o))
     array_in d long =
         let back : List X.Denot → SProp 𝓤 = λ xs. wand 𝓤 (sem 𝓛 (part_at (Array Element n) full_share xs b o)) (To xs) in
         qed 𝓛 (‵ (cells (mem Element) d.xs b o) ∷ raw Shell ∷ []) ∵

@@ -59,15 +59,11 @@ module _ (X : RattleType) {M : Type 1} {𝓤 : Ura M} (𝓛 : Logic 𝓤) (b : �
   to_row x (None ∷ cs) o = mono_r 𝓤 (sem 𝓛 (slot (R X) b o None)) (to_row x cs (o + bytes X))
   to_row x (Some y ∷ cs) o = mono_r 𝓤 (sem 𝓛 (slot (R X) b o (Some y))) (to_row x cs (o + bytes X))
 
-  -- a slot that is given up is room
-  given_up : (c : Option X.Denot) (o : ℕ) → ent 𝓤 (sem 𝓛 (slot (R X) b o c)) (sem 𝓛 (slot (R X) b o None))
-  given_up c o = qed 𝓛 (‵ (slot (R X) b o c) ∷ []) ∵ use1 𝓛 (‵ (froom (layout X) b o)) (room_of X b 𝓛 c o) $ by ! (𝓛.laws.room-raw (layout X) b o)
-
   pub of_row : (n : ℕ) (xs : List X.Denot) (fs : List Bool) (o : ℕ) → ent 𝓤 (sem 𝓛 (places o xs fs)) (sem 𝓛 (row (R X) b o (slots_to n xs fs)))
   of_row n [] fs o = id⊢ 𝓤 (emp 𝓤)
   of_row n (x ∷ xs) [] o = id⊢ 𝓤 (emp 𝓤)
   of_row zero (x ∷ xs) (true ∷ fs) o = qed 𝓛 (‵ (slot (R X) b o (Some x)) ∷ ‵ (places (o + bytes X) xs fs) ∷ []) ∵
-      use1 𝓛 (‵ (slot (R X) b o None)) (given_up (Some x) o) $ frame ! $ by ! (of_row zero xs fs (o + bytes X))
+      use1 𝓛 (‵ (froom (layout X) b o)) (room_of X b 𝓛 (Some x) o) $ use1 𝓛 (‵ (slot (R X) b o None)) (𝓛.laws.room-raw (layout X) b o) $ frame ! $ by ! (of_row zero xs fs (o + bytes X))
   of_row zero (x ∷ xs) (false ∷ fs) o = mono_r 𝓤 (sem 𝓛 (slot (R X) b o None)) (of_row zero xs fs (o + bytes X))
   of_row (suc n) (x ∷ xs) (true ∷ fs) o = mono_r 𝓤 (sem 𝓛 (slot (R X) b o (Some x))) (of_row n xs fs (o + bytes X))
   of_row (suc n) (x ∷ xs) (false ∷ fs) o = mono_r 𝓤 (sem 𝓛 (slot (R X) b o None)) (of_row n xs fs (o + bytes X))

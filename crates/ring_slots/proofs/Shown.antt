@@ -1,11 +1,6 @@
 -- What slots of plain items show, once cells are written or marks change.
-use Rattle.ring_slots.proofs.Words.{passed_up, passed_down, drop-drop, take-append-drop, ◌≡◌, refl, sym, ap, ◌∙◌, Bool, true, false, List, [], ◌∷◌, ◌++◌, ℕ, zero, suc, ◌+◌, ◌<◌, ◌≤◌, arith, length, get_or, length-append, length-drop, length-replicate, length-take, replicate, set, take, cut, map, None, Some, IsSome, HoldsStretch, IsFullStretch, slice_get-get_or, if◌then◌else◌, slice_get, Passes, filled, shown}
+use Rattle.ring_slots.proofs.Words.{set-get_or, passed_up, passed_down, drop-drop, take-append-drop, ◌≡◌, refl, sym, ap, ◌∙◌, Bool, true, false, List, [], ◌∷◌, ◌++◌, ℕ, zero, suc, ◌+◌, ◌<◌, ◌≤◌, arith, length, get_or, length-append, length-drop, length-replicate, length-take, replicate, set, take, cut, map, None, Some, IsSome, HoldsStretch, IsFullStretch, slice_get-get_or, if◌then◌else◌, slice_get, Passes, filled, shown}
 use Rattle.ring_slots.proofs.SlotsInMemory.{full_within, item_of, stretch_long}
-
--- marks that are all set to full
-pub all_marked : (n : ℕ) → replicate n true ++ cut n (replicate n false) ≡ replicate n true
-all_marked zero = refl
-all_marked (suc n) = ap (λ l. true ∷ l) (all_marked n)
 
 -- a list is what comes before a stretch of it, the stretch, and what comes after
 pub in_three : {A : Type 0} (xs : List A) (from n : ℕ) → xs ≡ take from xs ++ (take n (cut from xs) ++ cut (from + n) xs)
@@ -44,11 +39,7 @@ module _ {X : Type 0} where
 
   -- an item written into the cell of a full slot
   pub shown-write : (fs : List Bool) (xs : List X) (k : ℕ) (x : X) → get_or fs k false ≡ true → shown fs (set xs k x) ≡ set (shown fs xs) k (Some x)
-  shown-write [] xs k x full = refl
-  shown-write (f ∷ fs) [] zero x full = refl
-  shown-write (f ∷ fs) [] (suc k) x full = refl
-  shown-write (f ∷ fs) (y ∷ xs) zero x full = ap (λ (b : Bool). (if b then Some x else None) ∷ shown fs xs) full
-  shown-write (f ∷ fs) (y ∷ xs) (suc k) x full = ap (λ l. (if f then Some y else None) ∷ l) (shown-write fs xs k x full)
+  shown-write fs xs k x full = ap (λ l. shown l (set xs k x)) (sym (set-get_or fs k false) ∙ ap (set fs k) full) ∙ shown-put fs xs k x
 
   -- a full slot has its mark, and its cell's item
   pub mark-full : (fs : List Bool) (xs : List X) (k : ℕ) → IsSome (get_or (shown fs xs) k None) → get_or fs k false ≡ true
@@ -58,11 +49,12 @@ module _ {X : Type 0} where
   mark-full (false ∷ fs) (x ∷ xs) zero full = cc
   mark-full (f ∷ fs) (x ∷ xs) (suc k) full = mark-full fs xs k full
 
-  item-shown : (fs : List Bool) (xs : List X) (k : ℕ) → get_or fs k false ≡ true → get_or (shown fs xs) k None ≡ slice_get xs k
-  item-shown [] xs k full = cc
-  item-shown (f ∷ fs) [] k full = refl
-  item-shown (f ∷ fs) (x ∷ xs) zero full = ap (λ (b : Bool). if b then Some x else None) full
-  item-shown (f ∷ fs) (x ∷ xs) (suc k) full = item-shown fs xs k full
+  pub full-item : (fs : List Bool) (xs : List X) (k : ℕ) (x : X) → IsSome (get_or (shown fs xs) k None) → x ≡ get_or xs k x → get_or (shown fs xs) k None ≡ Some x
+  full-item [] xs k x full is = cc
+  full-item (f ∷ fs) [] k x full is = cc
+  full-item (true ∷ fs) (y ∷ xs) zero x full is = ap Some (sym is)
+  full-item (false ∷ fs) (y ∷ xs) zero x full is = cc
+  full-item (f ∷ fs) (y ∷ xs) (suc k) x full is = full-item fs xs k x full is
 
   pub shown-size : {n : ℕ} (fs : List Bool) (xs : List X) → (length xs ≡ n) × (length fs ≡ n) → length (shown fs xs) ≡ n
   shown-size fs xs (long, marked) = length-shown fs xs (marked ∙ sym long) ∙ long
@@ -71,10 +63,6 @@ module _ {X : Type 0} where
   pub within : {n : ℕ} (fs : List Bool) (xs : List X) (k : ℕ) → (length xs ≡ n) × (length fs ≡ n) → IsSome (get_or (shown fs xs) k None) → k < n
   within fs xs k sized full =
       let (x, is) = item_of (get_or (shown fs xs) k None) full in let low = full_within (shown fs xs) k x is in omega (arith, low, shown-size fs xs sized)
-
-  pub full-item : {n : ℕ} (fs : List Bool) (xs : List X) (k : ℕ) (x : X) → (length xs ≡ n) × (length fs ≡ n) → IsSome (get_or (shown fs xs) k None) → x ≡ get_or xs k x → get_or (shown fs xs) k None ≡ Some x
-  full-item fs xs k x sized full is =
-      item-shown fs xs k (mark-full fs xs k full) ∙ slice_get-get_or xs k x (omega (arith, within fs xs k sized full, sized.0)) ∙ ap Some (sym is)
 
   -- a part of what is shown is what parts show
   shown-cut : (n : ℕ) (fs : List Bool) (xs : List X) → cut n (shown fs xs) ≡ shown (cut n fs) (cut n xs)
@@ -99,9 +87,10 @@ module _ {X : Type 0} where
   shown-all [] = refl
   shown-all (x ∷ xs) = ap (λ l. Some x ∷ l) (shown-all xs)
 
-  pub shown-none : (n : ℕ) (x : X) → shown (replicate n false) (replicate n x) ≡ replicate n None
-  shown-none zero x = refl
-  shown-none (suc n) x = ap (λ l. None ∷ l) (shown-none n x)
+  -- cells whose marks are all set to empty
+  pub shown-empty : (xs : List X) → shown (replicate (length xs) false) xs ≡ replicate (length xs) None
+  shown-empty [] = refl
+  shown-empty (x ∷ xs) = ap (λ l. None ∷ l) (shown-empty xs)
 
   -- cells that are all shown have the items, and all their marks are set
   all-shown : (fs : List Bool) (xs ys : List X) → length fs ≡ length xs → shown fs xs ≡ map Some ys → (fs ≡ replicate (length xs) true) × (xs ≡ ys)

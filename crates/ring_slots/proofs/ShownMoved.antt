@@ -2,14 +2,9 @@
 use Rattle.ring_slots.proofs.Words.{◌≡◌, refl, sym, ap, ◌∙◌, Bool, true, false, List, [], ◌∷◌, ◌++◌, ℕ, ◌+◌, ◌<◌, ◌≤◌, arith, length, get_or, length-append, length-drop, length-replicate, length-take, replicate, take, cut, map, take-append-drop, drop-drop, Option, None, Some, IsFullStretch, refill, refilled, ext_get_or, common_steps, map-append, length_refill, ◌-◌, brought_first, moved_down, rewritten, shown}
 use Rattle.std.proofs.lemmas.List.{append_assoc, drop-map, take-map, take_all}
 use Rattle.ring_slots.specs.Slots.{IsEmptyStretch}
-use Rattle.ring_slots.proofs.Shown.{cells-long, in_three, length-over, length-shown, shown-append, shown-filled, shown-front, stretch-marked, stretch-shown}
+use Rattle.ring_slots.proofs.Shown.{cells-long, in_three, length-over, length-shown, shown-append, shown-empty, shown-filled, shown-front, stretch-marked, stretch-shown}
 
 module _ {X : Type 0} where
-  -- cells whose marks are all set to empty
-  shown-empty : (xs : List X) → shown (replicate (length xs) false) xs ≡ replicate (length xs) None
-  shown-empty [] = refl
-  shown-empty (x ∷ xs) = ap (λ l. None ∷ l) (shown-empty xs)
-
   -- slots whose items from a place on have moved elsewhere
   module _ (fs : List Bool) (xs : List X) (same : length fs ≡ length xs) (from : ℕ) (low : from ≤ length xs) where
     abbrev count : ℕ

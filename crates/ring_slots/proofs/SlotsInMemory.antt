@@ -25,10 +25,6 @@ stretch_fits from len n bytes within fit =
     let all : len * bytes ≤ n * bytes = mul-le-mul_right bytes (omega arith) in
     (omega arith, omega arith)
 
--- and so do one size, and the way to a slot
-pub place_fits : (i n bytes : ℕ) → i < n → n * bytes < 2 ^ 63 → (bytes < 2 ^ 64) × (i * bytes < 2 ^ 64)
-place_fits i n bytes within fit = let both = stretch_fits i 1 n bytes (omega arith) fit in (omega (arith, one-mul bytes), both.0)
-
 -- a stretch has as many items as slots
 pub stretch_long : {A : Type 0} (cs : List (Option A)) (from len : ℕ) (xs : List A) → from + len ≤ length cs → HoldsStretch cs from len xs → length xs ≡ len
 stretch_long cs from len xs within holds =
@@ -155,9 +151,3 @@ module _ (X : RattleType) where
           qed 𝓛 (‵ (row_shown R b o (c ∷ cs) κ) ∷ []) ∵ fsplit ! $ keep ! (1 ∷ []) $
           use1 𝓛 (‵ (elements_shared R xs b (from * bytes + (o + bytes)) κ)) (stretch_seen κ cs from len (o + bytes) xs inner holds) $
           rewrite ! 0 (λ (k : ℕ). ‵ (elements_shared R xs b k κ)) (next_at from o) refl $ done !
-
-module _ {M : Type 1} {𝓤 : Ura M} {𝓛 : Logic 𝓤} {K : Type 0} {Γ : List (Item 𝓤)} where
-  -- an `ensures` of two facts
-  pub says_both : K → {φ ψ : Type 0} {P : SProp 𝓤} → φ → ψ → Step K 𝓛 Γ (prop P) Γ (prop (sep 𝓤 P (sep 𝓤 (fact 𝓤 φ) (fact 𝓤 ψ))))
-  says_both t {φ} {ψ} {P} first second = step (λ rest.
-      suffices t (sep 𝓤 (sep 𝓤 P (fact 𝓤 φ)) (fact 𝓤 ψ)) (assoc∗ 𝓤 P (fact 𝓤 φ) (fact 𝓤 ψ)) $ says t second $ says t first $ rest)

@@ -62,7 +62,7 @@ pub use Rattle.std.specs.declared.alloc.Global.{Global}
 pub use Rattle.ring_slots.specs.block.Memory.{lent, right, right_if, row, row_shown, slot, slot_shown, small}
 pub use lib.Seq.{drop-cons, drop-drop, set_split, take_at as take_front}
 pub use denote.Slice.{MutSlice, elements_shared, slice_val}
-pub use Rattle.std.proofs.lemmas.List.{get_or_default, length-map, map-append}
+pub use Rattle.std.proofs.lemmas.List.{set-get_or, get_or_default, length-map, map-append}
 pub use Rattle.ring_slots.specs.Slots.{HoldsStretch, IsFullStretch, Passes, Slots, brought_first, filled, moved_down, passed_down, passed_up, refilled}
 pub use denote.Array.{Array}
 pub use Rattle.ring_slots.specs.block.Lends.{owner_with}

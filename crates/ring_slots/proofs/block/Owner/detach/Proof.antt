@@ -5,7 +5,7 @@ use Rattle.std_alloc.proofs.vec.Blocks.{all}
 use Rattle.std_alloc.proofs.vec.Spares.{Row, row_Typed, From, Made, at_from, from_gives, from_goes}
 use Rattle.core.proofs.slots.Slots.from_raw_parts.Met as callee
 use Rattle.ring_slots.proofs.CoreRows.{held_in, items_of, or_this, to_row}
-use Rattle.ring_slots.proofs.SlotsInMemory.{says_both}
+use Rattle.core.proofs.mem.Facts.{says_two}
 use Rattle.ring_slots.proofs.OwnerParts.{R, Seen, pointer_good, slots_opened, slots_closed}
 use Rattle.ring_slots.specs.contracts.block.Owner.detach as contract
 use Rattle.ring_slots.proofs.block.Owner.detach.Statement.{statement}
@@ -49,6 +49,6 @@ detach_spec 𝓤 𝓛 𝓜 𝓡 wired X L =
     -- [the slots' owner, in two entries; its token; the row; the other token]
     returns ! (look_at ! 0 refl) $ free_all ! refl $ keep ! (4 ∷ 2 ∷ 0 ∷ 1 ∷ 3 ∷ []) $
     suffices ! _ (ends_at 𝓛 ended stayed clauses y (row_val b o n) r (none, (tt, (tt, tt))) (tt, (tt, (tt, tt)))) $
-    says_both ! (made.1.0 ∙ sym lies, record { size = sym (made.1.1 ∙ whole); held = λ i low. held_in like d.slots i ∙ sym (λ j. if get_or (made.1.3 j) i false then slice_get (made.1.2 j) i else None); behind = λ i late. get_or_past d.slots i None (omega arith) }) (refl, refl) $
+    says_two ! ((made.1.0 ∙ sym lies, record { size = sym (made.1.1 ∙ whole); held = λ i low. held_in like d.slots i ∙ sym (λ j. if get_or (made.1.3 j) i false then slice_get (made.1.2 j) i else None); behind = λ i late. get_or_past d.slots i None (omega arith) }), (refl, refl)) $
     nothing ! $ move ! (1 ∷ 0 ∷ []) $ join ! $ move ! (1 ∷ 0 ∷ []) $ join ! $ frame ! $
     feq_i ! (List Val) vss.0 (vptr rb ro ∷ []) refl $ fjoin3 ! $ nothing ! $ nothing ! $ fjoin ! $ nothing ! $ fjoin ! $ move ! (1 ∷ 0 ∷ []) $ fjoin ! $ frame ! $ done !))))))))))

@@ -1,8 +1,8 @@
 -- The item is lent apart from the rest, which closes round any item that is written.
-use Rattle.ring_slots.proofs.Words.{◌<◌, take, cut, refilled, set, set_split, drop-cons, arith, fjoin, proved, rawptr_vals, rawptr_Tells, uint_vals, uint_Tells, mut_vals, mut_Tells, w64, Vals, Goes-number, Goes-pointer, stay_number, stay_pointer, ◌≡◌, refl, sym, subst, ◌∙◌, List, [], ◌∷◌, ◌++◌, ℕ, ◌+◌, ◌*◌, ◌^◌, ◌<◌, length, get_or, length-set, Fn, a_type, named, inst_fn, Val, vptr, Ura, full_share, SProp, ent, sep, Fml, GName, ftrue, fsep, fat, flft, WpFn, Logic, sem, ‵, raw, ◌⊛◌, some, later, prop, at_ret, ◌$◌, ◌∵◌, !, qed, move, keep, drop, use1, use2, pick, split, split3, join, fsplit, fsplit3, fjoin, fjoin3, fpack, feq_l, flt_i, flt_l, rewrite, regoal, suffices, frame, group, await, done, stop, addr, of_opd, bin, size_lit, first, blocks, exec, returns, enter, alloc_all, pass_all, free_all, look_at, get, through, sets, sets_last, take_at, give_at, env, ◌⊑◌, fact, tables, usize, yes, no, follows, lends_Part, mem, cell_at, part_of, layouts, RattleType, Ptr, RawPtr, block_ptr, ptr_val, MutRef, plain, mut_ref_to, nothing, heard, says, Stays, stay_dropped, Goes-dropped, Goes-spent_ref, walk_of, ends_at, Option, Some, None, IsSome, type_size, after, proved_at, ty_ptr, owner_with, slot, row}
+use Rattle.ring_slots.proofs.Words.{one-mul, ◌<◌, take, cut, refilled, set, set_split, drop-cons, arith, fjoin, proved, rawptr_vals, rawptr_Tells, uint_vals, uint_Tells, mut_vals, mut_Tells, w64, Vals, Goes-number, Goes-pointer, stay_number, stay_pointer, ◌≡◌, refl, sym, subst, ◌∙◌, List, [], ◌∷◌, ◌++◌, ℕ, ◌+◌, ◌*◌, ◌^◌, ◌<◌, length, get_or, length-set, Fn, a_type, named, inst_fn, Val, vptr, Ura, full_share, SProp, ent, sep, Fml, GName, ftrue, fsep, fat, flft, WpFn, Logic, sem, ‵, raw, ◌⊛◌, some, later, prop, at_ret, ◌$◌, ◌∵◌, !, qed, move, keep, drop, use1, use2, pick, split, split3, join, fsplit, fsplit3, fjoin, fjoin3, fpack, feq_l, flt_i, flt_l, rewrite, regoal, suffices, frame, group, await, done, stop, addr, of_opd, bin, size_lit, first, blocks, exec, returns, enter, alloc_all, pass_all, free_all, look_at, get, through, sets, sets_last, take_at, give_at, env, ◌⊑◌, fact, tables, usize, yes, no, follows, lends_Part, mem, cell_at, part_of, layouts, RattleType, Ptr, RawPtr, block_ptr, ptr_val, MutRef, plain, mut_ref_to, nothing, heard, says, Stays, stay_dropped, Goes-dropped, Goes-spent_ref, walk_of, ends_at, Option, Some, None, IsSome, type_size, after, proved_at, ty_ptr, owner_with, slot, row}
 use Rattle.std.proofs.Common.{add-one}
 use Rattle.ring_slots.proofs.Filled.{refilled_is}
-use Rattle.ring_slots.proofs.SlotsInMemory.{item_of, full_within, place_fits, around, stretch_out}
+use Rattle.ring_slots.proofs.SlotsInMemory.{item_of, full_within, stretch_fits, around, stretch_out}
 use Rattle.ring_slots.proofs.OwnerParts.{R, Rest, Seen, AreSmall, back, pointer_good, refilled_owner, slots_opened}
 use Rattle.ring_slots.specs.contracts.block.Owner.get_mut as contract
 use Rattle.ring_slots.proofs.block.Owner.get_mut.Statement.{statement}
@@ -40,13 +40,13 @@ get_mut_spec 𝓤 𝓛 𝓜 𝓡 wired X L =
     slots_opened X ! tt d rb ro (λ us b o lies fit.
     let held = item_of (get_or d.slots place None) full in let x : X.Denot = held.0 in
     let within = full_within d.slots place x held.1 in
-    let near = place_fits place (length d.slots) bytes within fit in
+    let near = stretch_fits place 1 (length d.slots) bytes (omega arith) fit in let small : bytes < 2 ^ 64 = omega (arith, near.1, one-mul bytes) in
     let at : ℕ = place * bytes + o in
     let rest = Rest X 𝓛 d us b o rb ro place 1 in let way = back_one X 𝓛 d us b o rb ro place lies fit within in
     let new = λ (w : X.Denot). owner_with d place (Some w) in let was = (Seen X).coded.code d in
     take_at ! 2 $ rewrite ! 0 (λ (p : Ptr). ‵ (fat full_share ty_ptr (l 2) 0 (ptr_val p))) (same ∙ lies) refl $ give_at ! 2 $
     first ! $ blocks ! $
-    sets ! (bin ! (get ! refl) (size_lit ! (record { fits = near.0 })) (record { fits = near.1 })) refl (tt, record { fits = near.1 }) $
+    sets ! (bin ! (get ! refl) (size_lit ! (record { fits = small })) (record { fits = near.0 })) refl (tt, record { fits = near.0 }) $
     sets ! (bin ! (get ! refl) (get ! refl) tt) refl (tt, tt) $
     sets_last ! (addr ! (through ! refl (stop !))) refl (tt, tt) $
     exec ! 𝓣.C 𝓣.Λ (env fn.locals l) (after 1 fn.body) (at_ret _ Post) $ sets ! (of_opd ! (get ! refl)) refl (tt, tt) $

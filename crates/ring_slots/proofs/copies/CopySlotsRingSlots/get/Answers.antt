@@ -8,4 +8,4 @@ at-requires g c = (search rules, within c.self.inside.marks.full c.self.inside.c
 pub returns : goal.returns
 returns g c =
     let full = rw (sym c.self.view_is) at c.requires in
-    rw (sym c.self.view_is) (full-item c.self.inside.marks.full c.self.inside.cells.xs c.args.place c.at.result.now c.self.invariant full c.at.ensures)
+    rw (sym c.self.view_is) (full-item c.self.inside.marks.full c.self.inside.cells.xs c.args.place c.at.result.now full c.at.ensures)

@@ -14,5 +14,5 @@ returns g c =
         refl,
         λ w. rw (sym c.self.view_is) (λ i. record { slots = shown-write fs xs c.args.place w marked i; changes = c.after-self-inside.ensures i; capacity = g.row.CAP }),
       ),
-      record { writes_back = tt; value = rw (sym c.self.view_is) (full-item fs xs c.args.place c.at_mut.result.now c.self.invariant full c.at_mut.ensures.value) },
+      record { writes_back = tt; value = rw (sym c.self.view_is) (full-item fs xs c.args.place c.at_mut.result.now full c.at_mut.ensures.value) },
     )

@@ -8,7 +8,7 @@ at-requires g c = (search rules, within c.self.inside.marks.full c.self.inside.c
 pub returns-clause-value : goal.returns-clause-value
 returns-clause-value g c =
     let full = rw (sym c.self.view_is) at c.requires in
-    rw (sym c.self.view_is) (full-item c.self.inside.marks.full c.self.inside.cells.xs c.args.place c.at.result.now c.self.invariant full c.at.ensures)
+    rw (sym c.self.view_is) (full-item c.self.inside.marks.full c.self.inside.cells.xs c.args.place c.at.result.now full c.at.ensures)
 
 pub returns-clause-after : goal.returns-clause-after
 returns-clause-after g c =
