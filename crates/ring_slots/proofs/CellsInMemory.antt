@@ -1,6 +1,6 @@
 -- The cells of an array lie where their struct does: they are taken out of memory as items side by side, all or a stretch of
 -- them, and put back.
-use Rattle.ring_slots.proofs.Words.{ap, ◌∙◌, ◌++◌, ◌+◌, ◌≤◌, arith, length-take, length-drop, length-append, take, cut, take-append-drop, drop-drop, take_front, by, rewritten, ◌≡◌, refl, sym, List, [], ◌∷◌, ℕ, length, Args, a_type, a_number, Ura, ty_array, full_share, SProp, ent, sep, guard, wand, all_e, apply∗, Fml, fsep, feq, Logic, sem, cells, ‵, raw, ◌⊛◌, ◌$◌, ◌∵◌, !, qed, move, split, check, fsplit, fjoin, feq_l, feq_i, use1, use2, rewrite, done, mem, part_at, param, number, layout, layouts, ArrayAt, Laws, param_laws, number_array_laws, RattleType, Struct, Array}
+use Rattle.ring_slots.proofs.Words.{ap, ◌++◌, ◌+◌, ◌≤◌, arith, length-take, length-drop, length-append, take, cut, take-append-drop, drop-drop, take_front, by, rewritten, ◌≡◌, refl, sym, List, [], ◌∷◌, ℕ, length, Args, a_type, a_number, Ura, ty_array, full_share, SProp, ent, sep, guard, wand, all_e, apply∗, Fml, fsep, feq, Logic, sem, cells, ‵, raw, ◌⊛◌, ◌$◌, ◌∵◌, !, qed, move, split, check, fsplit, fjoin, feq_l, feq_i, use1, use2, rewrite, done, mem, part_at, param, number, layout, layouts, ArrayAt, Laws, param_laws, number_array_laws, RattleType, Struct, Array}
 use denote.ArrayMemory.{Array-apart, Array-whole}
 use denote.Index.{row, whole_in, whole_out}
 use borrow.Table.Elements.{at, cut_app, join_app}

@@ -1,5 +1,5 @@
 -- What slots hold once the items of the last of them have moved down, or to the first of them.
-use Rattle.ring_slots.proofs.Words.{IsFullStretch, ◌≡◌, ap, ◌∙◌, false, List, ℕ, ◌+◌, ◌<◌, ◌≤◌, arith, length, get_or, replicate, take, cut, Option, None, HoldsStretch, ext_get_or, common_steps, slice_get-get_or, slice_get_cases, SamePlaces, slots_filled, slots_items, slots_len, Filled, SameOutside, ◌-◌, min, Row, brought_first, moved_down, HoldsRow}
+use Rattle.ring_slots.proofs.Words.{IsFullStretch, ◌≡◌, ap, ◌∙◌, false, List, ℕ, ◌+◌, ◌<◌, ◌≤◌, arith, length, get_or, take, cut, Option, None, ext_get_or, common_steps, slice_get-get_or, slice_get_cases, SamePlaces, slots_filled, slots_items, Filled, SameOutside, ◌-◌, min, Row, brought_first, moved_down, HoldsRow}
 use Rattle.std.specs.Mem.Slots.{IsMoved, SameFilledBeside, SameItemsOutside}
 use Rattle.std.specs.Prelude.{max}
 use Rattle.ring_slots.proofs.Filled.{first_item, get_or-map_some}

@@ -1,5 +1,5 @@
 -- The owner of slots is taken apart into their row and its mark, and is made of these again.
-use Rattle.ring_slots.proofs.Words.{SProp, Fml, fsep, fsplit3, part_of, refilled, length-map, map, Some, take, cut, ◌+◌, ◌≤◌, arith, cells, sep, sem, qed, ◌∵◌, !, use1, use2, done, shape, ◌≡◌, refl, sym, ap, subst, ◌∙◌, List, [], ◌∷◌, ◌++◌, ℕ, ◌*◌, ◌^◌, ◌<◌, T, lit<, length, replicate, length-replicate, Ura, full_share, ent, emp, never, id⊢, Lft, GName, Share, flft, fobs, fauth, fbor, fobor, Val, vunit, vptr, vstruct, vcons, vnil, of_list, has_ty, WT, Logic, sem, Item, Goal, Soaks, Seq, Step, step, ‵, ◌$◌, move, drop, use0, rewrite, fsplit, fjoin, fpick, fpack, feq_i, feq_l, flt_i, flt_l, Is, mem, cell_at, param, RattleType, Valss, Ptr, RawPtr, block_ptr, null_ptr, ptr_val, in_a_block, nothing, opens, closes, makes, Struct, within, None, type_size, Global, ty_ptr, row, right}
+use Rattle.ring_slots.proofs.Words.{Fml, fsep, fsplit3, part_of, refilled, length-map, map, Some, take, cut, ◌+◌, ◌≤◌, arith, cells, sep, sem, qed, ◌∵◌, !, use2, done, shape, ◌≡◌, refl, sym, ap, subst, ◌∙◌, List, [], ◌∷◌, ◌++◌, ℕ, ◌*◌, ◌^◌, ◌<◌, T, lit<, length, replicate, length-replicate, Ura, full_share, ent, emp, never, id⊢, Lft, GName, Share, flft, fobs, fauth, fbor, fobor, Val, vunit, vptr, vstruct, vcons, vnil, of_list, has_ty, WT, Logic, sem, Item, Goal, Soaks, Seq, Step, step, ‵, ◌$◌, move, drop, use0, rewrite, fsplit, fjoin, fpick, fpack, feq_i, feq_l, flt_i, flt_l, Is, mem, cell_at, param, RattleType, Valss, Ptr, RawPtr, block_ptr, null_ptr, ptr_val, in_a_block, nothing, opens, closes, makes, Struct, within, None, type_size, Global, ty_ptr, row, right}
 use base.Stored.{Gv}
 use types.SemTy.{Body}
 use denote.Shadow.{makes_shadow}

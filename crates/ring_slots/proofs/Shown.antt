@@ -1,5 +1,5 @@
 -- What slots of plain items show, once cells are written or marks change.
-use Rattle.ring_slots.proofs.Words.{set-get_or, passed_up, passed_down, drop-drop, take-append-drop, ◌≡◌, refl, sym, ap, ◌∙◌, Bool, true, false, List, [], ◌∷◌, ◌++◌, ℕ, zero, suc, ◌+◌, ◌<◌, ◌≤◌, arith, length, get_or, length-append, length-drop, length-replicate, length-take, replicate, set, take, cut, map, None, Some, IsSome, HoldsStretch, IsFullStretch, slice_get-get_or, if◌then◌else◌, slice_get, Passes, filled, shown}
+use Rattle.ring_slots.proofs.Words.{set-get_or, passed_up, passed_down, drop-drop, take-append-drop, ◌≡◌, refl, sym, ap, ◌∙◌, Bool, true, false, List, [], ◌∷◌, ◌++◌, ℕ, zero, suc, ◌+◌, ◌<◌, ◌≤◌, arith, length, get_or, length-append, length-drop, length-replicate, length-take, replicate, set, take, cut, map, None, Some, IsSome, HoldsStretch, IsFullStretch, if◌then◌else◌, Passes, filled, shown}
 use Rattle.ring_slots.proofs.SlotsInMemory.{full_within, item_of, stretch_long}
 
 -- a list is what comes before a stretch of it, the stretch, and what comes after

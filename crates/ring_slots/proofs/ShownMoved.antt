@@ -1,5 +1,5 @@
 -- What slots of plain items show, once items have moved from the last of them, or were written through a slice.
-use Rattle.ring_slots.proofs.Words.{◌≡◌, refl, sym, ap, ◌∙◌, Bool, true, false, List, [], ◌∷◌, ◌++◌, ℕ, ◌+◌, ◌<◌, ◌≤◌, arith, length, get_or, length-append, length-drop, length-replicate, length-take, replicate, take, cut, map, take-append-drop, drop-drop, Option, None, Some, IsFullStretch, refill, refilled, ext_get_or, common_steps, map-append, length_refill, ◌-◌, brought_first, moved_down, rewritten, shown}
+use Rattle.ring_slots.proofs.Words.{◌≡◌, refl, sym, ap, ◌∙◌, Bool, true, false, List, ◌++◌, ℕ, ◌+◌, ◌<◌, ◌≤◌, arith, length, get_or, length-append, length-drop, length-replicate, length-take, replicate, take, cut, map, take-append-drop, drop-drop, Option, None, Some, IsFullStretch, refill, refilled, ext_get_or, common_steps, map-append, length_refill, ◌-◌, brought_first, moved_down, rewritten, shown}
 use Rattle.std.proofs.lemmas.List.{append_assoc, drop-map, take-map, take_all}
 use Rattle.ring_slots.specs.Slots.{IsEmptyStretch}
 use Rattle.ring_slots.proofs.Shown.{cells-long, in_three, length-over, length-shown, shown-append, shown-empty, shown-filled, shown-front, stretch-marked, stretch-shown}

@@ -1,5 +1,5 @@
 -- The size is a word of its own here. It is capped at what a word holds.
-use Rattle.ring_slots.proofs.Words.{◌≡◌, refl, List, [], ◌∷◌, ℕ, ◌^◌, arith, a_type, w64, inst_fn, Val, vint, ftrue, size, capped, capped_fits, ‵, raw, ◌⊛◌, ◌$◌, ◌∵◌, !, qed, move, keep, join, fjoin, feq_i, flt_i, split, suffices, done, size_word, of_opd, returns, enter, alloc_all, pass_all, free_all, look_at, sets, ◌⊑◌, fact, layout, layouts, nothing, alive, says, ends_at, proved, ◌-◌, min, Bool, true, false}
+use Rattle.ring_slots.proofs.Words.{◌≡◌, refl, List, [], ◌∷◌, ℕ, ◌^◌, arith, a_type, w64, inst_fn, Val, vint, ftrue, size, capped, capped_fits, ‵, raw, ◌⊛◌, ◌$◌, ◌∵◌, !, qed, move, keep, join, fjoin, feq_i, flt_i, split, suffices, done, size_word, of_opd, returns, enter, alloc_all, pass_all, free_all, look_at, sets, ◌⊑◌, fact, layout, layouts, nothing, alive, says, ends_at, proved, ◌-◌, min}
 use Rattle.std.specs.Prelude.{cond, ltb}
 use Rattle.std.proofs.lemmas.Bool.Decides.{nat_tests}
 use Rattle.ring_slots.specs.contracts.bytes.item_size as contract

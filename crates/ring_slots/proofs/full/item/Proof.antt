@@ -1,5 +1,5 @@
 -- `item` hands on the `&` to the item that a `&` to a full cell holds, at the place behind the mark, for every item type.
-use Rattle.ring_slots.proofs.Words.{refl, List, [], ◌∷◌, ◌+◌, Fn, named, inst_fn, Val, vptr, ftrue, flft, align, capped, hidden_shr, ‵, ◌⊛◌, given, ◌$◌, ◌∵◌, !, qed, move, keep, drop, split, learn, fsplit, fjoin, feq_i, rewrite, suffices, done, at_ret, ◌⊑◌, stop, addr, of_opd, bin, align_word, first, blocks, exec, returns, enter, alloc_all, pass_all, free_all, look_at, get, through, sets, sets_last, env, tables, yes, layout, RattleType, RefOf, ShrRef, shr_vals, shr_Tells, plain, nothing, says, Stays, stay_dropped, Goes-dropped, walk_of, ends_at, proved, after, IsSome, Option, hide, unhide}
+use Rattle.ring_slots.proofs.Words.{refl, List, [], ◌∷◌, ◌+◌, Fn, named, inst_fn, Val, vptr, ftrue, flft, align, capped, hidden_shr, ‵, ◌⊛◌, given, ◌$◌, ◌∵◌, !, qed, move, keep, drop, split, learn, fsplit, fjoin, feq_i, rewrite, suffices, done, at_ret, ◌⊑◌, stop, addr, of_opd, bin, align_word, first, blocks, exec, returns, enter, alloc_all, pass_all, free_all, look_at, get, through, sets, sets_last, env, tables, yes, layout, RefOf, ShrRef, shr_vals, shr_Tells, plain, nothing, says, Stays, stay_dropped, Goes-dropped, walk_of, ends_at, proved, after, IsSome, Option, hide, unhide}
 use denote.Memory.{shared_of}
 use Rattle.ring_slots.proofs.FullCell.{Cell, Item, arguments, behind_mark}
 use Rattle.ring_slots.proofs.SlotsInMemory.{item_of}

@@ -1,5 +1,5 @@
 -- The item is moved out of a full cell in memory, and nothing is written over the cell.
-use Rattle.ring_slots.proofs.Words.{◌∙◌, refl, sym, ap, List, [], ◌∷◌, ◌++◌, ℕ, ◌+◌, Fn, Ty, named, inst_fn, Val, vptr, vcons, vnil, of_list, has_ty, WT, T, full_share, fat, Ura, SProp, ent, sep, ex, guard, all, wand, all_e, apply∗, ftrue, flft, Logic, sem, ‵, raw, ◌⊛◌, some, given, ◌$◌, ◌∵◌, !, qed, by, check, show, move, keep, drop, split, split3, join, learn, fsplit, fsplit3, fjoin, fjoin3, feq_l, feq_i, fpick, use1, use2, pick, rewrite, suffices, done, at_ret, ◌⊑◌, stop, addr, of_opd, bin, align_word, first, blocks, exec, returns, enter, alloc_all, pass_all, free_all, look_at, get, through, sets, sets_last, is, env, tables, mem, part_in, part_out, layout, Laws, param_laws, RattleType, MutRef, mut_vals, mut_Tells, plain, nothing, Stays, stay_ref, Goes-ref, walk_of, ends_at, proved, after, IsSome, Some, None, Option, live, load, agg, no_more, and_then, lit, Is, Typed, peeks, shows, only, open_ref, look, lit<, declared}
+use Rattle.ring_slots.proofs.Words.{◌∙◌, refl, sym, ap, List, [], ◌∷◌, ◌++◌, ℕ, ◌+◌, Fn, named, inst_fn, Val, vptr, vcons, vnil, of_list, has_ty, WT, T, full_share, fat, Ura, SProp, ent, sep, ex, guard, all, wand, all_e, apply∗, ftrue, flft, Logic, sem, ‵, raw, ◌⊛◌, some, given, ◌$◌, ◌∵◌, !, qed, by, check, show, move, keep, drop, split, split3, join, learn, fsplit, fsplit3, fjoin, fjoin3, feq_l, feq_i, fpick, use1, use2, pick, rewrite, suffices, done, at_ret, ◌⊑◌, stop, addr, of_opd, bin, align_word, first, blocks, exec, returns, enter, alloc_all, pass_all, free_all, look_at, get, through, sets, sets_last, is, env, tables, mem, part_in, part_out, layout, Laws, param_laws, RattleType, MutRef, mut_vals, mut_Tells, plain, nothing, Stays, stay_ref, Goes-ref, walk_of, ends_at, proved, after, IsSome, Some, None, Option, live, load, agg, no_more, and_then, lit, Is, peeks, shows, only, open_ref, look, lit<, declared}
 use mir.Syntax.{tcons, tnil}
 use types.Mut.{close_ref}
 use types.Run.{assigns, store}

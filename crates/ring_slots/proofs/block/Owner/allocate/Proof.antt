@@ -1,5 +1,5 @@
 -- The new block is room for the items, which is a row of empty slots. The right to free it stays beside the row.
-use Rattle.ring_slots.proofs.Words.{Goes-number, stay_number, refl, sym, ap, Bool, true, false, [], ◌∷◌, ◌*◌, ◌<◌, ◌^◌, arith, lit<, replicate, Fn, a_type, w64, ty_array, inst_fn, Val, WT, vint, vstruct, vcons, vnil, SProp, ftrue, flft, capped_fits, align, capped, Env, Wp, after_seq, at_return, any_q, ‵, raw, ◌⊛◌, later, at_ret, ◌$◌, ◌∵◌, !, qed, move, keep, drop, use1, use2, await, split, join, rewrite, suffices, frame, fjoin, done, live, vrt, in_variant, whole, agg, stop, fld, lit, from, addr, of_opd, bin, size_word, align_word, no_more, and_then, first, switches_on, exec, returns, enter, alloc_all, pass_all, free_all, look_at, get, get_in, get_tag, is, sets, sets_last, take_at, give_at, lands_as, env, ◌⊑◌, fact, tables, usize, yes, Is, layout, layouts, uint_vals, uint_Tells, RattleType, owns, block_ptr, plain, types_at, nothing, heard, owned, Struct, Struct-Makes, calls_at, Vals, framed, says, Stays, stay_dropped, Goes-dropped, walk_of, ends_at, None, Ok, Err, type_size, as_written, after, head, arm_body, Answer-typed, Answered, answers, proved, Body, row, right_if}
+use Rattle.ring_slots.proofs.Words.{Goes-number, stay_number, refl, sym, ap, Bool, true, false, [], ◌∷◌, ◌*◌, ◌<◌, ◌^◌, arith, lit<, replicate, Fn, a_type, w64, ty_array, inst_fn, Val, WT, vint, vstruct, vcons, vnil, SProp, ftrue, flft, capped_fits, align, capped, Env, Wp, after_seq, at_return, any_q, ‵, raw, ◌⊛◌, later, at_ret, ◌$◌, ◌∵◌, !, qed, move, keep, drop, use1, use2, await, split, join, rewrite, suffices, frame, fjoin, done, live, vrt, in_variant, whole, agg, stop, fld, lit, from, addr, of_opd, bin, size_word, align_word, no_more, and_then, first, switches_on, exec, returns, enter, alloc_all, pass_all, free_all, look_at, get, get_in, get_tag, is, sets, sets_last, take_at, give_at, lands_as, env, ◌⊑◌, fact, tables, yes, Is, layout, layouts, uint_vals, uint_Tells, RattleType, owns, block_ptr, plain, types_at, nothing, heard, owned, Struct, Struct-Makes, calls_at, Vals, framed, says, Stays, stay_dropped, Goes-dropped, walk_of, ends_at, None, Ok, Err, type_size, as_written, after, head, arm_body, Answer-typed, Answered, answers, proved, Body, row, right_if}
 use types.Kit.{Post as After}
 use denote.Struct.Declared as Declared
 use Rattle.std.specs.Vec.Ownership.{FitsInBlock}

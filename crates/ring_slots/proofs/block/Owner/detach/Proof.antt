@@ -1,5 +1,5 @@
 -- The slots become a row, and none are left.
-use Rattle.ring_slots.proofs.Words.{is_some, drop, proved, rawptr_vals, rawptr_Tells, uint_vals, uint_Tells, mut_vals, mut_Tells, w64, Vals, Goes-number, Goes-pointer, stay_number, stay_pointer, ◌≡◌, refl, sym, subst, ◌∙◌, List, [], ◌∷◌, ◌++◌, ℕ, ◌*◌, ◌^◌, ◌<◌, zero-mul, arith, length, length-map, map, get_or, false, None, Fn, a_type, named, inst_fn, Val, vptr, full_share, SProp, Bool, ftrue, fat, flft, WpFn, ‵, raw, ◌⊛◌, some, given, later, learn, await, pick, prop, at_ret, ◌$◌, ◌∵◌, !, qed, move, keep, use1, use2, split, split3, join, fsplit, fsplit3, fjoin, fjoin3, feq_i, feq_l, flt_l, rewrite, regoal, suffices, frame, done, of_opd, and_then, no_more, first, blocks, exec, returns, enter, alloc_all, pass_all, free_all, look_at, get, sets, is, lands_last, take_at, give_at, env, ◌⊑◌, fact, tables, usize, yes, layouts, RattleType, Ptr, RawPtr, ptr_val, MutRef, plain, nothing, heard, Stays, stay_dropped, stay_ref, Goes-dropped, Goes-ref, walk_of, ends_at, calls_at_last, framed, type_size, after, proved_at, ty_ptr, if◌then◌else◌, slice_get, row_val}
+use Rattle.ring_slots.proofs.Words.{is_some, drop, proved, rawptr_vals, rawptr_Tells, uint_vals, uint_Tells, mut_vals, mut_Tells, w64, Vals, Goes-number, Goes-pointer, stay_number, stay_pointer, ◌≡◌, refl, sym, subst, ◌∙◌, List, [], ◌∷◌, ℕ, ◌*◌, ◌^◌, ◌<◌, zero-mul, arith, length, length-map, map, get_or, false, None, Fn, a_type, named, inst_fn, Val, vptr, full_share, SProp, Bool, ftrue, fat, flft, ‵, raw, ◌⊛◌, some, given, later, learn, await, pick, at_ret, ◌$◌, ◌∵◌, !, qed, move, keep, use1, use2, split, join, fsplit3, fjoin, fjoin3, feq_i, rewrite, suffices, frame, done, of_opd, and_then, no_more, first, blocks, exec, returns, enter, alloc_all, pass_all, free_all, look_at, get, sets, is, lands_last, take_at, give_at, env, ◌⊑◌, fact, tables, usize, layouts, Ptr, RawPtr, ptr_val, MutRef, plain, nothing, heard, Stays, stay_ref, Goes-ref, walk_of, ends_at, calls_at_last, framed, type_size, after, ty_ptr, if◌then◌else◌, slice_get, row_val}
 use Rattle.std.proofs.lemmas.List.{get_or_past}
 use Rattle.std_alloc.proofs.vec.Blocks.{all}
 use Rattle.std_alloc.proofs.vec.Spares.{Row, row_Typed, From, Made, at_from, from_gives, from_goes}

@@ -1,5 +1,5 @@
 -- What a `&` to the slots shows of a stretch of full ones is a slice of their items.
-use Rattle.ring_slots.proofs.Words.{proved, rawptr_vals, rawptr_Tells, uint_vals, uint_Tells, shr_vals, shr_Tells, Vals, Goes-number, Goes-pointer, stay_number, stay_pointer, ◌≡◌, refl, ◌∙◌, List, [], ◌∷◌, ◌++◌, ℕ, ◌+◌, ◌*◌, length, Fn, a_type, named, inst_fn, Val, full_share, SProp, never, id⊢, ftrue, fat, flft, WpFn, ‵, raw, ◌⊛◌, prop, at_ret, ◌$◌, ◌∵◌, !, qed, move, keep, drop, use1, split, split3, join, fsplit, fjoin, feq_i, feq_l, flt_l, rewrite, regoal, suffices, frame, done, of_opd, bin, first, blocks, exec, returns, enter, alloc_all, pass_all, free_all, look_at, get, sets, sets_last, take_at, give_at, env, ◌⊑◌, fact, tables, RefOf, usize, yes, layouts, RattleType, Ptr, RawPtr, ptr_val, in_a_block, ShrRef, plain, nothing, heard, says, Stays, stay_dropped, Goes-dropped, walk_of, ends_at, type_size, after, proved_at, ap, sym, agg, and_then, no_more, flt_i, vint, w64, is, size_word, ◌^◌, ty_ptr, elements_shared, slice_val, lent, IsFullStretch, hide, unhide}
+use Rattle.ring_slots.proofs.Words.{proved, rawptr_vals, rawptr_Tells, uint_vals, uint_Tells, shr_vals, shr_Tells, Vals, Goes-number, Goes-pointer, stay_number, stay_pointer, ◌≡◌, refl, ◌∙◌, List, [], ◌∷◌, ℕ, ◌+◌, ◌*◌, length, Fn, a_type, named, inst_fn, Val, full_share, SProp, never, id⊢, ftrue, fat, flft, ‵, raw, ◌⊛◌, at_ret, ◌$◌, ◌∵◌, !, qed, move, keep, drop, use1, split, join, fsplit, fjoin, feq_i, flt_l, rewrite, suffices, frame, done, of_opd, bin, first, blocks, exec, returns, enter, alloc_all, pass_all, free_all, look_at, get, sets, sets_last, take_at, give_at, env, ◌⊑◌, fact, tables, RefOf, usize, yes, layouts, Ptr, RawPtr, ptr_val, in_a_block, ShrRef, plain, nothing, heard, says, Stays, stay_dropped, Goes-dropped, walk_of, ends_at, type_size, after, ap, sym, agg, and_then, no_more, flt_i, vint, w64, is, size_word, ◌^◌, ty_ptr, elements_shared, slice_val, lent, IsFullStretch, hide, unhide}
 use Rattle.ring_slots.proofs.SlotsInMemory.{product_is, stretch_fits, stretch_long, stretch_seen}
 use Rattle.ring_slots.proofs.OwnerParts.{R, Seen, pointer_good}
 use Rattle.ring_slots.specs.contracts.block.Owner.slice as contract

@@ -1,5 +1,5 @@
 -- The stretch is lent apart from the rest, which closes round any items that are written.
-use Rattle.ring_slots.proofs.Words.{proved, rawptr_vals, rawptr_Tells, uint_vals, uint_Tells, mut_vals, mut_Tells, Vals, Goes-number, Goes-pointer, stay_number, stay_pointer, ◌≡◌, refl, sym, ap, subst, ◌∙◌, List, [], ◌∷◌, ◌++◌, ℕ, ◌+◌, ◌*◌, ◌^◌, ◌<◌, ◌≤◌, length, arith, Fn, a_type, named, inst_fn, Val, vint, w64, Ura, full_share, SProp, ent, sep, Fml, GName, ftrue, fsep, fat, flft, WpFn, Logic, sem, ‵, raw, ◌⊛◌, some, later, prop, at_ret, ◌$◌, ◌∵◌, !, qed, move, keep, drop, use1, use2, pick, split, split3, join, fsplit, fsplit3, fjoin, fjoin3, fpack, feq_l, flt_i, flt_l, rewrite, regoal, suffices, frame, group, await, done, of_opd, bin, agg, and_then, no_more, is, size_word, first, blocks, exec, returns, enter, alloc_all, pass_all, free_all, look_at, get, sets, sets_last, take_at, give_at, env, ◌⊑◌, fact, tables, usize, yes, no, follows, mem, cell_at, cells, part_of, layouts, RattleType, Ptr, RawPtr, block_ptr, ptr_val, MutRef, plain, mut_ref_to, nothing, heard, says, Stays, stay_dropped, Goes-dropped, Goes-spent_ref, walk_of, ends_at, Some, type_size, after, proved_at, ty_ptr, take, cut, map, Array, MutSlice, slice_val, length-map, IsFullStretch, refilled, row, lends_Elements}
+use Rattle.ring_slots.proofs.Words.{proved, rawptr_vals, rawptr_Tells, uint_vals, uint_Tells, mut_vals, mut_Tells, Vals, Goes-number, Goes-pointer, stay_number, stay_pointer, ◌≡◌, refl, ap, ◌∙◌, List, [], ◌∷◌, ℕ, ◌+◌, ◌*◌, ◌^◌, ◌<◌, length, Fn, a_type, named, inst_fn, Val, vint, w64, full_share, SProp, ent, sep, Fml, GName, ftrue, fat, flft, sem, ‵, raw, ◌⊛◌, some, later, at_ret, ◌$◌, ◌∵◌, !, qed, move, keep, drop, use1, pick, split, split3, join, fsplit3, fjoin3, rewrite, suffices, frame, group, await, done, of_opd, bin, agg, and_then, no_more, is, size_word, first, blocks, exec, returns, enter, alloc_all, pass_all, free_all, look_at, get, sets, sets_last, take_at, give_at, env, ◌⊑◌, fact, tables, usize, no, follows, mem, cells, layouts, Ptr, RawPtr, ptr_val, MutRef, plain, mut_ref_to, nothing, heard, says, Stays, stay_dropped, Goes-spent_ref, walk_of, ends_at, type_size, after, ty_ptr, take, cut, Array, MutSlice, slice_val, IsFullStretch, row, lends_Elements}
 use Rattle.ring_slots.proofs.SlotsInMemory.{around, product_is, stretch_fits, stretch_long, row-cells, stretch_out}
 use Rattle.ring_slots.proofs.OwnerParts.{R, Rest, Seen, back, pointer_good, refilled_owner, slots_opened}
 use Rattle.ring_slots.specs.contracts.block.Owner.slice_mut as contract

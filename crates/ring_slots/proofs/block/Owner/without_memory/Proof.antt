@@ -1,5 +1,5 @@
 -- Room for no item is had for nothing, and is room for any number of items without size.
-use Rattle.ring_slots.proofs.Words.{Goes-number, stay_number, ◌≡◌, refl, sym, ap, subst, ◌∙◌, Bool, [], ◌∷◌, ℕ, ◌*◌, ◌<◌, ◌^◌, arith, zero-mul, mul-zero, eqb, replicate, Fn, a_type, w64, ty_array, inst_fn, wand, froom, size, align, ‵, raw, ◌⊛◌, ◌$◌, ◌∵◌, !, qed, move, keep, drop, use0, use1, split, fjoin, frame, rewrite, suffices, done, agg, stop, from, addr, of_opd, no_more, and_then, returns, enter, alloc_all, pass_all, free_all, look_at, get, through, sets, ◌⊑◌, fact, usize, yes, layout, layouts, uint_vals, uint_Tells, owns, block_ptr, plain, types_at, nothing, heard, Vals, alive, says, Stays, stay_dropped, Goes-dropped, ends_at, None, type_size, proved, row, right_if}
+use Rattle.ring_slots.proofs.Words.{Goes-number, stay_number, ◌≡◌, refl, sym, ap, subst, ◌∙◌, Bool, [], ◌∷◌, ℕ, ◌*◌, ◌<◌, ◌^◌, arith, zero-mul, mul-zero, eqb, replicate, Fn, a_type, w64, ty_array, inst_fn, wand, froom, size, align, ‵, raw, ◌⊛◌, ◌$◌, ◌∵◌, !, qed, move, keep, drop, use0, use1, split, fjoin, frame, rewrite, suffices, done, agg, stop, from, addr, of_opd, no_more, and_then, returns, enter, alloc_all, pass_all, free_all, look_at, get, through, sets, ◌⊑◌, fact, yes, layout, layouts, uint_vals, uint_Tells, owns, block_ptr, plain, types_at, nothing, heard, Vals, alive, says, Stays, stay_dropped, Goes-dropped, ends_at, None, type_size, proved, row, right_if}
 use prog.Align.{dv_self}
 use Rattle.std.specs.contracts.alloc.Global as heap
 use Rattle.std.proofs.alloc.Global.TheLaws as heap_laws

@@ -1,6 +1,6 @@
 -- An element of the array is lent to the caller, which the borrow checker does not follow through an array. The element is
 -- taken out of the cells in memory with a way back at any value, and then lent.
-use Rattle.ring_slots.proofs.Words.{List, fsplit, fjoin, rewrite, take, cut, drop-cons, set_split, length-take, length-drop, Goes-number, stay_number, ◌≡◌, refl, sym, ap, ◌∙◌, [], ◌∷◌, ℕ, zero, ◌+◌, ◌*◌, ◌^◌, ◌<◌, ◌≤◌, mul-le-mul_right, arith, length, get_or, set, length-set, Ura, ty_array, named, w64, inst_fn, vptr, vint, SProp, ent, sep, ex, guard, all, wand, all_e, apply∗, GName, ftrue, flft, size, align, up, Logic, sem, cells, ‵, raw, ◌⊛◌, some, given, later, ◌$◌, ◌∵◌, !, qed, by, move, keep, drop, split, split3, join, learn, check, fsplit3, use1, use2, await, pick, suffices, frame, group, show, done, ◌⊑◌, stop, fld, addr, bin, size_word, returns, enter, alloc_all, pass_all, free_all, look_at, get, through, sets, is, RefMutOf, usize, yes, no, follows, lends_Part, mem, number, layout, Laws, uint_vals, uint_Tells, RattleType, MutRef, mut_vals, mut_Tells, plain, nothing, says, Stays, stay_dropped, Goes-dropped, Goes-spent_ref, ends_at, proved, get_or_default, open_ref, first_at, Ended, at_mul}
+use Rattle.ring_slots.proofs.Words.{List, fsplit, fjoin, rewrite, take, cut, drop-cons, set_split, length-take, length-drop, Goes-number, stay_number, ◌≡◌, refl, sym, ap, ◌∙◌, [], ◌∷◌, ℕ, zero, ◌+◌, ◌*◌, ◌^◌, ◌<◌, ◌≤◌, mul-le-mul_right, arith, length, get_or, set, Ura, ty_array, named, w64, inst_fn, vptr, vint, ent, sep, GName, ftrue, flft, size, align, up, Logic, sem, cells, ‵, raw, ◌⊛◌, some, given, later, ◌$◌, ◌∵◌, !, qed, move, keep, drop, split, split3, join, learn, fsplit3, use1, use2, await, pick, suffices, frame, group, done, ◌⊑◌, stop, fld, addr, bin, size_word, returns, enter, alloc_all, pass_all, free_all, look_at, get, through, sets, is, RefMutOf, usize, no, follows, lends_Part, mem, number, layout, uint_vals, uint_Tells, RattleType, MutRef, mut_vals, mut_Tells, plain, nothing, says, Stays, stay_dropped, Goes-spent_ref, ends_at, proved, get_or_default, open_ref, first_at, at_mul}
 use Rattle.std.proofs.Common.{add-one}
 use borrow.Table.Elements.{at}
 use Rattle.ring_slots.proofs.CellsInMemory.{Cells, Element, Rest, Shell, arguments, array_out, stretch_in, stretch_out, with_cells}

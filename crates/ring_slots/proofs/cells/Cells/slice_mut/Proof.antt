@@ -1,6 +1,6 @@
 -- A stretch of the array is lent as a slice. The borrow checker doesn't follow a part of an array: the stretch is taken out
 -- of the cells in memory, which close round any items that are written.
-use Rattle.ring_slots.proofs.Words.{Goes-number, stay_number, ◌≡◌, refl, sym, ap, ◌∙◌, List, [], ◌∷◌, ◌++◌, ℕ, zero, ◌+◌, ◌*◌, ◌^◌, ◌<◌, ◌≤◌, mul-le-mul_right, arith, length, length-take, length-drop, length-append, take, cut, take-append-drop, drop-drop, take_front, Ura, named, w64, inst_fn, vptr, vint, SProp, ent, sep, GName, ftrue, flft, size, align, up, ty_array, Logic, sem, cells, ‵, raw, ◌⊛◌, some, given, later, ◌$◌, ◌∵◌, !, qed, by, move, keep, drop, split, split3, join, learn, fsplit3, use1, use2, await, pick, suffices, frame, group, rewrite, done, ◌⊑◌, stop, fld, addr, agg, and_then, no_more, bin, size_word, returns, enter, alloc_all, pass_all, free_all, look_at, get, through, sets, is, RefMutOf, usize, yes, no, follows, mem, number, layout, Laws, uint_vals, uint_Tells, RattleType, MutRef, MutSlice, slice_val, mut_vals, mut_Tells, plain, nothing, says, Stays, stay_dropped, Goes-dropped, Goes-spent_ref, ends_at, proved, Array, open_ref, lends_Elements, first_at, Ended, at_mul, ◌-◌, rewritten}
+use Rattle.ring_slots.proofs.Words.{Goes-number, stay_number, ◌≡◌, refl, sym, ap, ◌∙◌, List, [], ◌∷◌, ℕ, zero, ◌+◌, ◌*◌, ◌^◌, ◌<◌, ◌≤◌, mul-le-mul_right, arith, length, length-take, length-drop, cut, named, w64, inst_fn, vptr, vint, GName, ftrue, flft, size, align, up, ty_array, cells, ‵, raw, ◌⊛◌, some, given, later, ◌$◌, ◌∵◌, !, qed, move, keep, drop, split, split3, join, learn, fsplit3, use1, await, pick, suffices, frame, group, rewrite, done, ◌⊑◌, stop, fld, addr, agg, and_then, no_more, bin, size_word, returns, enter, alloc_all, pass_all, free_all, look_at, get, through, sets, is, RefMutOf, usize, no, follows, mem, number, layout, uint_vals, uint_Tells, RattleType, MutRef, MutSlice, slice_val, mut_vals, mut_Tells, plain, nothing, says, Stays, stay_dropped, Goes-spent_ref, ends_at, proved, Array, open_ref, lends_Elements, first_at, at_mul, ◌-◌}
 use borrow.Table.Elements.{at}
 use Rattle.ring_slots.proofs.CellsInMemory.{Cells, Element, Rest, Shell, arguments, array_out, stretch, stretch_in, stretch_out, with_cells}
 use Rattle.ring_slots.proofs.SlotsInMemory.{product_is}

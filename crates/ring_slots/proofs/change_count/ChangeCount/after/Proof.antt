@@ -1,5 +1,5 @@
 -- The proof gives the new struct the count behind the reference and the given number more.
-use Rattle.ring_slots.proofs.Words.{Goes-number, stay_number, refl, drop, nothing, fsplit, fjoin, usize, stay_dropped, Goes-dropped, uint_vals, uint_Tells, w64, Vals, [], ◌∷◌, ◌+◌, named, vstruct, vnil, ftrue, ‵, raw, ◌⊛◌, ◌$◌, ◌∵◌, !, qed, move, keep, split, suffices, done, no_more, returns, enter, agg, alloc_all, pass_all, free_all, look_at, sets, yes, owns, shr_vals, shr_Tells, pure_i, plain, types_at, alive, says, ends_at, Stays, stay_none_ref, Goes-none_ref, proved}
+use Rattle.ring_slots.proofs.Words.{Goes-number, stay_number, refl, drop, nothing, fsplit, fjoin, uint_vals, uint_Tells, w64, Vals, [], ◌∷◌, ◌+◌, named, vstruct, vnil, ftrue, ‵, raw, ◌⊛◌, ◌$◌, ◌∵◌, !, qed, move, keep, split, suffices, done, no_more, returns, enter, agg, alloc_all, pass_all, free_all, look_at, sets, yes, owns, shr_vals, shr_Tells, pure_i, plain, types_at, alive, says, ends_at, Stays, stay_none_ref, Goes-none_ref, proved}
 use Rattle.ring_slots.specs.contracts.change_count.ChangeCount.{the_row}
 use Rattle.ring_slots.specs.contracts.change_count.ChangeCount.after as contract
 use Rattle.ring_slots.proofs.change_count.ChangeCount.after.Statement.{statement}

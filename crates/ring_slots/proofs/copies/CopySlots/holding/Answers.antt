@@ -1,4 +1,4 @@
-use Rattle.ring_slots.proofs.Words.{◌≡◌, sym, arith, common_steps, length, replicate, true, rules}
+use Rattle.ring_slots.proofs.Words.{◌≡◌, arith, common_steps, length, replicate, true, rules}
 use Rattle.ring_slots.proofs.Shown.{shown-all}
 use Rattle.ring_slots.proofs.copies.CopySlots.holding.Goals as goal
 

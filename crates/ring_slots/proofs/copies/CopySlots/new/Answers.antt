@@ -1,4 +1,4 @@
-use Rattle.ring_slots.proofs.Words.{length-replicate, replicate, sym}
+use Rattle.ring_slots.proofs.Words.{length-replicate, replicate}
 use Rattle.ring_slots.proofs.Shown.{shown-empty}
 use Rattle.ring_slots.proofs.copies.CopySlots.new.Goals as goal
 

@@ -1,4 +1,4 @@
-use Rattle.ring_slots.proofs.Words.{◌≡◌, ◌+◌, ◌≤◌, sym, ◌∙◌, arith, length, length-replicate, refl, replicate, true, rules, filled, shown}
+use Rattle.ring_slots.proofs.Words.{◌+◌, ◌≤◌, sym, ◌∙◌, arith, length, length-replicate, refl, replicate, true, rules}
 use Rattle.ring_slots.proofs.Shown.{length-over, length-shown, shown-size, shown-filled}
 use Rattle.ring_slots.proofs.copies.CopySlots.put_copies.Goals as goal
 

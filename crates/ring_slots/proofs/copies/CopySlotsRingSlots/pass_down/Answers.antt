@@ -1,5 +1,5 @@
 use Rattle.ring_slots.proofs.Words.{sym, ◌∙◌, arith, passed_down, rules}
-use Rattle.ring_slots.proofs.Shown.{length-passed,  shown-passes, shown-size, down-long}
+use Rattle.ring_slots.proofs.Shown.{length-passed, shown-passes, shown-size, down-long}
 use Rattle.ring_slots.proofs.copies.CopySlotsRingSlots.pass_down.Goals as goal
 
 pub pass_down-requires : goal.pass_down-requires

@@ -1,5 +1,5 @@
 use Rattle.ring_slots.proofs.Words.{sym, ◌∙◌, arith, passed_up, rules}
-use Rattle.ring_slots.proofs.Shown.{length-passed,  shown-passes, shown-size, up-long}
+use Rattle.ring_slots.proofs.Shown.{length-passed, shown-passes, shown-size, up-long}
 use Rattle.ring_slots.proofs.copies.CopySlotsRingSlots.pass_up.Goals as goal
 
 pub pass_up-requires : goal.pass_up-requires

@@ -1,6 +1,6 @@
 -- The proof gives the new struct the marks behind the reference, with a stretch of them full, or empty.
 use Rattle.ring_slots.proofs.Words.{Goes-number, stay_number}
-use Rattle.ring_slots.proofs.Words.{refl, cut, take, replicate, ◌++◌, ◌+◌, drop, nothing, fsplit, fjoin, usize, stay_dropped, Goes-dropped, uint_vals, uint_Tells, w64, Vals, [], ◌∷◌, named, vstruct, vnil, ftrue, ‵, raw, ◌⊛◌, ◌$◌, ◌∵◌, !, qed, move, keep, split, suffices, done, no_more, returns, enter, agg, alloc_all, pass_all, free_all, look_at, sets, yes, owns, shr_vals, shr_Tells, pure_i, plain, types_at, alive, says, ends_at, Stays, stay_none_ref, Goes-none_ref, proved, bool, bool_Tells, bool_vals}
+use Rattle.ring_slots.proofs.Words.{refl, cut, take, replicate, ◌++◌, ◌+◌, drop, nothing, fsplit, fjoin, stay_dropped, Goes-dropped, uint_vals, uint_Tells, w64, Vals, [], ◌∷◌, named, vstruct, vnil, ftrue, ‵, raw, ◌⊛◌, ◌$◌, ◌∵◌, !, qed, move, keep, split, suffices, done, no_more, returns, enter, agg, alloc_all, pass_all, free_all, look_at, sets, yes, owns, shr_vals, shr_Tells, pure_i, plain, types_at, alive, says, ends_at, Stays, stay_none_ref, Goes-none_ref, proved, bool, bool_Tells, bool_vals}
 use Rattle.ring_slots.specs.contracts.marks.Marks.{the_row}
 use Rattle.ring_slots.specs.contracts.marks.Marks.marked as contract
 use Rattle.ring_slots.proofs.marks.Marks.marked.Statement.{statement}

@@ -1,5 +1,5 @@
 -- The proof gives the new struct an empty mark for each slot.
-use Rattle.ring_slots.proofs.Words.{Goes-number, stay_number, refl, drop, nothing, fjoin, usize, stay_dropped, Goes-dropped, uint_vals, uint_Tells, w64, Vals, [], ◌∷◌, vstruct, vnil, ftrue, ‵, raw, ◌⊛◌, ◌$◌, ◌∵◌, !, qed, move, keep, split, suffices, done, no_more, returns, enter, agg, alloc_all, pass_all, free_all, look_at, sets, yes, owns, pure_i, plain, types_at, alive, says, ends_at, Stays, proved, replicate, false}
+use Rattle.ring_slots.proofs.Words.{Goes-number, stay_number, refl, drop, nothing, fjoin, uint_vals, uint_Tells, w64, Vals, [], ◌∷◌, vstruct, vnil, ftrue, ‵, raw, ◌⊛◌, ◌$◌, ◌∵◌, !, qed, move, keep, split, suffices, done, no_more, returns, enter, agg, alloc_all, pass_all, free_all, look_at, sets, owns, pure_i, types_at, alive, says, ends_at, Stays, proved, replicate, false}
 use Rattle.ring_slots.specs.contracts.marks.Marks.{the_row}
 use Rattle.ring_slots.specs.contracts.marks.Marks.none as contract
 use Rattle.ring_slots.proofs.marks.Marks.none.Statement.{statement}
