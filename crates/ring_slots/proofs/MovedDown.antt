@@ -27,14 +27,11 @@ module _ {X : Type 0} (old new : List (Option X)) (before after : Row X) (size f
   length-moved_down : length (moved_down old from to) ≡ size
   length-moved_down = grind (arith, common_steps)
 
-  read_early : (i : ℕ) → i < to → get_or (moved_down old from to) i None ≡ get_or old i None
-  read_early i low = grind (arith, common_steps)
-
-  read_moved : (i : ℕ) → to ≤ i → i < to + count → get_or (moved_down old from to) i None ≡ get_or old (from + (i - to)) None
-  read_moved i late low = grind (arith, common_steps)
-
-  read_behind : (i : ℕ) → to + count ≤ i → get_or (moved_down old from to) i None ≡ None
-  read_behind i late = grind (arith, common_steps)
+  -- what each slot reads then
+  moved_down-reads : (i : ℕ) → (i < to → get_or (moved_down old from to) i None ≡ get_or old i None)
+      × (to ≤ i → i < to + count → get_or (moved_down old from to) i None ≡ get_or old (from + (i - to)) None)
+      × (to + count ≤ i → get_or (moved_down old from to) i None ≡ None)
+  moved_down-reads i = (λ low. grind (arith, common_steps), λ late low. grind (arith, common_steps), λ late. grind (arith, common_steps))
 
   pub is_moved_down : IsMoved before after from to count → SameItemsOutside before after to (to + count) → Filled (slots_filled after) to (to + count)
       → SameOutside false (slots_filled before) (slots_filled after) (min from to) (max from to + count) → SamePlaces before after → new ≡ moved_down old from to
@@ -43,7 +40,7 @@ module _ {X : Type 0} (old new : List (Option X)) (before after : Row X) (size f
       let d = last_item old size from some full in let was_filled = stretch_filled old from count before size all full had in
       ext_get_or None new (moved_down old from to) (omega (arith, length-moved_down)) (λ i low.
       let k : ℕ = i - to in let held = λ (early : i < to + count). has.held i early in let was = had.held i (omega arith) in let was' = had.held (from + k) in
-      grind (arith, held, has.behind i, was, was', outside i, items d i, moved k d, was_filled (from + k), filled i, read_early i, read_moved i, read_behind i, slice_get-get_or))
+      grind (arith, held, has.behind i, was, was', outside i, items d i, moved k d, was_filled (from + k), filled i, moved_down-reads i, slice_get-get_or))
 
 -- slots that hold a row in which the last items were moved to the first slots, and those of the first `len` slots up after them, have them there
 module _ {X : Type 0} (old new : List (Option X)) (before between after : Row X) (size from len : ℕ) (all : size ≡ length old) (some : from < size) (room : size - from + len ≤ from)
@@ -54,14 +51,11 @@ module _ {X : Type 0} (old new : List (Option X)) (before between after : Row X)
   length-brought : length (brought_first old from len) ≡ size
   length-brought = grind (arith, common_steps)
 
-  read_last : (i : ℕ) → i < last → get_or (brought_first old from len) i None ≡ get_or old (from + i) None
-  read_last i low = grind (arith, common_steps)
-
-  read_first : (i : ℕ) → last ≤ i → i < last + len → get_or (brought_first old from len) i None ≡ get_or old (i - last) None
-  read_first i late low = grind (arith, common_steps)
-
-  read_empty : (i : ℕ) → last + len ≤ i → get_or (brought_first old from len) i None ≡ None
-  read_empty i late = grind (arith, common_steps)
+  -- what each slot reads then
+  brought-reads : (i : ℕ) → (i < last → get_or (brought_first old from len) i None ≡ get_or old (from + i) None)
+      × (last ≤ i → i < last + len → get_or (brought_first old from len) i None ≡ get_or old (i - last) None)
+      × (last + len ≤ i → get_or (brought_first old from len) i None ≡ None)
+  brought-reads i = (λ low. grind (arith, common_steps), λ late low. grind (arith, common_steps), λ late. grind (arith, common_steps))
 
   module _ (moved : IsMoved before between 0 last len) (items : SameItemsOutside before between last (last + len)) (filled : Filled (slots_filled between) last (last + len)) (places : SamePlaces before between)
       (moved' : IsMoved between after from 0 last) (items' : SameItemsOutside between after 0 (0 + last)) (filled' : Filled (slots_filled after) 0 (0 + last))
@@ -87,4 +81,4 @@ module _ {X : Type 0} (old new : List (Option X)) (before between after : Row X)
     pub brought : new ≡ brought_first old from len
     brought =
         let long = has.size in
-        ext_get_or None new (brought_first old from len) (omega (arith, length-brought, counts, after.ok.0)) (λ i low. grind (arith, has.behind i, in_last i, in_first i, read_last i, read_first i, read_empty i))
+        ext_get_or None new (brought_first old from len) (omega (arith, length-brought, counts, after.ok.0)) (λ i low. grind (arith, has.behind i, in_last i, in_first i, brought-reads i))

@@ -3,16 +3,13 @@ use Rattle.ring_slots.proofs.Words.{◌≡◌, refl, sym, ap, ◌∙◌, List, [
 use Rattle.ring_slots.proofs.SlotsInMemory.{stretch_long}
 
 module _ {X : Type 0} where
-  both : (y : Option X) (z : X) (ys : List (Option X)) (has : List X) → y ≡ Some z → ys ≡ map Some has → y ∷ ys ≡ map Some (z ∷ has)
-  both y z ys has is are = rw (is, are) refl
-
   -- of full slots all but the last hold items, and so do all but the first
   but_last : (zs : List X) (ys : List (Option X)) (x : X) → map Some zs ≡ ys ++ Some x ∷ [] → (has : List X) × (ys ≡ map Some has) × (zs ≡ has ++ x ∷ [])
   but_last [] ys x same = absurd (omega (arith, ap length same, length-append ys (Some x ∷ [])))
   but_last (z ∷ []) [] x same = ([], refl, cc)
   but_last (z ∷ w ∷ zs) [] x same = absurd (omega (arith, ap length same))
   but_last (z ∷ zs) (y ∷ ys) x same =
-      let first : y ≡ Some z = cc in let (has, are, all) = but_last zs ys x (ap (cut 1) same) in (z ∷ has, both y z ys has first are, ap (λ l. z ∷ l) all)
+      let first : y ≡ Some z = cc in let (has, are, all) = but_last zs ys x (ap (cut 1) same) in (z ∷ has, cc, ap (λ l. z ∷ l) all)
 
   but_first : (zs : List X) (ys : List (Option X)) (x : X) → map Some zs ≡ Some x ∷ ys → (has : List X) × (ys ≡ map Some has) × (zs ≡ x ∷ has)
   but_first [] ys x same = absurd (omega (arith, ap length same))

@@ -1,5 +1,5 @@
 -- An element of the array is lent to the caller, which the borrow checker does not follow through an array. The element is
--- taken out of the cells in memory with a way back at any value, and then lent.
+-- taken out of the cells in memory as a stretch of one, which goes back at any value, and then lent.
 use Rattle.ring_slots.proofs.Words.{List, fsplit, fjoin, rewrite, take, cut, drop-cons, set_split, length-take, length-drop, Goes-number, stay_number, ◌≡◌, refl, sym, ap, ◌∙◌, [], ◌∷◌, ℕ, zero, ◌+◌, ◌*◌, ◌^◌, ◌<◌, ◌≤◌, mul-le-mul_right, arith, length, get_or, set, Ura, ty_array, named, w64, inst_fn, vptr, vint, ent, sep, GName, ftrue, flft, size, align, up, Logic, sem, cells, ‵, raw, ◌⊛◌, some, given, later, ◌$◌, ◌∵◌, !, qed, move, keep, drop, split, split3, join, learn, fsplit3, use1, use2, await, pick, suffices, frame, group, done, ◌⊑◌, stop, fld, addr, bin, size_word, returns, enter, alloc_all, pass_all, free_all, look_at, get, through, sets, is, RefMutOf, usize, no, follows, lends_Part, mem, number, layout, uint_vals, uint_Tells, RattleType, MutRef, mut_vals, mut_Tells, plain, nothing, says, Stays, stay_dropped, Goes-spent_ref, ends_at, proved, get_or_default, open_ref, first_at, at_mul}
 use Rattle.std.proofs.Common.{add-one}
 use borrow.Table.Elements.{at}
@@ -14,6 +14,7 @@ module _ (X : RattleType) (n : ℕ) {M : Type 1} {𝓤 : Ura M} (𝓛 : Logic �
   abbrev with : X.Denot → (Cells X n).Denot
   with x = record { xs = set d.xs m x }
 
+  -- one element is a stretch of one
   back : length d.xs ≡ n → m < n → (x : X.Denot)
       → ent 𝓤 (sep 𝓤 (sem 𝓛 ((mem (Element X n)).own_at x b (at o (mem (Element X n)).size m))) (Rest X n 𝓛 b o m 1 d)) (sem 𝓛 ((mem (Cells X n)).own_at (with x) b o))
   back long within x =
