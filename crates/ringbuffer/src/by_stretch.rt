@@ -11,10 +11,10 @@ use ring_slots::RingSlots;
 use std::cmp::Ordering;
 use std::hash::{Hash, Hasher};
 
-/// As many items, and fewer, are compared index by index: their stretches cost more to find.
+/// As many items, and fewer, are compared index by index, which on the heap costs less for the order of two rings.
 pub(crate) const FEW: usize = 12;
 
-/// As many items, and fewer, are searched index by index, by a loop that the compiler unrolls.
+/// As many items, and fewer, are searched index by index: their stretches cost more to find.
 pub(crate) const FEW_SEARCHED: usize = 6;
 
 impl<T: Drop, S: RingSlots<T>> FixedRing<T, S> {

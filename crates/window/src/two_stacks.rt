@@ -67,7 +67,7 @@ impl<M: Drop, K: KeepsFold<M>, R: RingBuffer<K>> WindowFolded<M, K, R> {
     /// # Errors
     ///
     /// Hands `item` back where the ring was refused memory, which no ring with a limit meets. The items are as they were, and
-    /// so is their fold; `combine` was called once, and if no item was folded, it may have been for each item too.
+    /// so is their fold; two values were combined once, and if no item was folded, perhaps once more for each item.
     pub fn push(&mut self, item: M) -> Result<Option<M>, M>
         ensures overwrites { IfOk result
             (λ old. old ≡ overwritten self.old.limit self.old.contents) }

@@ -9,6 +9,7 @@ use ringbuffer::{
     GrowableAllocRingBuffer, RingBuffer,
 };
 use std::alloc::AllocError;
+use std::cmp::Ordering;
 use std::fmt::Debug;
 use std::process::Abort;
 
@@ -71,6 +72,53 @@ fn rings_are_equal_where_their_items_are(rt: HostRuntime) -> Result<(), AllocErr
     let one = GrowableAllocRingBuffer::with_capacity(rt.alloc(), 4)?;
     let other = GrowableAllocRingBuffer::with_capacity(rt.alloc(), 4)?;
     assert_equal_where_items_are(&rt, one, other);
+    Ok(())
+}
+
+/// Compares two new rings with room for 20, whose items go on at the first slot, each from another item on. Few are compared
+/// one by one, more by stretches of slots.
+fn assert_compares_many<R: RingBuffer<i64> + Ord>(rt: &impl Abort, one: &mut R, other: &mut R) {
+    for count in 11..21 {
+        one.clear();
+        other.clear();
+        for _ in 0..15 {
+            let _ = one.push(0);
+            one.skip();
+        }
+        for _ in 0..11 {
+            let _ = other.push(0);
+            other.skip();
+        }
+        for item in 0..count {
+            let _ = one.push(item);
+            let _ = other.push(item);
+        }
+        assert_compares(rt, one, other, true);
+        assert_equal(rt, R::cmp(one, other), Ordering::Equal);
+        for k in 0..other.len() {
+            let item = other.get(k).copied().unwrap_or(0);
+            if let Some(place) = other.get_mut(k) {
+                *place = -1;
+            }
+            assert_compares(rt, one, other, false);
+            assert_equal(rt, R::cmp(one, other), Ordering::Greater);
+            if let Some(place) = other.get_mut(k) {
+                *place = item;
+            }
+        }
+        other.skip();
+        assert_compares(rt, one, other, false);
+    }
+}
+
+#[test]
+fn many_items_are_compared(rt: HostRuntime) -> Result<(), AllocError> {
+    let mut array = ConstGenericRingBuffer::<i64, 20>::new();
+    assert_compares_many(&rt, &mut array, &mut ConstGenericRingBuffer::new());
+    let mut plain = CopyRingBuffer::<i64, 20>::new(0);
+    assert_compares_many(&rt, &mut plain, &mut CopyRingBuffer::new(0));
+    let mut heap = AllocRingBuffer::<i64>::new(rt.alloc(), 20)?;
+    assert_compares_many(&rt, &mut heap, &mut AllocRingBuffer::new(rt.alloc(), 20)?);
     Ok(())
 }
 
