@@ -202,6 +202,11 @@ impl<T> RingSlots<T> for HeapSlots<T> {
         masked(start, k, self.mask)
     }
 
+    #[inline]
+    fn place_branchless(&self, start: usize, k: usize) -> usize {
+        masked(start, k, self.mask)
+    }
+
     // A mask needs no test of whether the items fill all slots.
     #[inline]
     fn place_after(&self, start: usize, len: usize) -> usize {

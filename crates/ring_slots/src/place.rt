@@ -21,6 +21,21 @@ pub(crate) fn wrapped(start: usize, k: usize, size: usize) -> usize
     if k < room { start + k } else { k - room }
 }
 
+/// Returns what `wrapped` does, without a branch: where the size is no power of two, as the lesser of two numbers.
+#[inline]
+pub(crate) fn wrapped_branchless(start: usize, k: usize, size: usize) -> usize
+    requires start { start < size }
+    requires count { k ≤ size }
+    ensures { result ≡ (start + k) % size }
+{
+    if is_power_of_two(size) || size > usize::MAX / 2 {
+        return wrapped(start, k, size);
+    }
+    let sum = start + k;
+    // Below the size the difference wraps to a larger number.
+    sum.min(sum.wrapping_sub(size))
+}
+
 /// Returns the place after `len` items that begin at `start`, counted round `size` places. At `len == size` this is
 /// `start`, so no arithmetic is needed.
 #[inline]

@@ -3,7 +3,7 @@ ghost use Rattle.std.specs.Prelude.{◌≡◌, ◌+◌, ◌%◌, ◌<◌, ◌≤
 ghost use Rattle.std.specs.Borrow.{Lends, sem};
 ghost use Rattle.ring_slots.specs.Slots.{HoldsStretch, IsEmptyAt, IsFullAt, IsFullStretch, Passes, Slots, changed, passed_down, passed_up, slot_at};
 
-use crate::place::{wrapped, wrapped_after, wrapped_next};
+use crate::place::{wrapped, wrapped_after, wrapped_branchless, wrapped_next};
 
 /// A row of slots, with a way to count places round it.
 pub trait RingSlots<T>: Sized {
@@ -36,6 +36,16 @@ pub trait RingSlots<T>: Sized {
         ensures { result ≡ (start + k) % length (seen self.now).slots }
     {
         wrapped(start, k, self.size())
+    }
+
+    /// Returns what `place` does, without a branch. Calls that read take fewer steps so, and those that store take more.
+    #[inline]
+    fn place_branchless(&self, start: usize, k: usize) -> usize
+        requires start { start < length (seen self.now).slots }
+        requires count { k ≤ length (seen self.now).slots }
+        ensures { result ≡ (start + k) % length (seen self.now).slots }
+    {
+        wrapped_branchless(start, k, self.size())
     }
 
     /// Returns the place after `len` items that begin at `start`, counted round the slots. It is `start` where they

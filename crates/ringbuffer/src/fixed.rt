@@ -2,6 +2,7 @@
 ghost use Rattle.std.specs.Prelude.{◌≡◌, ◌<◌, ◌↔◌, ◌++◌, IfOk, IfSome, [], length, None, Some, replicate, slice_get};
 ghost use Rattle.std.specs.Borrow.{Lends, sem};
 ghost use Rattle.std.specs.List.{AllZip, list_any};
+ghost use Rattle.std.specs.Option.{option_copied};
 ghost use Rattle.ring_core.specs.Contents.{index_at};
 ghost use Rattle.ringbuffer.specs.View.{View, after_write};
 ghost use Rattle.ringbuffer.specs.Layout.{IsSound, view_from};
@@ -89,7 +90,19 @@ impl<T: Drop, S: RingSlots<T>> FixedRing<T, S> {
         requires { index < length self.now.items }
         ensures { slice_get self.now.items index ≡ Some result.now }
     {
-        self.slots.get(self.slots.place(self.span.start, index))
+        let place = self.slots.place_branchless(self.span.start, index);
+        self.slots.get(place)
+    }
+
+    /// Returns the first item, if there is one. It lies at the start, so no place is counted round.
+    #[inline]
+    pub(crate) fn first(&self) -> Option<&T>
+        ensures { option_copied result ≡ slice_get self.now.items 0 }
+    {
+        if self.span.len == 0 {
+            return None;
+        }
+        Some(self.slots.get(self.span.start))
     }
 
     /// Returns the items in two slices, oldest first, if the slots can show them so.

@@ -53,8 +53,8 @@ impl<T: Drop, S: RingSlots<T>> FixedRing<T, S> {
         if i == j {
             return;
         }
-        let a = self.slots.place(self.span.start, i);
-        let b = self.slots.place(self.span.start, j);
+        let a = self.slots.place_branchless(self.span.start, i);
+        let b = self.slots.place_branchless(self.span.start, j);
         let first = self.slots.take(a);
         let second = mem::replace(self.slots.get_mut(b), first);
         self.slots.put(a, second);

@@ -38,7 +38,7 @@ impl<T: Drop, S: RingSlots<T>> FixedRing<T, S> {
     {
         let mut kept = 0;
         for index in 0..span.len {
-            let place = slots.place(span.start, index);
+            let place = slots.place_branchless(span.start, index);
             if !keep(slots.get(place)) {
                 slots.discard(place);
                 continue;

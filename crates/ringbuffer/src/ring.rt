@@ -189,6 +189,16 @@ impl<T: Drop, S: RingSlots<T>> RingBuffer<T> for FixedRing<T, S> {
     }
 
     #[inline]
+    fn peek(&self) -> Option<&T> {
+        self.first()
+    }
+
+    #[inline]
+    fn front(&self) -> Option<&T> {
+        self.first()
+    }
+
+    #[inline]
     fn get_signed(&self, index: isize) -> Option<&T> {
         let index = signed_index_at(index, self.len())?;
         Some(self.at(index))

@@ -8,20 +8,20 @@ use Rattle.ringbuffer.proofs.fixed.FixedRing.close_up.Goals.{else-kept-index, th
 pub loop-index-init : goal.loop-index-init
 loop-index-init g c = record { callable = c.requires.callable; within = omega arith; closes = closes_none _ _ _ _ c.requires.span.laid_out }
 
-pub place-place-requires-clause-start : goal.place-place-requires-clause-start
-place-place-requires-clause-start g c = rw c.loop-index.invariant.closes.apart.same_size c.requires.span.laid_out.start_within
+pub place_branchless-place-requires-clause-start : goal.place_branchless-place-requires-clause-start
+place_branchless-place-requires-clause-start g c = rw c.loop-index.invariant.closes.apart.same_size c.requires.span.laid_out.start_within
 
-pub place-place-requires-clause-count : goal.place-place-requires-clause-count
-place-place-requires-clause-count g c = let fit = c.requires.span.laid_out.fit in omega (arith, c.loop-index.invariant.closes.apart.same_size, c.requires.span.len)
+pub place_branchless-place-requires-clause-count : goal.place_branchless-place-requires-clause-count
+place_branchless-place-requires-clause-count g c = let fit = c.requires.span.laid_out.fit in omega (arith, c.loop-index.invariant.closes.apart.same_size, c.requires.span.len)
 
 pub get-requires : goal.get-requires
-get-requires g c = full _ _ _ _ c.requires.span.laid_out c.loop-index.invariant.closes (omega (arith, c.requires.span.len)) _ c.place-place.ensures
+get-requires g c = full _ _ _ _ c.requires.span.laid_out c.loop-index.invariant.closes (omega (arith, c.requires.span.len)) _ c.place_branchless-place.ensures
 
 pub loop-index-preserved-then-not-keep : goal.loop-index-preserved-then-not-keep
 loop-index-preserved-then-not-keep g c = record {
   callable = search of_calls;
   within = let within = c.loop-index.invariant.within in omega (arith, within);
-  closes = dropped _ _ _ _ c.requires.span.laid_out c.loop-index.invariant.closes (omega (arith, c.requires.span.len)) _ c.place-place.ensures _ c.get.ensures _ _ (called_at g.F.FnMut c.keep.ensures c.if-not-keep.true) c.discard.ensures;
+  closes = dropped _ _ _ _ c.requires.span.laid_out c.loop-index.invariant.closes (omega (arith, c.requires.span.len)) _ c.place_branchless-place.ensures _ c.get.ensures _ _ (called_at g.F.FnMut c.keep.ensures c.if-not-keep.true) c.discard.ensures;
 }
 
 pub loop-index-preserved : goal.loop-index-preserved
@@ -31,8 +31,8 @@ loop-index-preserved g c =
       callable = search of_calls;
       within = let within = at.within in omega (arith, within);
       closes = elim c.if-kept-index.branch [
-        | then-kept-index w ↦ rw w.slots-is (moved _ _ _ _ laid_out at.closes (omega (arith, c.requires.span.len)) _ c.place-place.ensures _ c.get.ensures w.if-kept-index.true _ _ answer w.move_item.ensures)
-        | else-kept-index w ↦ let within = at.within in rw w.slots-is (stayed _ _ _ _ laid_out at.closes (omega (arith, c.requires.span.len)) _ c.place-place.ensures _ c.get.ensures (omega (arith, within, w.if-kept-index.false)) _ answer)
+        | then-kept-index w ↦ rw w.slots-is (moved _ _ _ _ laid_out at.closes (omega (arith, c.requires.span.len)) _ c.place_branchless-place.ensures _ c.get.ensures w.if-kept-index.true _ _ answer w.move_item.ensures)
+        | else-kept-index w ↦ let within = at.within in rw w.slots-is (stayed _ _ _ _ laid_out at.closes (omega (arith, c.requires.span.len)) _ c.place_branchless-place.ensures _ c.get.ensures (omega (arith, within, w.if-kept-index.false)) _ answer)
       ];
     }
 
