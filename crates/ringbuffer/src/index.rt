@@ -137,9 +137,9 @@ impl<T: Drop, S: RingSlots<T>> FixedRing<T, S> {
         requires empty { slot_after (S.seen slots.old).slots start to ≡ None }
         ensures { Moves (S.seen slots.old) (S.seen slots.new) start from to }
     {
-        let had = slots.place(start, from);
+        let had = slots.place_branchless(start, from);
         let item = slots.take(had);
-        let gets = slots.place(start, to);
+        let gets = slots.place_branchless(start, to);
         slots.put(gets, item);
     }
 

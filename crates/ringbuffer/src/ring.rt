@@ -201,7 +201,7 @@ impl<T: Drop, S: RingSlots<T>> RingBuffer<T> for FixedRing<T, S> {
     #[inline]
     fn get_signed(&self, index: isize) -> Option<&T> {
         let index = signed_index_at(index, self.len())?;
-        Some(self.at(index))
+        Some(self.at_from_end(index))
     }
 
     #[inline]
