@@ -89,7 +89,7 @@ impl<T: Drop, S: RingSlots<T>> FixedRing<T, S> {
         ensures after { LaysOut (S.seen slots.old) (S.seen slots.new) span.start
             (after_pop (view_from (S.seen slots.old) span.start)) }
     {
-        let last = slots.place_branchless(span.start, span.len - 1);
+        let last = slots.place(span.start, span.len - 1);
         slots.take(last)
     }
 
