@@ -4,35 +4,18 @@ use Rattle.ringbuffer.proofs.SlotsHold.{wrap}
 use Rattle.ringbuffer.proofs.LaysOut.{LaysOut-items}
 use Rattle.ringbuffer.proofs.RepeatedSteps.{view_is}
 
-module _ (start size : ℕ) (within : start < size) where
-  -- the place before the start, counted round
-  abbrev pub place_before : ℕ
-  place_before = (start + (size - 1)) % size
-
-  pub before_within : place_before < size
-  before_within = mod-lt (start + (size - 1)) (omega arith)
-
-module _ {X : Type 0} (slots : List (Option X)) (start : ℕ) (within : start < length slots) where
-  -- an item put into the slot before the first
-  pub SlotsHold-put_first : (xs : List X) (x : X) → SlotsHold slots start xs
-      → SlotsHold (set slots (place_before start (length slots) within) (Some x)) (place_before start (length slots) within) (x ∷ xs)
-  SlotsHold-put_first xs x hold k low =
-      let size = length slots in let place = place_before start size within in let placed = before_within start size within in
-      let low' : k < size = rw (length-set slots place (Some x)) at low in let held = hold (k - 1) in
-      let round = wrap place k size placed (omega arith) in let round' = wrap start (size - 1) size within (omega arith) in let round'' = wrap start (k - 1) size within (omega arith) in
-      rw (length-set slots place (Some x)) (elim (dec_lt 0 k) [
-        | yes behind ↦ grind (arith, held, round, round', round'', get_or-set_other, slice_get-drop 1 (k - 1) (x ∷ xs))
-        | no first ↦ let is : k ≡ 0 = omega arith in rw is (grind (arith, round, placed, get_or-set_same))
-      ])
-
 module _ {X : Type 0} (s : Slots X) (start : ℕ) (laid_out : IsLaidOut s start) where
   pub LaysOut-put_first : (new : Slots X) (place : ℕ) (x : X) → length (items_from s.slots start) < length s.slots → place ≡ (start + (length s.slots - 1)) % length s.slots
       → new ≡ changed s place (Some x) → LaysOut s new place (after_put_first (view_from s start) x)
   LaysOut-put_first new place x room found is =
-      let items = items_from s.slots start in let size = length s.slots in let within = laid_out.start_within in
-      rw (is, found)
-      (LaysOut-items s start laid_out (changed s (place_before start size within) (Some x)) (place_before start size within) (x ∷ items) (length-set s.slots _ (Some x)) refl (before_within start size within) (omega arith)
-      (SlotsHold-put_first s.slots start within items x laid_out.layout))
+      let items = items_from s.slots start in let size = length s.slots in let starts = laid_out.start_within in let same_size = length-set s.slots place (Some x) in
+      let placed : place < size = rw found (mod-lt (start + (size - 1)) (omega arith)) in let before = wrap start (size - 1) size starts (omega arith) in
+      rw is (LaysOut-items s start laid_out (changed s place (Some x)) place (x ∷ items) same_size refl placed (omega arith) (λ k within.
+      let low : k < size = rw same_size at within in let round = wrap place k size placed (omega arith) in let next = wrap start (k - 1) size starts (omega arith) in
+      rw same_size (elim (dec_lt 0 k) [
+        | yes behind ↦ grind (arith, laid_out.layout (k - 1), found, before, round, next, get_or-set_other, slice_get-drop 1 (k - 1) (x ∷ items))
+        | no first ↦ let is : k ≡ 0 = omega arith in rw is (grind (arith, round, placed, get_or-set_same))
+      ])))
 
   -- there is room once the last item is taken
   pub room_left : (new : Slots X) → LaysOut s new start (after_pop (view_from s start)) → 0 < length (items_from s.slots start) → length (items_from new.slots start) < length new.slots
@@ -45,7 +28,3 @@ module _ {X : Type 0} (capacity : ℕ) (v : View X) (x : X) where
   pub after_push_front-full : length v.items ≡ capacity → 0 < capacity → after_put_first (after_pop v) x ≡ after_push_front capacity v x
   after_push_front-full full some =
       let more : capacity ≡ suc (length v.items - 1) = omega arith in view_is (rw more refl) (omega arith) refl
-
-  -- and where there is some
-  pub after_push_front-room : length v.items < capacity → after_put_first v x ≡ after_push_front capacity v x
-  after_push_front-room room = view_is (sym (take_all capacity (x ∷ v.items) (omega arith))) (omega arith) refl

@@ -41,11 +41,3 @@ module _ {X : Type 0} where
       let xs = v.items in let ys = rotated (length xs - n) xs in let long = length-rotated (length xs - n) xs (omega arith) in
       let past : length xs - n + (length xs - 1) - length xs ≡ length xs - (n + 1) = omega arith in let least : length ys - 1 ≡ length xs - 1 = omega arith in
       view_is (rw least (ap (λ l. l ++ take (length xs - 1) ys) (sym (ends_with (length xs - 1) ys x (omega arith) last)) ∙ rw past at (rotated_past (length xs - n) (length xs - 1) xs x (omega arith) (omega arith) (omega arith)))) (omega arith) refl
-
-module _ {X : Type 0} (i : ℕ) (v : View X) where
-  -- a rotation turns the shorter way
-  pub after_rotate-left : i ≤ length v.items - i → after_firsts_to_back i v ≡ after_rotate i v
-  after_rotate-left few = view_is refl (omega arith) refl
-
-  pub after_rotate-right : length v.items - i ≤ i → i ≤ length v.items → after_lasts_to_front (length v.items - i) v ≡ after_rotate i v
-  after_rotate-right few low = view_is (ap (λ n. rotated n v.items) {y = i} (omega arith)) (omega arith) refl
