@@ -55,15 +55,13 @@ module _ {X : Type 0} (s new : Slots X) (start : ℕ) (laid_out : IsLaidOut s st
   abbrev v : View X
   v = view_from s start
 
-  fits : length (after_cut from to 0 v).items + (to - from) ≤ length s.slots
-  fits = let fit = laid_out.fit in omega (arith, cut_fits from to 0 v order within)
-
   pub LaysOut-takes : from ≡ 0 → LaysOut s new ((start + to) % length s.slots) (after_takes to v)
   LaysOut-takes none =
-      let whole : to - from ≡ to = omega arith in
-      rw whole at (subst (LaysOut s new ((start + (to - from)) % length s.slots)) (view_is {w = after_takes to v} (ap (λ n. take n v.items ++ drop to v.items) none) (omega arith) refl) (all_behind apart laid_out fits refl none))
+      let whole : to - from ≡ to = omega arith in let (left, fit) = cut_fits laid_out refl from to order within 0 in
+      rw whole at (subst (LaysOut s new ((start + (to - from)) % length s.slots)) (view_is {w = after_takes to v} (ap (λ n. take n v.items ++ drop to v.items) none) (omega arith) refl) (all_behind apart laid_out (omega (arith, left, fit)) refl none))
 
   pub LaysOut-truncate : to ≡ length v.items → LaysOut s new start (after_truncate from v)
   LaysOut-truncate all =
+      let (left, fit) = cut_fits laid_out refl from to order within 0 in
       subst (LaysOut s new start) (view_is {w = after_truncate from v} (rw (all, drop-length) (append-nil (take from v.items))) (omega arith) refl)
-      (all_before apart laid_out fits refl (omega (arith, cut_fits from to 0 v order within)))
+      (all_before apart laid_out (omega (arith, left, fit)) refl (omega (arith, left, all)))

@@ -1,5 +1,5 @@
 -- Items with a gap between them, which is closed item by item.
-use Rattle.ringbuffer.proofs.Words.{after_cut, common_steps, subst, ◌≡◌, ◌≢◌, ℕ, ◌+◌, ◌-◌, ◌%◌, ◌<◌, ◌≤◌, ◌⊎◌, List, length, Option, None, Some, refl, sym, ap, ◌∙◌, arith, get_or, get_or-set_other, get_or-set_same, if◌then◌else◌, length-set, mod-lt, nat_lt, set, slice_get, slice_get_cases, slice_get_past, add-mod_right, dec_lt, mod-eq_of_lt, slot_after, nat_eq, IsSome, Slots, IsEmptyAt, changed, slot_at, Moves, View, IsLaidOut, LaysApart, LaysOut}
+use Rattle.ringbuffer.proofs.Words.{after_cut, common_steps, items_from, subst, view_from, ◌≡◌, ◌≢◌, ℕ, ◌+◌, ◌-◌, ◌%◌, ◌<◌, ◌≤◌, ◌⊎◌, List, length, Option, None, Some, refl, sym, ap, ◌∙◌, arith, get_or, get_or-set_other, get_or-set_same, if◌then◌else◌, length-set, mod-lt, nat_lt, set, slice_get, slice_get_cases, slice_get_past, add-mod_right, dec_lt, mod-eq_of_lt, slot_after, nat_eq, IsSome, Slots, IsEmptyAt, changed, slot_at, Moves, View, IsLaidOut, LaysApart, LaysOut}
 use Rattle.std.proofs.lemmas.Bool.Decides.{nat_tests}
 use Rattle.ringbuffer.proofs.LaysOut.{LaysOut-items}
 use Rattle.ringbuffer.proofs.RepeatedSteps.{view_is}
@@ -46,8 +46,9 @@ GoesOver index gap from to next = ((from + gap ≡ to) × (from + 1 ≡ index) �
 
 module _ {X : Type 0} where
   -- what a cut leaves, and the gap, are as many as there were
-  pub cut_fits : (from to moved : ℕ) (v : View X) → from ≤ to → to ≤ length v.items → length (after_cut from to moved v).items + (to - from) ≡ length v.items
-  cut_fits from to moved v order within = grind (arith, common_steps)
+  pub cut_fits : {s : Slots X} {start len : ℕ} → IsLaidOut s start → len ≡ length (items_from s.slots start) → (from to : ℕ) → from ≤ to → to ≤ len → (moved : ℕ)
+      → (length (after_cut from to moved (view_from s start)).items + (to - from) ≡ len) × (len ≤ length s.slots)
+  cut_fits laid_out counted from to order within moved = let fit = laid_out.fit in (grind (arith, common_steps), omega arith)
 
   -- what lies k places after the start where these items do, with a gap before the one at an index
   abbrev pub apart_at : List X → (index gap k : ℕ) → Option X
@@ -69,15 +70,17 @@ module _ {X : Type 0} where
     reads k low = let same = apart.same_size in grind (arith, nat_tests, apart.before k, apart.emptied k, apart.behind k)
 
     -- it is there, and where it goes is empty
-    pub may_move : (from to next : ℕ) → 0 < gap → from < length s.slots → to < length s.slots → GoesOver index gap from to next → next ≤ length v.items → index ≤ length v.items → IsSome (slot_after a.slots start from) × (slot_after a.slots start to ≡ None)
-    may_move from to next some low low' over fit fit' = (grind (arith, nat_tests, over, reads from low, slice_get_cases), grind (arith, nat_tests, over, reads to low'))
+    module _ (fit : length v.items + gap ≤ length s.slots) (some : 0 < gap) (from to next : ℕ) (over : GoesOver index gap from to next) (low : index ≤ length v.items) (low' : next ≤ length v.items) where
+      pub may_move : (from < length a.slots) × (to < length a.slots) × IsSome (slot_after a.slots start from) × (slot_after a.slots start to ≡ None)
+      may_move =
+          let same = apart.same_size in
+          (grind (arith, over), grind (arith, over), grind (arith, nat_tests, over, reads from, slice_get_cases), grind (arith, nat_tests, over, reads to))
 
-    pub moved : (from to next : ℕ) → 0 < gap → from < length s.slots → to < length s.slots → GoesOver index gap from to next
-        → (b : Slots X) (w : View X) → Moves a b start from to → v.items ≡ w.items → v.changes + 2 ≡ w.changes → LaysApart s b start next gap w
-    moved from to next some low low' over b w m same_items two =
-        let same = m.same_size ∙ apart.same_size in
-        lays_apart same (m.same_capacity ∙ apart.same_capacity) (omega (arith, m.counted, apart.counted)) (grind (arith, over)) (λ k here.
-        grind (arith, nat_tests, same, over, m.moved, m.left, m.others k, reads k here, reads from low))
+      pub moved : (b : Slots X) (w : View X) → Moves a b start from to → v.items ≡ w.items → v.changes + 2 ≡ w.changes → LaysApart s b start next gap w
+      moved b w m same_items two =
+          let same = m.same_size ∙ apart.same_size in
+          lays_apart same (m.same_capacity ∙ apart.same_capacity) (omega (arith, m.counted, apart.counted)) (grind (arith, over)) (λ k here.
+          grind (arith, nat_tests, same, over, m.moved, m.left, m.others k, reads k here, reads from))
 
     -- with all items on one side there is no gap between them
     module _ (laid_out : IsLaidOut s start) (fit : length v.items + gap ≤ length s.slots) (same_capacity : v.capacity ≡ s.capacity) where
