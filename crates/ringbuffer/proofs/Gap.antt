@@ -76,8 +76,8 @@ module _ {X : Type 0} where
           let same = apart.same_size in
           (grind (arith, over), grind (arith, over), grind (arith, nat_tests, over, reads from, slice_get_cases), grind (arith, nat_tests, over, reads to))
 
-      pub moved : (b : Slots X) (w : View X) → Moves a b start from to → v.items ≡ w.items → v.changes + 2 ≡ w.changes → LaysApart s b start next gap w
-      moved b w m same_items two =
+      pub goes_over : (b : Slots X) (w : View X) → Moves a b start from to → v.items ≡ w.items → v.changes + 2 ≡ w.changes → LaysApart s b start next gap w
+      goes_over b w m same_items two =
           let same = m.same_size ∙ apart.same_size in
           lays_apart same (m.same_capacity ∙ apart.same_capacity) (omega (arith, m.counted, apart.counted)) (grind (arith, over)) (λ k here.
           grind (arith, nat_tests, same, over, m.moved, m.left, m.others k, reads k here, reads from))
