@@ -7,7 +7,6 @@ pub mod FromSource
 pub mod Gap
 pub mod KeptItems
 pub mod LaysOut
-pub mod LentItem
 pub mod MadeContiguous
 pub mod Ordered
 pub mod Paired
