@@ -1,8 +1,8 @@
 -- Items that lie side by side in the slots of a ring.
-use Rattle.ringbuffer.proofs.Words.{◌≡◌, ℕ, ◌+◌, ◌-◌, ◌<◌, ◌≤◌, List, ◌++◌, length, map, take, drop, Option, None, Some, inl, inr, refl, sym, ap, ◌∙◌, arith, length-append, length-drop, append_assoc, map-append, min, take_all, take-append-drop, rotated, ◌%◌, IsFullStretch, IsLaidOut, replicate, nat_le, if◌then◌else◌, length_refill, refill, common_steps, drop-drop, drop-map, get_or_append_left, get_or-append_right, get_or-replicate, get_or_past, length-map, length-replicate, take-map, slice_get_cases, slice_get_past, Slots, HoldsStretch, refilled, after_rewrite, SlotsHold, items_from, LaysOut, view_from, IsSound, beside, contiguous_start, made_contiguous}
+use Rattle.ringbuffer.proofs.Words.{◌≡◌, ℕ, ◌*◌, ◌+◌, ◌-◌, ◌<◌, ◌≤◌, List, ◌++◌, length, map, take, drop, Option, None, Some, inl, inr, refl, sym, ap, ◌∙◌, arith, length-append, length-drop, append_assoc, map-append, min, take_all, take-append-drop, rotated, ◌%◌, IsFullStretch, IsLaidOut, replicate, nat_le, if◌then◌else◌, length_refill, refill, common_steps, drop-drop, drop-map, get_or_append_left, get_or-append_right, get_or-replicate, get_or_past, length-map, length-replicate, take-map, slice_get_cases, slice_get_past, Slots, HoldsStretch, refilled, after_rewrite, SlotsHold, items_from, LaysOut, view_from, IsSound, beside, contiguous_start}
 use Rattle.ringbuffer.proofs.Sound.{IsSound-after}
 use Rattle.ringbuffer.proofs.LaysOut.{LaysOut-items}
-use Rattle.ring_slots.specs.Slots.{IsEmptyStretch, brought_first, moved_down}
+use Rattle.ring_slots.specs.Slots.{IsEmptyStretch, brought_first, moved_down, with_refilled}
 use Rattle.ring_slots.proofs.Filled.{get_or-map_some}
 use Rattle.ringbuffer.proofs.Copies.{empty_behind}
 use Rattle.ringbuffer.proofs.Rotations.{length-rotated}
@@ -78,7 +78,7 @@ module _ {X : Type 0} (s : Slots X) (start : ℕ) (laid_out : IsLaidOut s start)
       let fit = laid_out.fit in let size = length s.slots in
       let long : length (rotated first items) ≡ len = length-rotated first items (omega arith) ∙ sym counted in
       let left : start - (len - first) ≡ size - (0 + length (rotated first items)) = omega arith in
-      rw (low, high, left) (sym (append_assoc (map Some (drop first items)) (map Some (take first items)) _) ∙ ap (λ l. l ++ replicate (size - (0 + length (rotated first items))) None) (sym (map-append Some (drop first items) (take first items))))
+      rw (low, high, left, ← append_assoc, ← map-append) refl
 
   -- the others are full slots, too
   pub first_full : IsFullStretch s.slots 0 (len - first)
@@ -89,25 +89,27 @@ module _ {X : Type 0} (s : Slots X) (start : ℕ) (laid_out : IsLaidOut s start)
   brought_contiguous room =
       let fit = laid_out.fit in let size = length s.slots in
       let left : start - (len - first) ≡ size - (0 + length items) = omega arith in
-      rw (low, high, left) (sym (append_assoc (map Some (take first items)) (map Some (drop first items)) _) ∙ ap (λ l. l ++ replicate (size - (0 + length items)) None) (sym (map-append Some (take first items) (drop first items)) ∙ ap (λ l. map Some l) (take-append-drop first items)))
+      rw (low, high, left, ← append_assoc, ← map-append, take-append-drop) refl
 
 -- the items begin with one of the slots, and end with the last at most
 pub contiguous_fits : (start len size : ℕ) → start < size → len ≤ size → let at = if nat_le (start + len) size then start else 0 in (at < size) × (at + len ≤ size)
 contiguous_fits start len size within low = (grind (arith, common_steps), grind (arith, common_steps))
 
--- a ring whose items were written side by side shows them
-module _ {X : Type 0} {limit : ℕ → ℕ} (s : Slots X) (start len : ℕ) (sound : IsSound limit s start len) (ys : List X) where
-  abbrev pub next : ℕ
-  next = contiguous_start (length s.slots) start len
+-- a ring whose items were moved side by side holds them there, and shows those that are written in their place
+module _ {X : Type 0} {limit : ℕ → ℕ} {s : Slots X} (mid : Slots X) {start len next : ℕ} (sound : IsSound limit s start len) (starts : next ≡ contiguous_start (length s.slots) start len)
+    (lie : mid.slots ≡ beside (length s.slots) next (items_from s.slots start)) (same_capacity : mid.capacity ≡ s.capacity) where
+  fits : (next < length s.slots) × (next + length (items_from s.slots start) ≤ length s.slots)
+  fits = let enough = sound.laid_out.fit in rw (starts, ← sound.counted) (contiguous_fits start len (length s.slots) sound.laid_out.start_within (omega (arith, sound.counted)))
 
-  pub rewritten : LaysOut s (made_contiguous s start len ys) next (after_rewrite (view_from s start) ys)
-  rewritten =
-      let size = length s.slots in let enough = sound.laid_out.fit in
-      let shown = refill len (items_from s.slots start) ys in let long = length_refill len (items_from s.slots start) ys sound.counted in
-      let (within, ends) = contiguous_fits start len size sound.laid_out.start_within (omega (arith, sound.counted)) in let fit : next + length shown ≤ size = omega (arith, long, ends) in
-      rw (sym sound.counted) (LaysOut-items s start sound.laid_out (made_contiguous s start len ys) next shown (length-beside size next shown fit) refl within (omega arith) (SlotsHold-beside size next shown fit within))
+  pub held_beside : HoldsStretch mid.slots next len (items_from s.slots start)
+  held_beside = rw (lie, sound.counted) (beside-stretch (length s.slots) next (items_from s.slots start) fits.1)
 
-  pub rewritten_sound : IsSound limit (made_contiguous s start len ys) next len
-  rewritten_sound =
-      let items = items_from s.slots start in
-      IsSound-after sound rewritten (sound.counted ∙ length_refill (length items) items ys refl) sound.within
+  pub rewritten : (changes : ℕ) → changes ≡ s.changes + 4 * len → (ys : List X)
+      → IsSound limit (with_refilled mid next len changes ys) next len × (view_from (with_refilled mid next len changes ys) next ≡ after_rewrite (view_from s start) ys)
+  rewritten changes counted ys =
+      let size = length s.slots in let items = items_from s.slots start in let shown = refill (length items) items ys in let long = length_refill (length items) items ys refl in
+      let fit : next + length shown ≤ size = omega (arith, long, fits.1) in
+      let after : LaysOut s (with_refilled mid next len changes ys) next (after_rewrite (view_from s start) ys) =
+      rw (lie, counted, sound.counted, same_capacity, beside-refilled size next items fits.1 ys)
+      (LaysOut-items s start sound.laid_out (record s { slots = beside size next shown; changes = s.changes + 4 * length items }) next shown (length-beside size next shown fit) refl fits.0 (omega arith) (SlotsHold-beside size next shown fit fits.0)) in
+      (IsSound-after sound after (sound.counted ∙ long) sound.within, after.shows)
