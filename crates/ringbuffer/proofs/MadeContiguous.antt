@@ -47,49 +47,40 @@ module _ {X : Type 0} (size start : ℕ) (xs : List X) (fit : start + length xs 
 pub contiguous_is : {X : Type 0} (slots : List (Option X)) (start : ℕ) (xs : List X) → start < length slots → start + length xs ≤ length slots → SlotsHold slots start xs → slots ≡ beside (length slots) start xs
 contiguous_is slots start xs within fit lie = SlotsHold-same slots start within (beside (length slots) start xs) xs lie (SlotsHold-beside (length slots) start xs fit within) (length-beside (length slots) start xs fit)
 
--- a ring whose items go on at the first slot, of which those in the last slots are moved down after the others
-module _ {X : Type 0} (s : Slots X) (start : ℕ) (laid_out : IsLaidOut s start) (len first : ℕ) (counted : len ≡ length (items_from s.slots start)) (ends : first + start ≡ length s.slots) (more : first < len) where
-  abbrev items : List X
-  items = items_from s.slots start
-
+-- a ring whose items go on at the first slot, of which those in the last slots are moved down after the others, or brought before them
+module _ {X : Type 0} {s : Slots X} {start len first : ℕ} (laid_out : IsLaidOut s start) (counted : len ≡ length (items_from s.slots start)) (more : first < len) (ends : first + start ≡ length s.slots) where
   least : first ≡ min len (length s.slots - start)
   least = omega arith
 
-  -- what moves are full slots
-  pub last_full : IsFullStretch s.slots start (length s.slots - start)
-  last_full = let count : length s.slots - start ≡ first = omega arith in rw count (first_stretch s start laid_out len first counted least)
+  -- both are stretches of full slots, and those between are empty
+  pub stretches : IsFullStretch s.slots start (length s.slots - start) × IsFullStretch s.slots 0 (len - first) × IsEmptyStretch s.slots (len - first) (start - (len - first))
+  stretches =
+      let fit = laid_out.fit in let size = length s.slots in let count : size - start ≡ first = omega arith in
+      let found : len - first ≡ (start + len) % size = elim (wrap start len size laid_out.start_within (omega arith)) [ inl a ↦ let none = a.0 in absurd (omega arith) | inr a ↦ sym (a.1 ∙ omega arith) ] in (
+        rw count (first_stretch s start laid_out len first counted least),
+        second_stretch s start laid_out len first counted least,
+        (omega arith, empty_behind s start laid_out (len - first) len (start - (len - first)) counted (λ _. found) (omega arith) (omega arith)),
+      )
 
-  -- and where they go is empty
-  pub between_empty : IsEmptyStretch s.slots (len - first) (start - (len - first))
-  between_empty =
-      let fit = laid_out.fit in let size = length s.slots in
-      let found : len - first ≡ (start + len) % size = elim (wrap start len size laid_out.start_within (omega arith)) [ inl a ↦ let none = a.0 in absurd (omega arith) | inr a ↦ sym (a.1 ∙ omega arith) ] in
-      (omega arith, empty_behind s start laid_out (len - first) len (start - (len - first)) counted (λ _. found) (omega arith) (omega arith))
+  -- what they hold
+  held : (take (len - first) s.slots ≡ map Some (drop first (items_from s.slots start))) × (drop start s.slots ≡ map Some (take first (items_from s.slots start)))
+  held = (
+    second_held s start laid_out len first counted least,
+    sym (take_all first (drop start s.slots) (omega (arith, length-drop start s.slots))) ∙ first_held s start laid_out len first counted least,
+  )
 
-  -- what the first slots hold, and the last ones
-  low : take (len - first) s.slots ≡ map Some (drop first items)
-  low = second_held s start laid_out len first counted least
-
-  high : drop start s.slots ≡ map Some (take first items)
-  high = sym (take_all first (drop start s.slots) (omega (arith, length-drop start s.slots))) ∙ first_held s start laid_out len first counted least
-
-  pub moved_down_contiguous : moved_down s.slots start (len - first) ≡ beside (length s.slots) 0 (rotated first items)
+  pub moved_down_contiguous : moved_down s.slots start (len - first) ≡ beside (length s.slots) 0 (rotated first (items_from s.slots start))
   moved_down_contiguous =
-      let fit = laid_out.fit in let size = length s.slots in
+      let fit = laid_out.fit in let size = length s.slots in let items = items_from s.slots start in
       let long : length (rotated first items) ≡ len = length-rotated first items (omega arith) ∙ sym counted in
       let left : start - (len - first) ≡ size - (0 + length (rotated first items)) = omega arith in
-      rw (low, high, left, ← append_assoc, ← map-append) refl
+      rw (held.0, held.1, left, ← append_assoc (map Some (drop first items)), ← map-append) refl
 
-  -- the others are full slots, too
-  pub first_full : IsFullStretch s.slots 0 (len - first)
-  first_full = second_stretch s start laid_out len first counted least
-
-  -- where there is room for all between, they lie side by side once those in the last slots are brought to the first
-  pub brought_contiguous : len ≤ start → brought_first s.slots start (len - first) ≡ beside (length s.slots) 0 items
+  pub brought_contiguous : len ≤ start → brought_first s.slots start (len - first) ≡ beside (length s.slots) 0 (items_from s.slots start)
   brought_contiguous room =
-      let fit = laid_out.fit in let size = length s.slots in
+      let fit = laid_out.fit in let size = length s.slots in let items = items_from s.slots start in
       let left : start - (len - first) ≡ size - (0 + length items) = omega arith in
-      rw (low, high, left, ← append_assoc, ← map-append, take-append-drop) refl
+      rw (held.0, held.1, left, ← append_assoc (map Some (take first items)), ← map-append, take-append-drop) refl
 
 -- the items begin with one of the slots, and end with the last at most
 pub contiguous_fits : (start len size : ℕ) → start < size → len ≤ size → let at = if nat_le (start + len) size then start else 0 in (at < size) × (at + len ≤ size)
