@@ -40,7 +40,7 @@ module _ {X : Type 0} (s : Slots X) (start i j from to : ℕ) (starts : start < 
         others = λ k low away away'. grind (arith, nat_tests, same, read k, read_mid k, away, away');
       }
 
--- an item goes over the gap before an index: the last one before it, or the first after it. The gap lies before the next index then
+-- an item goes over the gap before an index: the last one before it, or the first after it
 abbrev pub GoesOver : (index gap from to next : ℕ) → Type 0
 GoesOver index gap from to next = ((from + gap ≡ to) × (from + 1 ≡ index) × (next ≡ from)) ⊎ ((to + gap ≡ from) × (to ≡ index) × (next ≡ to + 1))
 
@@ -69,18 +69,13 @@ module _ {X : Type 0} where
     pub reads : (k : ℕ) → k < length s.slots → slot_after a.slots start k ≡ apart_at v.items index gap k
     reads k low = let same = apart.same_size in grind (arith, nat_tests, apart.before k, apart.emptied k, apart.behind k)
 
-    -- it is there, and where it goes is empty
-    module _ (fit : length v.items + gap ≤ length s.slots) (some : 0 < gap) (from to next : ℕ) (over : GoesOver index gap from to next) (low : index ≤ length v.items) (low' : next ≤ length v.items) where
-      pub may_move : (from < length a.slots) × (to < length a.slots) × IsSome (slot_after a.slots start from) × (slot_after a.slots start to ≡ None)
-      may_move =
-          let same = apart.same_size in
-          (grind (arith, over), grind (arith, over), grind (arith, nat_tests, over, reads from, slice_get_cases), grind (arith, nat_tests, over, reads to))
-
-      pub goes_over : (b : Slots X) (w : View X) → Moves a b start from to → v.items ≡ w.items → v.changes + 2 ≡ w.changes → LaysApart s b start next gap w
-      goes_over b w m same_items two =
-          let same = m.same_size ∙ apart.same_size in
-          lays_apart same (m.same_capacity ∙ apart.same_capacity) (omega (arith, m.counted, apart.counted)) (grind (arith, over)) (λ k here.
-          grind (arith, nat_tests, same, over, m.moved, m.left, m.others k, reads k here, reads from))
+    -- once an item has gone over it, the gap lies before the next index
+    pub goes_over : length v.items + gap ≤ length s.slots → 0 < gap → (from to next : ℕ) → GoesOver index gap from to next → index ≤ length v.items → next ≤ length v.items
+        → (b : Slots X) (w : View X) → Moves a b start from to → v.items ≡ w.items → v.changes + 2 ≡ w.changes → LaysApart s b start next gap w
+    goes_over fit some from to next over low low' b w m same_items two =
+        let same = m.same_size ∙ apart.same_size in
+        lays_apart same (m.same_capacity ∙ apart.same_capacity) (omega (arith, m.counted, apart.counted)) (grind (arith, over)) (λ k here.
+        grind (arith, nat_tests, same, over, m.moved, m.left, m.others k, reads k here, reads from))
 
     -- with all items on one side there is no gap between them
     module _ (laid_out : IsLaidOut s start) (fit : length v.items + gap ≤ length s.slots) (same_capacity : v.capacity ≡ s.capacity) where

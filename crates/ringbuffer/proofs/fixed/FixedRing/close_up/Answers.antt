@@ -8,12 +8,6 @@ use Rattle.ringbuffer.proofs.fixed.FixedRing.close_up.Goals.{else-kept-index, th
 pub loop-index-init : goal.loop-index-init
 loop-index-init g c = record { callable = c.requires.callable; within = omega arith; closes = closes_none _ _ _ _ c.requires.span.laid_out }
 
-pub place-place-requires-clause-start : goal.place-place-requires-clause-start
-place-place-requires-clause-start g c = rw c.loop-index.invariant.closes.apart.same_size c.requires.span.laid_out.start_within
-
-pub place-place-requires-clause-count : goal.place-place-requires-clause-count
-place-place-requires-clause-count g c = let fit = c.requires.span.laid_out.fit in omega (arith, c.loop-index.invariant.closes.apart.same_size, c.requires.span.len)
-
 pub get-requires : goal.get-requires
 get-requires g c = full _ _ _ _ c.requires.span.laid_out c.loop-index.invariant.closes (omega (arith, c.requires.span.len)) _ c.place-place.ensures
 

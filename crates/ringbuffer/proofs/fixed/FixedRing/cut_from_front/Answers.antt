@@ -1,16 +1,6 @@
 use Rattle.ringbuffer.proofs.Words.{arith, inl, refl, view_from, ◌-◌, ◌≡◌}
-use Rattle.ringbuffer.proofs.Gap.{all_behind, cut_fits, goes_over, may_move}
+use Rattle.ringbuffer.proofs.Gap.{all_behind, cut_fits, goes_over}
 use Rattle.ringbuffer.proofs.fixed.FixedRing.cut_from_front.Goals as goal
-
-pub loop-moved-init : goal.loop-moved-init
-loop-moved-init g c = let same : c.args.from - 0 ≡ c.args.from = omega arith in rw same c.drop_items.ensures.apart
-
--- The next item lies before the gap, whose last slot is empty.
-pub move_item-requires : goal.move_item-requires
-move_item-requires g c =
-    let r = c.requires in let n = c.loop-moved.moved in let (left, fit) = cut_fits r.span.laid_out r.span.len c.args.from c.args.to (omega arith) r.within n in
-    let (from, to, full, empty) = may_move c.loop-moved.invariant (omega (arith, left, fit)) (omega arith) _ _ _ (inl (refl, omega (arith, c.loop-moved-test.true), refl)) (omega (arith, left, r.within)) (omega (arith, left, r.within)) in
-    record { start = rw c.loop-moved.invariant.same_size r.span.laid_out.start_within; from = from; to = to; full = full; empty = empty }
 
 -- One more item is on the other side.
 pub loop-moved-preserved : goal.loop-moved-preserved

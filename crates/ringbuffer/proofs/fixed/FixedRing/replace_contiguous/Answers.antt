@@ -22,10 +22,10 @@ loop-k-preserved g c =
     c.put.ensures ∙ ap (λ v. changed v place (Some x)) (c.discard.ensures ∙ ap (λ v. changed v place None) c.loop-k.invariant)
     ∙ (λ i. record { slots = (set-set (filled s.slots start (take k items)) place None (Some x) ∙ next) i; changes = counted i; capacity = s.capacity })
 
-pub returns : goal.returns
-returns g c =
+pub returns-clause-after : goal.returns-clause-after
+returns-clause-after g c =
     let s = g.S.RingSlots.seen c.args.slots.now in let items = c.args.items.now in
     let all : c.loop-k.k ≡ length items = omega (arith, c.loop-k-test.false, c.loop-k.auto) in
     let same = rw (all, take_all (length items) items (omega arith)) at c.loop-k.invariant in
     let found = c.place.ensures ∙ ap (λ (v : Slots _). (c.args.span.start + length items) % length v.slots) same ∙ ap (λ m. (c.args.span.start + length items) % m) (length-filled s.slots c.args.span.start items c.requires.contiguous) in
-    record { start = found; after = LaysOut-replaced s c.args.span.start c.requires.span.laid_out items (rw c.requires.span.len at c.requires.full) c.requires.contiguous (g.S.RingSlots.seen c.loop-k.slots) c.place.result found same }
+    LaysOut-replaced s c.args.span.start c.requires.span.laid_out items (rw c.requires.span.len at c.requires.full) c.requires.contiguous (g.S.RingSlots.seen c.loop-k.slots) c.place.result found same
