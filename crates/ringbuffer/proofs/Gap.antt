@@ -1,5 +1,5 @@
 -- Items with a gap between them, which is closed item by item.
-use Rattle.ringbuffer.proofs.Words.{after_cut, common_steps, items_from, subst, view_from, ◌≡◌, ◌≢◌, ℕ, ◌+◌, ◌-◌, ◌%◌, ◌<◌, ◌≤◌, ◌⊎◌, List, length, Option, None, Some, refl, sym, ap, ◌∙◌, arith, get_or, get_or-set_other, get_or-set_same, if◌then◌else◌, length-set, mod-lt, nat_lt, set, slice_get, slice_get_cases, slice_get_past, add-mod_right, dec_lt, mod-eq_of_lt, slot_after, nat_eq, IsSome, Slots, IsEmptyAt, changed, slot_at, Moves, View, IsLaidOut, LaysApart, LaysOut}
+use Rattle.ringbuffer.proofs.Words.{after_cut, common_steps, items_from, subst, view_from, ◌≡◌, ◌≢◌, ℕ, ◌+◌, ◌-◌, ◌%◌, ◌<◌, ◌≤◌, ◌⊎◌, List, length, Option, None, Some, refl, sym, ap, ◌∙◌, arith, get_or, get_or-set_other, get_or-set_same, if◌then◌else◌, length-set, mod-lt, nat_lt, set, slice_get, slice_get_cases, slice_get_past, add-mod_right, dec_lt, mod-eq_of_lt, slot_after, nat_eq, IsSome, Slots, changed, slot_at, Moves, View, IsLaidOut, LaysApart, LaysOut}
 use Rattle.std.proofs.lemmas.Bool.Decides.{nat_tests}
 use Rattle.ringbuffer.proofs.LaysOut.{LaysOut-items}
 use Rattle.ringbuffer.proofs.RepeatedSteps.{view_is}
@@ -20,11 +20,6 @@ module _ {X : Type 0} (s : Slots X) (start i j from to : ℕ) (starts : start < 
 
   read_mid : (k : ℕ) → k < length s.slots → slot_after mid.slots start k ≡ (if nat_eq k i then None else slot_after s.slots start k)
   read_mid k here = rw (taken, found) (read_set s.slots start i k None starts i_low here)
-
-  pub empty_there : IsEmptyAt mid to
-  empty_there =
-      let still : slot_after mid.slots start j ≡ None = read_mid j j_low ∙ grind (arith, nat_tests, empty) in
-      rw (found', ← same_mid) (rw same_mid (mod-lt (start + j) (omega arith)), still)
 
   pub moves : (new : Slots X) (x : X) → slot_at s from ≡ Some x → new ≡ changed mid to (Some x) → Moves s new start i j
   moves new x was put =

@@ -1,5 +1,5 @@
 -- What the inner steps of a ring do to what it shows.
-use Rattle.ringbuffer.proofs.Words.{◌≡◌, ◌≢◌, ℕ, suc, ◌+◌, ◌-◌, ◌%◌, ◌<◌, ◌≤◌, List, [], ◌∷◌, ◌++◌, drop, length, take, Option, None, Some, refl, sym, ap, ◌∙◌, arith, get_or, get_or-set_other, get_or-set_same, replicate, length-set, slice_get-drop, length-append, slice_get, min, IsSome, set, mod-eq_of_lt, mod-lt, common_steps, get_or-replicate, length-drop, length-replicate, length-take, slice_get_cases, slice_get_past, Slots, slot_at, IsEmptyAt, IsFullAt, changed, View, after_pop, after_put, after_take, after_write, SlotsHold, items_from, view_from, IsLaidOut, LaysOut}
+use Rattle.ringbuffer.proofs.Words.{◌≡◌, ◌≢◌, ℕ, suc, ◌+◌, ◌-◌, ◌%◌, ◌<◌, ◌≤◌, List, [], ◌∷◌, ◌++◌, drop, length, take, Option, None, Some, refl, sym, ap, ◌∙◌, arith, get_or, get_or-set_other, get_or-set_same, replicate, length-set, slice_get-drop, length-append, slice_get, min, IsSome, set, mod-eq_of_lt, mod-lt, common_steps, get_or-replicate, length-drop, length-replicate, length-take, slice_get_cases, slice_get_past, Slots, slot_at, IsEmptyAt, IsFullAt, changed, View, after_pop, after_put, after_take, after_write, SlotsHold, items_from, view_from, IsLaidOut, IsSound, LaysOut, after_put_first, dec_lt}
 use Rattle.ringbuffer.proofs.RepeatedSteps.{view_is}
 use Rattle.ringbuffer.proofs.SlotsHold.{items_from-SlotsHold, SlotsHold-same, count_on, same_count, wrap}
 
@@ -82,6 +82,19 @@ module _ {X : Type 0} (s : Slots X) (start : ℕ) (laid_out : IsLaidOut s start)
       let low : k < size = rw same_size at within in
       rw (same_size, count_on start 1 k (suc k) size (omega arith)) (grind (arith, laid_out.layout (suc k), wrap start (suc k) size starts low, get_or-set_other, get_or-set_same, slice_get-drop 1 k items, slice_get_past))))
 
+  -- an item is put into the slot before the first
+  pub LaysOut-put_first : (new : Slots X) (place : ℕ) (x : X) → length (items_from s.slots start) < length s.slots → place ≡ (start + (length s.slots - 1)) % length s.slots
+      → new ≡ changed s place (Some x) → LaysOut s new place (after_put_first (view_from s start) x)
+  LaysOut-put_first new place x room found is =
+      let items = items_from s.slots start in let size = length s.slots in let starts = laid_out.start_within in let same_size = length-set s.slots place (Some x) in
+      let placed : place < size = rw found (mod-lt (start + (size - 1)) (omega arith)) in let before = wrap start (size - 1) size starts (omega arith) in
+      rw is (LaysOut-items (changed s place (Some x)) place (x ∷ items) same_size refl placed (omega arith) (λ k within.
+      let low : k < size = rw same_size at within in let round = wrap place k size placed (omega arith) in let next = wrap start (k - 1) size starts (omega arith) in
+      rw same_size (elim (dec_lt 0 k) [
+        | yes behind ↦ grind (arith, laid_out.layout (k - 1), found, before, round, next, get_or-set_other, slice_get-drop 1 (k - 1) (x ∷ items))
+        | no first ↦ let is : k ≡ 0 = omega arith in rw is (grind (arith, round, placed, get_or-set_same))
+      ])))
+
   -- the place after the last, seen from the start or from the next
   pub same_place : (len : ℕ) → 0 < len → len ≤ length s.slots → (start + len) % length s.slots ≡ ((start + 1) % length s.slots + (len - 1)) % length s.slots
   same_place len some fit = sym (count_on start 1 (len - 1) len (length s.slots) (omega arith))
@@ -90,6 +103,27 @@ module _ {X : Type 0} (s : Slots X) (start : ℕ) (laid_out : IsLaidOut s start)
   pub past_empty : (place k : ℕ) → length (items_from s.slots start) ≤ k → k < length s.slots → place ≡ (start + k) % length s.slots → IsEmptyAt s place
   past_empty place k past low found =
       rw found (mod-lt (start + k) (omega arith), laid_out.layout k low ∙ slice_get_past (items_from s.slots start) k past)
+
+-- an item is put after the last once the first was taken: counted from the next start, the place after the last has not moved
+pub LaysOut-over : {X : Type 0} {s taken : Slots X} {start next place len : ℕ} → IsLaidOut s start → len ≡ length (items_from s.slots start) → 0 < len → place ≡ (start + len) % length s.slots → next ≡ (start + 1) % length s.slots
+    → LaysOut s taken next (after_take (view_from s start)) → IsEmptyAt taken place × ((new : Slots X) (x : X) → new ≡ changed taken place (Some x) → LaysOut s new next (after_put (after_take (view_from s start)) x))
+LaysOut-over {s = s} {taken = taken} {start = start} {next = next} {place = place} {len = len} laid_out counted some found rotated after =
+    let left = length (items_from taken.slots next) in let fit = laid_out.fit in
+    let count : left ≡ len - 1 = ap (λ (v : View _). length v.items) after.shows ∙ omega (arith, length-drop 1 (items_from s.slots start)) in
+    let room : left < length taken.slots = omega (arith, count, after.same_size) in
+    let again : place ≡ (next + left) % length taken.slots = rw (after.same_size, count, rotated) (found ∙ same_place s start laid_out len some (omega arith)) in
+    (past_empty taken next after.laid_out place left (omega arith) room again, λ new x is. LaysOut-then (λ v. after_put v x) after (LaysOut-put taken next after.laid_out new place left x refl room again is))
+
+-- items that lie in as many slots, and are no more than the limit, are a sound ring
+pub IsSound-after : {X : Type 0} {limit : ℕ → ℕ} {old new : Slots X} {start next len held : ℕ} {v : View X} → IsSound limit old start held → LaysOut old new next v → len ≡ length v.items → len ≤ limit old.capacity → IsSound limit new next len
+IsSound-after {limit = limit} sound after counted within =
+    let same = ap limit after.same_capacity in record {
+      laid_out = after.laid_out;
+      counted = counted ∙ ap (λ (w : View _). length w.items) (sym after.shows);
+      some = rw same sound.some;
+      within = rw same within;
+      room = rw (same, after.same_size) sound.room;
+    }
 
 module _ {X : Type 0} (slots : List (Option X)) (start : ℕ) (empty : slots ≡ replicate (length slots) None) where
   -- in empty slots no item lies

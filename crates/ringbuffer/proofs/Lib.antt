@@ -13,12 +13,9 @@ pub mod Paired
 pub mod Passed
 pub mod PushedClones
 pub mod PushedStretch
-pub mod PutFirst
-pub mod PutOver
 pub mod RepeatedSteps
 pub mod Rotations
 pub mod SlotsHold
-pub mod Sound
 pub mod Sources
 pub mod Stretches
 pub mod Swapped

@@ -1,9 +1,9 @@
 -- Items that one more pushes along by one index: those up to the last slot, and those that go on at the first.
-use Rattle.ringbuffer.proofs.Words.{◌≡◌, ℕ, ◌+◌, ◌-◌, ◌%◌, ◌<◌, ◌≤◌, List, [], ◌∷◌, ◌++◌, Some, ap, append_assoc, arith, common_steps, drop, drop-drop, get_or, length, length-append, length-drop, length-take, min, mod-lt, mod_self, refl, rules, slice_get, slice_get-drop, slice_get-take, slice_get_cases, subst, suc, sym, take, take_at, ◌∙◌, HoldsStretch, IsFullStretch, IsLaidOut, LaysOut, Slots, View, after_insert, after_pop, after_put_first, after_remove, after_take, after_writes, items_from, view_from}
+use Rattle.ringbuffer.proofs.Words.{◌≡◌, ℕ, ◌+◌, ◌-◌, ◌%◌, ◌<◌, ◌≤◌, List, [], ◌∷◌, ◌++◌, Some, ap, append_assoc, arith, common_steps, drop, drop-drop, get_or, length, length-append, length-drop, length-take, min, mod-lt, mod_self, refl, rules, slice_get, slice_get-drop, slice_get-take, slice_get_cases, subst, suc, sym, take, take_at, ◌∙◌, HoldsStretch, IsFullStretch, IsLaidOut, IsSound, LaysOut, Slots, View, after_insert, after_pop, after_put_first, after_remove, after_take, after_writes, items_from, view_from}
 use Rattle.std.proofs.Math.Seq.{take-add}
 use Rattle.std.proofs.lemmas.List.{places, same_lists, take-take}
 use Rattle.ringbuffer.proofs.Copies.{LaysOut-filled}
-use Rattle.ringbuffer.proofs.LaysOut.{LaysOut-then}
+use Rattle.ringbuffer.proofs.LaysOut.{IsSound-after, LaysOut-then}
 use Rattle.ringbuffer.proofs.RepeatedSteps.{view_is}
 use Rattle.ringbuffer.proofs.SlotsHold.{count_on, contiguous_on}
 use Rattle.ringbuffer.proofs.Stretches.{stretch_is, stretch_of}
@@ -69,28 +69,37 @@ module _ {X : Type 0} where
     left_back = same_lists _ _ (search (rules, places)) (λ k d below. grind (arith, places))
 
 -- `count` items from an index on, of which the first ones lie up to the last slot and the others from the first slot on
-module _ {X : Type 0} (s : Slots X) (start : ℕ) (laid_out : IsLaidOut s start) (i count place first : ℕ)
-    (low : i + count ≤ length (items_from s.slots start)) (found : place ≡ (start + i) % length s.slots) (least : first ≡ min count (length s.slots - place)) where
+module _ {X : Type 0} {limit : ℕ → ℕ} (s : Slots X) (start len : ℕ) (sound : IsSound limit s start len) (now : View X) (shows : view_from s start ≡ now) (i count place first : ℕ)
+    (within_now : i + count ≤ length now.items) (found : place ≡ (start + i) % length s.slots) (least : first ≡ min count (length s.slots - place)) where
   abbrev here : List X
   here = items_from s.slots start
 
   abbrev v : View X
   v = view_from s start
 
+  low : i + count ≤ length here
+  low = rw (sym shows) at within_now
+
   -- what the ring is once all are passed
   abbrev Whole : (List X → List X → Type 0) → Slots X → Type 0
-  Whole passed new = (xs : List X) × passed (take count (drop i here)) xs × (length (after_writes i xs v).items ≡ length here) × LaysOut s new start (after_writes i xs v)
+  Whole passed new = IsSound limit new start len × ((xs : List X) × passed (take count (drop i now.items)) xs × (view_from new start ≡ after_writes i xs now))
+
+  whole : (passed : List X → List X → Type 0) (new : Slots X) (xs : List X) → passed (take count (drop i here)) xs → i + length xs ≤ length here → LaysOut s new start (after_writes i xs v) → Whole passed new
+  whole passed new xs order enough lies = (
+    IsSound-after sound lies (sound.counted ∙ sym (long_writes i xs v enough)) sound.within,
+    subst (λ (w : View X). (xs : List X) × passed (take count (drop i w.items)) xs × (view_from new start ≡ after_writes i xs w)) shows (xs, order, lies.shows),
+  )
 
   within : place < length s.slots
-  within = let starts = laid_out.start_within in rw found (mod-lt (start + i) (omega arith))
+  within = let starts = sound.laid_out.start_within in rw found (mod-lt (start + i) (omega arith))
 
   first_there : LieAt s start i first place
-  first_there = record { laid_out = laid_out; low = omega arith; found = λ some. found; fit = omega (arith, within) }
+  first_there = record { laid_out = sound.laid_out; low = omega (arith, low); found = λ some. found; fit = omega (arith, within) }
 
   second_there : LieAt s start (i + first) (count - first) 0
   second_there =
-      let size = length s.slots in let fit = laid_out.fit in
-      record { laid_out = laid_out; low = omega arith; fit = omega arith; found = λ some.
+      let size = length s.slots in let fit = sound.laid_out.fit in
+      record { laid_out = sound.laid_out; low = omega (arith, low); fit = omega (arith, low); found = λ some.
           let ends : place + first ≡ size = omega (arith, within) in
           sym (mod_self size) ∙ ap (λ n. n % size) {x = size} {y = (start + i) % size + first} (omega (arith, found, ends)) ∙ count_on start i first (i + first) size refl }
 
@@ -109,7 +118,7 @@ module _ {X : Type 0} (s : Slots X) (start : ℕ) (laid_out : IsLaidOut s start)
     first_up = passes_there first_there mid (passed_up item between) (many_up item between) once
 
     second_left : LieAt mid start (i + first) (count - first) 0
-    second_left = let (xs, long, order, lies) = first_up in still_there second_there lies (long_writes i xs v (omega (arith, long)))
+    second_left = let (xs, long, order, lies) = first_up in still_there second_there lies (long_writes i xs v (omega (arith, long, low)))
 
     pub second_full_up : IsFullStretch mid.slots 0 (count - first)
     second_full_up = full_there second_left
@@ -120,7 +129,7 @@ module _ {X : Type 0} (s : Slots X) (start : ℕ) (laid_out : IsLaidOut s start)
         let enough : i + first + length ys ≤ length here = omega (arith, long', low, least) in
         let others = left_on i first xs ys v (sym long) enough (count - first) in let shown = ap (λ (w : View X). w.items) lies.shows in
         let ordered : item ∷ take count (drop i here) ≡ (xs ++ ys) ++ over ∷ [] = rw (← all_here, append_assoc, ← order', shown, others) (ap (λ l. l ++ take (count - first) (drop (i + first) here)) order ∙ append_assoc xs (between ∷ []) _) in
-        (xs ++ ys, ordered, long_writes i (xs ++ ys) v (omega (arith, enough, long, length-append xs ys)), subst (LaysOut s new start) (writes_on i first xs ys v (sym long) enough) (LaysOut-then (after_writes (i + first) ys) lies lies'))
+        whole (passed_up item over) new (xs ++ ys) ordered (omega (arith, enough, long, length-append xs ys)) (subst (LaysOut s new start) (writes_on i first xs ys v (sym long) enough) (LaysOut-then (after_writes (i + first) ys) lies lies'))
 
   -- the others are passed, and then the first ones
   module _ (mid : Slots X) (item between : X) (once : Passes s mid 0 (count - first) (passed_down item between)) where
@@ -128,7 +137,7 @@ module _ {X : Type 0} (s : Slots X) (start : ℕ) (laid_out : IsLaidOut s start)
     second_down = passes_there second_there mid (passed_down item between) (many_down item between) once
 
     first_left : LieAt mid start i first place
-    first_left = let (ys, long, order, lies) = second_down in still_there first_there lies (long_writes (i + first) ys v (omega (arith, long)))
+    first_left = let (ys, long, order, lies) = second_down in still_there first_there lies (long_writes (i + first) ys v (omega (arith, long, low)))
 
     pub first_full_down : IsFullStretch mid.slots place first
     first_full_down = full_there first_left
@@ -139,7 +148,7 @@ module _ {X : Type 0} (s : Slots X) (start : ℕ) (laid_out : IsLaidOut s start)
         let enough : i + first + length ys ≤ length here = omega (arith, long, low, least) in
         let others = left_back i first xs ys v (sym long') enough in let shown = ap (λ (w : View X). w.items) lies.shows in
         let ordered : take count (drop i here) ++ item ∷ [] ≡ over ∷ (xs ++ ys) = rw (← all_here, append_assoc, order) (sym (append_assoc (take first (drop i here)) (between ∷ []) ys) ∙ ap (λ l. l ++ ys) (rw (shown, others) at order')) in
-        (xs ++ ys, ordered, long_writes i (xs ++ ys) v (omega (arith, enough, long', length-append xs ys)), subst (LaysOut s new start) (writes_back i first xs ys v (sym long') enough) (LaysOut-then (after_writes i xs) lies lies'))
+        whole (passed_down item over) new (xs ++ ys) ordered (omega (arith, enough, long', length-append xs ys)) (subst (LaysOut s new start) (writes_back i first xs ys v (sym long') enough) (LaysOut-then (after_writes i xs) lies lies'))
 
 -- an item taken from an end, or put there, once the items between are passed
 module _ {X : Type 0} (i : ℕ) (v : View X) (over : X) (xs : List X) where

@@ -20,9 +20,6 @@ module _ {X : Type 0} where
   ends_with : (n : ℕ) (xs : List X) (x : X) → n + 1 ≡ length xs → slice_get xs n ≡ Some x → drop n xs ≡ x ∷ []
   ends_with n xs x long is = grind (arith, common_steps, drop-cons xs n x (omega arith), get_or_from_slice_get)
 
-  pub after_firsts_to_back-none : (v : View X) → after_firsts_to_back 0 v ≡ v
-  after_firsts_to_back-none v = view_is (append-nil v.items) (omega arith) refl
-
   pub after_firsts_to_back-more : (n : ℕ) (v : View X) (x : X) → n < length v.items → slice_get (rotated n v.items) 0 ≡ Some x → after_put (after_take (after_firsts_to_back n v)) x ≡ after_firsts_to_back (n + 1) v
   after_firsts_to_back-more n v x low first =
       let xs = v.items in
@@ -30,9 +27,6 @@ module _ {X : Type 0} where
       let is : get_or xs n x ≡ x = let e : Some (get_or xs n x) ≡ Some x = sym (ap (λ l. slice_get (l ++ take n xs) 0) behind) ∙ first in cc in
       let some : 0 < length (rotated n xs) = rw behind (omega arith) in
       view_is (rw (add-one, take-suc xs n x low, behind, is) (append_assoc (drop (suc n) xs) (take n xs) (x ∷ []))) (omega arith) refl
-
-  pub after_lasts_to_front-none : (v : View X) → after_lasts_to_front 0 v ≡ v
-  after_lasts_to_front-none v = view_is (grind (arith, common_steps)) (omega arith) refl
 
   -- one more item goes from the back to the front
   pub after_lasts_to_front-more : (n : ℕ) (v : View X) (x : X) → n < length v.items → slice_get (rotated (length v.items - n) v.items) (length v.items - 1) ≡ Some x

@@ -1,6 +1,5 @@
 use Rattle.ringbuffer.proofs.Words.{arith, refl, sym, ◌∙◌, ap, length-set, view_from, after_write}
-use Rattle.ringbuffer.proofs.LaysOut.{LaysOut-write}
-use Rattle.ringbuffer.proofs.Sound.{IsSound-after}
+use Rattle.ringbuffer.proofs.LaysOut.{IsSound-after, LaysOut-write}
 use Rattle.ringbuffer.proofs.fixed.FixedRing.at_mut.Goals as goal
 
 -- A write leaves the layout.

@@ -1,6 +1,6 @@
 use Rattle.ringbuffer.proofs.Words.{◌≡◌, ◌<◌, ◌∙◌, Some, View, after_put, after_take, ap, arith, length, slice_get, sym, rotated, view_from}
-use Rattle.ringbuffer.proofs.LaysOut.{LaysOut-none, LaysOut-then}
-use Rattle.ringbuffer.proofs.Rotations.{after_firsts_to_back-more, after_firsts_to_back-none}
+use Rattle.ringbuffer.proofs.LaysOut.{LaysOut-then}
+use Rattle.ringbuffer.proofs.Rotations.{after_firsts_to_back-more}
 use Rattle.ringbuffer.proofs.fixed.FixedRing.firsts_to_back.Goals as goal
 
 -- One more item goes from the front to the back.

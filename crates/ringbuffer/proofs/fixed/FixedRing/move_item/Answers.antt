@@ -1,5 +1,5 @@
 use Rattle.ringbuffer.proofs.Words.{length-set}
-use Rattle.ringbuffer.proofs.Gap.{empty_there, moves}
+use Rattle.ringbuffer.proofs.Gap.{moves}
 use Rattle.ringbuffer.proofs.fixed.FixedRing.move_item.Goals as goal
 
 -- Both slots hold what they should, and every other is as it was.

@@ -1,6 +1,6 @@
 use Rattle.ringbuffer.proofs.Words.{LaysOut, Some, ap, changed, sym, view_from, ◌∙◌}
 use Rattle.std.proofs.lemmas.List.Edits.{length-swap}
-use Rattle.ringbuffer.proofs.Sound.{IsSound-after}
+use Rattle.ringbuffer.proofs.LaysOut.{IsSound-after}
 use Rattle.ringbuffer.proofs.Swapped.{LaysOut-swap, other_full}
 use Rattle.ringbuffer.specs.View.{after_swap}
 use Rattle.ringbuffer.proofs.fixed.FixedRing.swap.Given.{Over}
