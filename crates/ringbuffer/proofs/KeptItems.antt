@@ -88,7 +88,8 @@ module _ {A P : Type 0} (R : P → A → Bool → P → Type 0) (p : P) (s : Slo
         before = subst (λ l. LaysApart s a start count (turns - count) (shown a (kept ++ l))) next at.apart
 
         -- the answer leaves x among those kept, or leaves it out
-        turn : (b : Bool) (u : P) → R q x b u → (a' : Slots A) (count' : ℕ) → let left = items_where_true (b ∷ []) (x ∷ []) in count' ≡ count + length left → a.changes ≤ a'.changes → a'.changes ≤ a.changes + 1 + length left
+        turn : (b : Bool) (u : P) → R q x b u → (a' : Slots A) (count' : ℕ) → let left = items_where_true (b ∷ []) (x ∷ []) in
+            count' ≡ count + length left → a.changes ≤ a'.changes → a'.changes ≤ a.changes + 1 + length left
             → LaysApart s a' start count' (turns + 1 - count') (shown a' (kept ++ (left ++ rest))) → ClosesUp a' u (turns + 1) count'
         turn b u answer a' count' more grows few apart =
             let left = items_where_true (b ∷ []) (x ∷ []) in let picks = picked_more R at.asks x next b u answer in record {
@@ -116,4 +117,5 @@ module _ {A P : Type 0} (R : P → A → Bool → P → Type 0) (p : P) (s : Slo
         moved some b u answer moves =
             let two = moves.counted in let left = length-append kept (x ∷ rest) in let wide : turns - count ≡ turns + 1 - (count + 1) = omega arith in
             turn true u answer b (count + 1) refl (omega arith) (omega arith)
-            (rw wide at (goes_over before (rw next at fits.1) (omega arith) turns count (count + 1) (inr (omega arith, refl, refl)) (omega (arith, left, at.counted)) (omega (arith, left, at.counted)) b (shown b (kept ++ x ∷ rest)) moves refl (sym two)))
+            (rw wide at (goes_over before (rw next at fits.1) (omega arith) turns count (count + 1) (inr (omega arith, refl, refl))
+            (omega (arith, left, at.counted)) (omega (arith, left, at.counted)) b (shown b (kept ++ x ∷ rest)) moves refl (sym two)))

@@ -1,5 +1,5 @@
 -- What the inner steps of a ring do to what it shows.
-use Rattle.ringbuffer.proofs.Words.{◌≡◌, ◌≢◌, ℕ, suc, ◌+◌, ◌-◌, ◌%◌, ◌<◌, ◌≤◌, List, [], ◌∷◌, ◌++◌, drop, length, take, Option, None, Some, refl, sym, ap, ◌∙◌, arith, get_or, get_or-set_other, get_or-set_same, replicate, length-set, slice_get-drop, length-append, slice_get, min, IsSome, set, mod-eq_of_lt, mod-lt, common_steps, get_or-replicate, length-drop, length-replicate, length-take, slice_get_cases, slice_get_past, Slots, slot_at, IsEmptyAt, IsFullAt, changed, View, after_pop, after_put, after_take, after_write, SlotsHold, items_from, view_from, IsLaidOut, IsSound, LaysOut, after_put_first, dec_lt}
+use Rattle.ringbuffer.proofs.Words.{◌≡◌, ◌≢◌, ℕ, suc, ◌+◌, ◌-◌, ◌%◌, ◌<◌, ◌≤◌, List, [], ◌∷◌, ◌++◌, drop, length, take, Option, None, Some, refl, sym, ap, ◌∙◌, arith, get_or, get_or-set_other, get_or-set_same, replicate, length-set, slice_get-drop, length-append, slice_get, min, IsSome, set, mod-eq_of_lt, mod-lt, common_steps, get_or-replicate, length-drop, length-replicate, length-take, slice_get_cases, slice_get_past, Slots, slot_at, IsEmptyAt, IsFullAt, changed, View, after_pop, after_put, after_take, after_write, SlotsHold, items_from, view_from, IsLaidOut, IsSound, LaysOut, after_put_first, dec_lt, add-mod_right}
 use Rattle.ringbuffer.proofs.RepeatedSteps.{view_is}
 use Rattle.ringbuffer.proofs.SlotsHold.{items_from-SlotsHold, SlotsHold-same, count_on, same_count, wrap}
 
@@ -80,7 +80,8 @@ module _ {X : Type 0} (s : Slots X) (start : ℕ) (laid_out : IsLaidOut s start)
       let one : s.changes + min (length items) 1 ≡ s.changes + 1 = omega arith in let same_size = length-set s.slots start None in
       rw (is, found, one) (LaysOut-items (changed s start None) ((start + 1) % size) (drop 1 items) same_size refl (mod-lt (start + 1) (omega arith)) (omega (arith, length-drop 1 items)) (λ k within.
       let low : k < size = rw same_size at within in
-      rw (same_size, count_on start 1 k (suc k) size (omega arith)) (grind (arith, laid_out.layout (suc k), wrap start (suc k) size starts low, get_or-set_other, get_or-set_same, slice_get-drop 1 k items, slice_get_past))))
+      rw (same_size, count_on start 1 k (suc k) size (omega arith))
+      (grind (arith, laid_out.layout (suc k), wrap start (suc k) size starts low, get_or-set_other, get_or-set_same, slice_get-drop 1 k items, slice_get_past))))
 
   -- an item is put into the slot before the first
   pub LaysOut-put_first : (new : Slots X) (place : ℕ) (x : X) → length (items_from s.slots start) < length s.slots → place ≡ (start + (length s.slots - 1)) % length s.slots
@@ -105,8 +106,9 @@ module _ {X : Type 0} (s : Slots X) (start : ℕ) (laid_out : IsLaidOut s start)
       rw found (mod-lt (start + k) (omega arith), laid_out.layout k low ∙ slice_get_past (items_from s.slots start) k past)
 
 -- an item is put after the last once the first was taken: counted from the next start, the place after the last has not moved
-pub LaysOut-over : {X : Type 0} {s taken : Slots X} {start next place len : ℕ} → IsLaidOut s start → len ≡ length (items_from s.slots start) → 0 < len → place ≡ (start + len) % length s.slots → next ≡ (start + 1) % length s.slots
-    → LaysOut s taken next (after_take (view_from s start)) → IsEmptyAt taken place × ((new : Slots X) (x : X) → new ≡ changed taken place (Some x) → LaysOut s new next (after_put (after_take (view_from s start)) x))
+pub LaysOut-over : {X : Type 0} {s taken : Slots X} {start next place len : ℕ} → IsLaidOut s start → len ≡ length (items_from s.slots start) → 0 < len → place ≡ (start + len) % length s.slots
+    → next ≡ (start + 1) % length s.slots → LaysOut s taken next (after_take (view_from s start))
+    → IsEmptyAt taken place × ((new : Slots X) (x : X) → new ≡ changed taken place (Some x) → LaysOut s new next (after_put (after_take (view_from s start)) x))
 LaysOut-over {s = s} {taken = taken} {start = start} {next = next} {place = place} {len = len} laid_out counted some found rotated after =
     let left = length (items_from taken.slots next) in let fit = laid_out.fit in
     let count : left ≡ len - 1 = ap (λ (v : View _). length v.items) after.shows ∙ omega (arith, length-drop 1 (items_from s.slots start)) in
@@ -114,8 +116,17 @@ LaysOut-over {s = s} {taken = taken} {start = start} {next = next} {place = plac
     let again : place ≡ (next + left) % length taken.slots = rw (after.same_size, count, rotated) (found ∙ same_place s start laid_out len some (omega arith)) in
     (past_empty taken next after.laid_out place left (omega arith) room again, λ new x is. LaysOut-then (λ v. after_put v x) after (LaysOut-put taken next after.laid_out new place left x refl room again is))
 
+-- in a ring that fills its slots an item is put in the place of the oldest
+pub LaysOut-replace : {X : Type 0} (s new : Slots X) (start : ℕ) (x : X) → IsLaidOut s start → length (items_from s.slots start) ≡ length s.slots → new ≡ changed (changed s start None) start (Some x)
+    → LaysOut s new ((start + 1) % length s.slots) (after_put (after_take (view_from s start)) x)
+LaysOut-replace s new start x laid_out full is =
+    let size = length s.slots in let items = items_from s.slots start in let starts = laid_out.start_within in let some : 0 < length items = omega arith in
+    let round : (start + length items) % size ≡ start = ap (λ n. (start + n) % size) full ∙ add-mod_right start size ∙ mod-eq_of_lt starts in
+    (LaysOut-over laid_out refl some (sym round) refl (LaysOut-take s start laid_out (changed s start None) ((start + 1) % size) some refl refl)).1 new x is
+
 -- items that lie in as many slots, and are no more than the limit, are a sound ring
-pub IsSound-after : {X : Type 0} {limit : ℕ → ℕ} {old new : Slots X} {start next len held : ℕ} {v : View X} → IsSound limit old start held → LaysOut old new next v → len ≡ length v.items → len ≤ limit old.capacity → IsSound limit new next len
+pub IsSound-after : {X : Type 0} {limit : ℕ → ℕ} {old new : Slots X} {start next len held : ℕ} {v : View X} → IsSound limit old start held → LaysOut old new next v
+    → len ≡ length v.items → len ≤ limit old.capacity → IsSound limit new next len
 IsSound-after {limit = limit} sound after counted within =
     let same = ap limit after.same_capacity in record {
       laid_out = after.laid_out;
@@ -125,34 +136,32 @@ IsSound-after {limit = limit} sound after counted within =
       room = rw (same, after.same_size) sound.room;
     }
 
-module _ {X : Type 0} (slots : List (Option X)) (start : ℕ) (empty : slots ≡ replicate (length slots) None) where
-  -- in empty slots no item lies
-  none_held : SlotsHold slots start []
+-- in empty slots no item lies
+module _ {X : Type 0} (s : Slots X) (start : ℕ) (empty : s.slots ≡ replicate (length s.slots) None) where
+  none_held : SlotsHold s.slots start []
   none_held k low =
-      let place = (start + k) % length slots in
-      ap (λ (places : List (Option X)). get_or places place None) empty ∙ get_or-replicate (length slots) place None None (mod-lt (start + k) (omega arith))
+      let place = (start + k) % length s.slots in
+      ap (λ (places : List (Option X)). get_or places place None) empty ∙ get_or-replicate (length s.slots) place None None (mod-lt (start + k) (omega arith))
 
-  pub items_from-empty : items_from slots start ≡ []
-  items_from-empty = items_from-SlotsHold slots start [] none_held (omega arith)
+  pub items_from-empty : items_from s.slots start ≡ []
+  items_from-empty = items_from-SlotsHold s.slots start [] none_held (omega arith)
 
-pub IsLaidOut-empty : {X : Type 0} (s : Slots X) (start : ℕ) → start < length s.slots → s.slots ≡ replicate (length s.slots) None → IsLaidOut s start
-IsLaidOut-empty s start within empty =
-    let none = items_from-empty s.slots start empty in
-    record { start_within = within; fit = rw none (omega arith); layout = rw none (none_held s.slots start empty) }
+  pub IsLaidOut-empty : start < length s.slots → IsLaidOut s start
+  IsLaidOut-empty within = record { start_within = within; fit = rw items_from-empty (omega arith); layout = rw items_from-empty none_held }
 
 -- where a ring shows no item, every slot is empty
 pub all_empty : {X : Type 0} (s : Slots X) (start : ℕ) → IsLaidOut s start → items_from s.slots start ≡ [] → s.slots ≡ replicate (length s.slots) None
 all_empty s start laid_out none =
     let size = length s.slots in
     let long = length-replicate size None in
-    SlotsHold-same s.slots start laid_out.start_within (replicate size None) [] (rw none at laid_out.layout) (none_held (replicate size None) start (rw long refl)) long
+    SlotsHold-same s.slots start laid_out.start_within (replicate size None) [] (rw none at laid_out.layout) (none_held (record s { slots = replicate size None }) start (rw long refl)) long
 
 -- an empty ring may start at the first slot
 pub restart : {X : Type 0} (old new : Slots X) (start : ℕ) (v : View X) → LaysOut old new start v → v.items ≡ [] → LaysOut old new 0 v
 restart old new start v b none =
     let nothing = ap (λ (w : View _). w.items) b.shows ∙ none in let empty = all_empty new start b.laid_out nothing in let starts = b.laid_out.start_within in record {
-      laid_out = IsLaidOut-empty new 0 (omega arith) empty;
+      laid_out = IsLaidOut-empty new 0 empty (omega arith);
       same_size = b.same_size;
       same_capacity = b.same_capacity;
-      shows = view_is (items_from-empty new.slots 0 empty ∙ sym none) (ap (λ (w : View _). w.changes) b.shows) (ap (λ (w : View _). w.capacity) b.shows);
+      shows = view_is (items_from-empty new 0 empty ∙ sym none) (ap (λ (w : View _). w.changes) b.shows) (ap (λ (w : View _). w.capacity) b.shows);
     }

@@ -2,7 +2,6 @@ pub mod ArraysOfOptions
 pub mod Conversions
 pub mod CopiedOut
 pub mod Copies
-pub mod EmptiedStretches
 pub mod FromSource
 pub mod Gap
 pub mod KeptItems

@@ -9,16 +9,10 @@ use Rattle.ringbuffer.proofs.Stretches.{first_held, first_stretch, second_held, 
 use Rattle.ringbuffer.proofs.SlotsHold.{SlotsHold-same, wrap}
 
 module _ {X : Type 0} (size start : ℕ) (xs : List X) (fit : start + length xs ≤ size) where
-  abbrev behind : List (Option X)
-  behind = replicate (size - (start + length xs)) None
-
-  abbrev row : List (Option X)
-  row = beside size start xs
-
-  length-beside : length row ≡ size
+  length-beside : length (beside size start xs) ≡ size
   length-beside = simp (length-append, length-map, length-replicate) (omega arith)
 
-  SlotsHold-beside : start < size → SlotsHold row start xs
+  SlotsHold-beside : start < size → SlotsHold (beside size start xs) start xs
   SlotsHold-beside within k low =
       let long = length-beside in
       elim (wrap start k size within (omega arith)) [
@@ -26,19 +20,19 @@ module _ {X : Type 0} (size start : ℕ) (xs : List X) (fit : start + length xs 
         | inr a ↦ rw (long, a.1) (grind (arith, common_steps, slice_get_cases))
       ]
 
-  from_start : drop start row ≡ map Some xs ++ behind
+  from_start : drop start (beside size start xs) ≡ map Some xs ++ replicate (size - (start + length xs)) None
   from_start = grind (arith, common_steps)
 
   -- they are a stretch
-  pub beside-stretch : HoldsStretch row start (length xs) xs
+  pub beside-stretch : HoldsStretch (beside size start xs) start (length xs) xs
   beside-stretch = rw from_start (grind (arith, common_steps))
 
   -- and with others in their place, as many, they are these side by side
-  pub beside-refilled : (ys : List X) → refilled row start (length xs) ys ≡ beside size start (refill (length xs) xs ys)
+  pub beside-refilled : (ys : List X) → refilled (beside size start xs) start (length xs) ys ≡ beside size start (refill (length xs) xs ys)
   beside-refilled ys =
-      let n = length xs in let zs = refill n xs ys in
+      let n = length xs in let zs = refill n xs ys in let row = beside size start xs in
       let first : take start row ≡ replicate start None = grind (arith, common_steps) in
-      let last : drop (start + n) row ≡ behind = rw (← drop-drop, from_start) (grind (arith, common_steps)) in
+      let last : drop (start + n) row ≡ replicate (size - (start + n)) None = rw (← drop-drop, from_start) (grind (arith, common_steps)) in
       let middle : refill n (map Some xs) (map Some ys) ≡ map Some zs = grind (arith, common_steps, drop-map, take-map) in
       rw (first, beside-stretch, last, middle, sym (length_refill n xs ys refl)) refl
 
@@ -101,5 +95,6 @@ module _ {X : Type 0} {limit : ℕ → ℕ} {s : Slots X} (mid : Slots X) {start
       let fit : next + length shown ≤ size = omega (arith, long, fits.1) in
       let after : LaysOut s (with_refilled mid next len changes ys) next (after_rewrite (view_from s start) ys) =
       rw (lie, counted, sound.counted, same_capacity, beside-refilled size next items fits.1 ys)
-      (LaysOut-items s start sound.laid_out (record s { slots = beside size next shown; changes = s.changes + 4 * length items }) next shown (length-beside size next shown fit) refl fits.0 (omega arith) (SlotsHold-beside size next shown fit fits.0)) in
+      (LaysOut-items s start sound.laid_out (record s { slots = beside size next shown; changes = s.changes + 4 * length items }) next shown
+      (length-beside size next shown fit) refl fits.0 (omega arith) (SlotsHold-beside size next shown fit fits.0)) in
       (IsSound-after sound after (sound.counted ∙ long) sound.within, after.shows)

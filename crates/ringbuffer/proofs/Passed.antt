@@ -1,5 +1,5 @@
 -- Items that one more pushes along by one index: those up to the last slot, and those that go on at the first.
-use Rattle.ringbuffer.proofs.Words.{◌≡◌, ℕ, ◌+◌, ◌-◌, ◌%◌, ◌<◌, ◌≤◌, List, [], ◌∷◌, ◌++◌, Some, ap, append_assoc, arith, common_steps, drop, drop-drop, get_or, length, length-append, length-drop, length-take, min, mod-lt, mod_self, refl, rules, slice_get, slice_get-drop, slice_get-take, slice_get_cases, subst, suc, sym, take, take_at, ◌∙◌, HoldsStretch, IsFullStretch, IsLaidOut, IsSound, LaysOut, Slots, View, after_insert, after_pop, after_put_first, after_remove, after_take, after_writes, items_from, view_from}
+use Rattle.ringbuffer.proofs.Words.{◌≡◌, ℕ, ◌+◌, ◌-◌, ◌%◌, ◌<◌, ◌≤◌, List, [], ◌∷◌, ◌++◌, ◌⊎◌, Some, ap, append_assoc, arith, common_steps, drop, drop-drop, get_or, length, length-append, length-drop, length-take, inl, inr, min, mod-lt, mod_self, refl, rules, slice_get, slice_get-drop, slice_get-take, slice_get_cases, subst, suc, sym, take, take_at, ◌∙◌, HoldsStretch, IsFullStretch, IsLaidOut, IsSound, LaysOut, Slots, View, after_insert, after_pop, after_put_first, after_remove, after_take, after_writes, items_from, view_from}
 use Rattle.std.proofs.Math.Seq.{take-add}
 use Rattle.std.proofs.lemmas.List.{places, same_lists, take-take}
 use Rattle.ringbuffer.proofs.Copies.{LaysOut-filled}
@@ -9,30 +9,30 @@ use Rattle.ringbuffer.proofs.SlotsHold.{count_on, contiguous_on}
 use Rattle.ringbuffer.proofs.Stretches.{stretch_is, stretch_of}
 use Rattle.ring_slots.specs.Slots.{Passes, passed_down, passed_up, with_items}
 
-module _ {X : Type 0} where
-  -- items of a ring, counted from an index, lie side by side from a place on
-  record LieAt (s : Slots X) (start i len place : ℕ) : Type 0 where
-    laid_out : IsLaidOut s start
-    low : i + len ≤ length (items_from s.slots start)
-    found : 0 < len → place ≡ (start + i) % length s.slots
-    fit : place + len ≤ length s.slots
+-- items of a ring, counted from an index, lie side by side from a place on
+record SideBySide {X : Type 0} (s : Slots X) (start i len place : ℕ) : Type 0 where
+  laid_out : IsLaidOut s start
+  low : i + len ≤ length (items_from s.slots start)
+  found : 0 < len → place ≡ (start + i) % length s.slots
+  fit : place + len ≤ length s.slots
 
+module _ {X : Type 0} {s : Slots X} {start i len place : ℕ} (at : SideBySide s start i len place) where
   -- they are a stretch of slots
-  held_there : {s : Slots X} {start i len place : ℕ} → LieAt s start i len place → HoldsStretch s.slots place len (take len (drop i (items_from s.slots start)))
-  held_there {s = s} {start = start} {i = i} {len = len} {place = place} at =
+  held_there : HoldsStretch s.slots place len (take len (drop i (items_from s.slots start)))
+  held_there =
       let items = items_from s.slots start in let low = at.low in let fit = at.laid_out.fit in
       stretch_of s.slots place len (take len (drop i items)) (omega (arith, length-take len (drop i items), length-drop i items)) at.fit (λ k below.
       grind (arith, at.laid_out.layout (i + k), contiguous_on start i place (length s.slots) k (at.found (omega arith)) (omega arith), slice_get-take, slice_get-drop))
 
-  full_there : {s : Slots X} {start i len place : ℕ} → LieAt s start i len place → IsFullStretch s.slots place len
-  full_there at = (at.fit, (_, held_there at))
+  full_there : IsFullStretch s.slots place len
+  full_there = (at.fit, (_, held_there))
 
   -- and others put there, as many, take their place in the ring
-  passes_there : {s : Slots X} {start i len place : ℕ} → LieAt s start i len place → (new : Slots X) (passed : List X → List X → Type 0) → ((had has : List X) → passed had has → length has ≡ length had)
-      → Passes s new place len passed → (xs : List X) × (length xs ≡ len) × passed (take len (drop i (items_from s.slots start))) xs × LaysOut s new start (after_writes i xs (view_from s start))
-  passes_there {s = s} {start = start} {i = i} {len = len} {place = place} at new passed many passes =
+  passes_there : (new : Slots X) (passed : List X → List X → Type 0) → ((had has : List X) → passed had has → length has ≡ length had) → Passes s new place len passed
+      → (xs : List X) × (length xs ≡ len) × passed (take len (drop i (items_from s.slots start))) xs × LaysOut s new start (after_writes i xs (view_from s start))
+  passes_there new passed many passes =
       let items = items_from s.slots start in let low = at.low in let enough = at.laid_out.fit in let (had, xs, held, order, after) = passes in
-      let are : had ≡ take len (drop i items) = stretch_is s.slots place len had (take len (drop i items)) held (held_there at) in
+      let are : had ≡ take len (drop i items) = stretch_is s.slots place len had (take len (drop i items)) held held_there in
       let long : length xs ≡ len = omega (arith, many had xs order, ap length are, length-take len (drop i items), length-drop i items) in (
         xs,
         long,
@@ -42,9 +42,15 @@ module _ {X : Type 0} where
       )
 
   -- where others were written into a ring, they lie there still
-  still_there : {s mid : Slots X} {start i len place : ℕ} {v : View X} → LieAt s start i len place → LaysOut s mid start v → length v.items ≡ length (items_from s.slots start) → LieAt mid start i len place
-  still_there at lies same = record { laid_out = lies.laid_out; low = omega (arith, at.low, same, ap (λ (v : View X). length v.items) lies.shows); found = rw lies.same_size at.found; fit = rw lies.same_size at.fit }
+  still_there : {mid : Slots X} {v : View X} → LaysOut s mid start v → length v.items ≡ length (items_from s.slots start) → SideBySide mid start i len place
+  still_there lies same = record {
+    laid_out = lies.laid_out;
+    low = omega (arith, at.low, same, ap (λ (v : View X). length v.items) lies.shows);
+    found = rw lies.same_size at.found;
+    fit = rw lies.same_size at.fit;
+  }
 
+module _ {X : Type 0} where
   many_up : (item over : X) (had has : List X) → passed_up item over had has → length has ≡ length had
   many_up item over had has order = omega (arith, ap length order, length-append has (over ∷ []))
 
@@ -54,7 +60,7 @@ module _ {X : Type 0} where
   long_writes : (i : ℕ) (xs : List X) (v : View X) → i + length xs ≤ length v.items → length (after_writes i xs v).items ≡ length v.items
   long_writes i xs v low = grind (arith, common_steps)
 
-  -- two writes side by side, in either order, are one, and each leaves what lies where the other goes
+  -- two writes side by side, in either order, are one
   module _ (i m : ℕ) (xs ys : List X) (v : View X) (many : m ≡ length xs) (low : i + m + length ys ≤ length v.items) where
     writes_on : after_writes (i + m) ys (after_writes i xs v) ≡ after_writes i (xs ++ ys) v
     writes_on = view_is (same_lists _ _ (search (rules, places)) (λ k d below. grind (arith, places))) (omega (arith, length-append xs ys)) refl
@@ -62,11 +68,23 @@ module _ {X : Type 0} where
     writes_back : after_writes i xs (after_writes (i + m) ys v) ≡ after_writes i (xs ++ ys) v
     writes_back = view_is (grind (arith, common_steps)) (omega (arith, length-append xs ys)) refl
 
-    left_on : (n : ℕ) → take n (drop (i + m) (after_writes i xs v).items) ≡ take n (drop (i + m) v.items)
-    left_on n = same_lists _ _ (search (rules, places)) (λ k d below. grind (arith, places))
+  -- a write leaves what lies apart
+  left_apart : (i j n : ℕ) (xs : List X) (v : View X) → i + length xs ≤ length v.items → (i + length xs ≤ j) ⊎ (j + n ≤ i) → take n (drop j (after_writes i xs v).items) ≡ take n (drop j v.items)
+  left_apart i j n xs v low apart = same_lists _ _ (search (rules, places)) (λ k d below. grind (arith, places, apart))
 
-    left_back : take m (drop i (after_writes (i + m) ys v).items) ≡ take m (drop i v.items)
-    left_back = same_lists _ _ (search (rules, places)) (λ k d below. grind (arith, places))
+-- two stretches that lie apart are passed one after the other
+module _ {X : Type 0} {s : Slots X} {start i m place j n place' : ℕ} (one : SideBySide s start i m place) (other : SideBySide s start j n place') (apart : (i + m ≤ j) ⊎ (j + n ≤ i))
+    (mid : Slots X) (passed : List X → List X → Type 0) (many : (had has : List X) → passed had has → length has ≡ length had) (once : Passes s mid place m passed) where
+  still_other : SideBySide mid start j n place'
+  still_other = let (xs, long, order, lies) = passes_there one mid passed many once in still_there other lies (long_writes i xs (view_from s start) (omega (arith, long, one.low)))
+
+  both : (new : Slots X) (passed' : List X → List X → Type 0) → ((had has : List X) → passed' had has → length has ≡ length had) → Passes mid new place' n passed' → let items = items_from s.slots start in
+      (xs : List X) × (ys : List X) × (length xs ≡ m) × (length ys ≡ n) × passed (take m (drop i items)) xs
+      × passed' (take n (drop j items)) ys × LaysOut s new start (after_writes j ys (after_writes i xs (view_from s start)))
+  both new passed' many' twice =
+      let (xs, long, order, lies) = passes_there one mid passed many once in let (ys, long', order', lies') = passes_there still_other new passed' many' twice in
+      let left = ap (λ (w : View X). take n (drop j w.items)) lies.shows ∙ left_apart i j n xs (view_from s start) (omega (arith, long, one.low)) (rw long apart) in
+      (xs, ys, long, long', order, rw left at order', LaysOut-then (after_writes j ys) lies lies')
 
 -- `count` items from an index on, of which the first ones lie up to the last slot and the others from the first slot on
 module _ {X : Type 0} {limit : ℕ → ℕ} (s : Slots X) (start len : ℕ) (sound : IsSound limit s start len) (now : View X) (shows : view_from s start ≡ now) (i count place first : ℕ)
@@ -93,10 +111,10 @@ module _ {X : Type 0} {limit : ℕ → ℕ} (s : Slots X) (start len : ℕ) (sou
   within : place < length s.slots
   within = let starts = sound.laid_out.start_within in rw found (mod-lt (start + i) (omega arith))
 
-  first_there : LieAt s start i first place
+  first_there : SideBySide s start i first place
   first_there = record { laid_out = sound.laid_out; low = omega (arith, low); found = λ some. found; fit = omega (arith, within) }
 
-  second_there : LieAt s start (i + first) (count - first) 0
+  second_there : SideBySide s start (i + first) (count - first) 0
   second_there =
       let size = length s.slots in let fit = sound.laid_out.fit in
       record { laid_out = sound.laid_out; low = omega (arith, low); fit = omega (arith, low); found = λ some.
@@ -114,41 +132,31 @@ module _ {X : Type 0} {limit : ℕ → ℕ} (s : Slots X) (start len : ℕ) (sou
 
   -- the first ones are passed, and then the others
   module _ (mid : Slots X) (item between : X) (once : Passes s mid place first (passed_up item between)) where
-    abbrev first_up : (xs : List X) × (length xs ≡ first) × passed_up item between (take first (drop i here)) xs × LaysOut s mid start (after_writes i xs v)
-    first_up = passes_there first_there mid (passed_up item between) (many_up item between) once
-
-    second_left : LieAt mid start (i + first) (count - first) 0
-    second_left = let (xs, long, order, lies) = first_up in still_there second_there lies (long_writes i xs v (omega (arith, long, low)))
-
     pub second_full_up : IsFullStretch mid.slots 0 (count - first)
-    second_full_up = full_there second_left
+    second_full_up = full_there (still_other first_there second_there (inl (omega arith)) mid (passed_up item between) (many_up item between) once)
 
     pub all_up : (new : Slots X) (over : X) → Passes mid new 0 (count - first) (passed_up between over) → Whole (passed_up item over) new
     all_up new over twice =
-        let (xs, long, order, lies) = first_up in let (ys, long', order', lies') = passes_there second_left new (passed_up between over) (many_up between over) twice in
+        let (xs, ys, long, long', order, order', lies) =
+        both first_there second_there (inl (omega arith)) mid (passed_up item between) (many_up item between) once new (passed_up between over) (many_up between over) twice in
         let enough : i + first + length ys ≤ length here = omega (arith, long', low, least) in
-        let others = left_on i first xs ys v (sym long) enough (count - first) in let shown = ap (λ (w : View X). w.items) lies.shows in
-        let ordered : item ∷ take count (drop i here) ≡ (xs ++ ys) ++ over ∷ [] = rw (← all_here, append_assoc, ← order', shown, others) (ap (λ l. l ++ take (count - first) (drop (i + first) here)) order ∙ append_assoc xs (between ∷ []) _) in
-        whole (passed_up item over) new (xs ++ ys) ordered (omega (arith, enough, long, length-append xs ys)) (subst (LaysOut s new start) (writes_on i first xs ys v (sym long) enough) (LaysOut-then (after_writes (i + first) ys) lies lies'))
+        let ordered : item ∷ take count (drop i here) ≡ (xs ++ ys) ++ over ∷ [] =
+        rw (← all_here, append_assoc, ← order') (ap (λ l. l ++ take (count - first) (drop (i + first) here)) order ∙ append_assoc xs (between ∷ []) _) in
+        whole (passed_up item over) new (xs ++ ys) ordered (omega (arith, enough, long, length-append xs ys)) (subst (LaysOut s new start) (writes_on i first xs ys v (sym long) enough) lies)
 
   -- the others are passed, and then the first ones
   module _ (mid : Slots X) (item between : X) (once : Passes s mid 0 (count - first) (passed_down item between)) where
-    abbrev second_down : (ys : List X) × (length ys ≡ count - first) × passed_down item between (take (count - first) (drop (i + first) here)) ys × LaysOut s mid start (after_writes (i + first) ys v)
-    second_down = passes_there second_there mid (passed_down item between) (many_down item between) once
-
-    first_left : LieAt mid start i first place
-    first_left = let (ys, long, order, lies) = second_down in still_there first_there lies (long_writes (i + first) ys v (omega (arith, long, low)))
-
     pub first_full_down : IsFullStretch mid.slots place first
-    first_full_down = full_there first_left
+    first_full_down = full_there (still_other second_there first_there (inr (omega arith)) mid (passed_down item between) (many_down item between) once)
 
     pub all_down : (new : Slots X) (over : X) → Passes mid new place first (passed_down between over) → Whole (passed_down item over) new
     all_down new over twice =
-        let (ys, long, order, lies) = second_down in let (xs, long', order', lies') = passes_there first_left new (passed_down between over) (many_down between over) twice in
+        let (ys, xs, long, long', order, order', lies) =
+        both second_there first_there (inr (omega arith)) mid (passed_down item between) (many_down item between) once new (passed_down between over) (many_down between over) twice in
         let enough : i + first + length ys ≤ length here = omega (arith, long, low, least) in
-        let others = left_back i first xs ys v (sym long') enough in let shown = ap (λ (w : View X). w.items) lies.shows in
-        let ordered : take count (drop i here) ++ item ∷ [] ≡ over ∷ (xs ++ ys) = rw (← all_here, append_assoc, order) (sym (append_assoc (take first (drop i here)) (between ∷ []) ys) ∙ ap (λ l. l ++ ys) (rw (shown, others) at order')) in
-        whole (passed_down item over) new (xs ++ ys) ordered (omega (arith, enough, long', length-append xs ys)) (subst (LaysOut s new start) (writes_back i first xs ys v (sym long') enough) (LaysOut-then (after_writes i xs) lies lies'))
+        let ordered : take count (drop i here) ++ item ∷ [] ≡ over ∷ (xs ++ ys) =
+        rw (← all_here, append_assoc, order) (sym (append_assoc (take first (drop i here)) (between ∷ []) ys) ∙ ap (λ l. l ++ ys) order') in
+        whole (passed_down item over) new (xs ++ ys) ordered (omega (arith, enough, long', length-append xs ys)) (subst (LaysOut s new start) (writes_back i first xs ys v (sym long') enough) lies)
 
 -- an item taken from an end, or put there, once the items between are passed
 module _ {X : Type 0} (i : ℕ) (v : View X) (over : X) (xs : List X) where
@@ -172,15 +180,10 @@ module _ {X : Type 0} (i : ℕ) (v : View X) (over : X) (xs : List X) where
         view_is (grind (arith, drop-drop, take_at)) (omega (arith, long)) refl
 
     -- the last one is taken, and those from the index on are passed down
-    module _ (last : X) (behind : ℕ) (count : behind ≡ length all - 1 - i) (is : slice_get all (length all - 1) ≡ Some last)
-        (order : passed_down last over (take behind (drop i (take (length all - 1) all))) xs) where
-      from_there : drop i all ≡ over ∷ xs
-      from_there = grind (arith, common_steps, slice_get_cases)
-
-      pub took_last : slice_get all i ≡ Some over
-      took_last = grind (arith, common_steps, from_there, slice_get_cases)
-
-      pub take_last_is : length all - 1 - i ≤ i → after_writes i xs (after_pop v) ≡ after_remove i v
-      take_last_is few =
-          let there = from_there in let rest = drop-drop 1 i all in let long = ap length there in let are = ap (drop 1) there in
-          view_is (grind (arith, take-take, length-drop, common_steps)) (omega (arith, long, length-drop i all)) refl
+    pub took_last : (last : X) (behind : ℕ) → behind ≡ length all - 1 - i → slice_get all (length all - 1) ≡ Some last → passed_down last over (take behind (drop i (take (length all - 1) all))) xs
+        → (slice_get all i ≡ Some over) × (length all - 1 - i ≤ i → after_writes i xs (after_pop v) ≡ after_remove i v)
+    took_last last behind count is order =
+        let there : drop i all ≡ over ∷ xs = grind (arith, common_steps, slice_get_cases) in let rest = drop-drop 1 i all in let long = ap length there in let are = ap (drop 1) there in (
+          grind (arith, common_steps, there, slice_get_cases),
+          λ few. view_is (grind (arith, take-take, length-drop, common_steps)) (omega (arith, long, length-drop i all)) refl,
+        )

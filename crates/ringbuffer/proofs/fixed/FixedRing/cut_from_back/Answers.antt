@@ -6,7 +6,8 @@ use Rattle.ringbuffer.proofs.fixed.FixedRing.cut_from_back.Goals as goal
 pub loop-moved-preserved : goal.loop-moved-preserved
 loop-moved-preserved g c =
     let r = c.requires in let n = c.loop-moved.moved in let (left, fit) = cut_fits r.span.laid_out r.span.len c.args.from c.args.to (omega arith) r.within n in
-    goes_over c.loop-moved.invariant (omega (arith, left, fit)) (omega arith) _ _ _ (inr (refl, refl, omega arith)) (omega (arith, left)) (omega (arith, left, c.loop-moved-test.true)) _ _ c.move_item.ensures refl (omega arith)
+    goes_over c.loop-moved.invariant (omega (arith, left, fit)) (omega arith) _ _ _ (inr (refl, refl, omega arith))
+    (omega (arith, left)) (omega (arith, left, c.loop-moved-test.true)) _ _ c.move_item.ensures refl (omega arith)
 
 -- All of them are.
 pub returns : goal.returns

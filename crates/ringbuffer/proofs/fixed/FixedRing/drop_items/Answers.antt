@@ -1,5 +1,5 @@
 use Rattle.ringbuffer.proofs.Words.{◌-◌, ap}
-use Rattle.ringbuffer.proofs.EmptiedStretches.{first_emptied, second_emptied, LaysApart-cut, LaysOut-takes, LaysOut-truncate}
+use Rattle.ringbuffer.proofs.Gap.{LaysApart-cut, LaysOut-takes, LaysOut-truncate, first_emptied, second_emptied}
 use Rattle.ringbuffer.proofs.fixed.FixedRing.drop_items.Goals as goal
 
 -- Each stretch is full before it is emptied.

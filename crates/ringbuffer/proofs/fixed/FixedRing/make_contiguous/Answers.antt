@@ -19,7 +19,8 @@ invariant_of-self-lent g c = λ w.
 -- The ring ends as the one with those items.
 pub returns : goal.returns
 returns g c =
-    let after = c.move_contiguous-start.ensures in let was = g.S.RingSlots.seen c.move_contiguous-start.new.slots in let sound = c.self.invariant in let start = c.move_contiguous-start.result in let len = c.self.inside.span.len in (
+    let after = c.move_contiguous-start.ensures in let was = g.S.RingSlots.seen c.move_contiguous-start.new.slots in
+    let sound = c.self.invariant in let start = c.move_contiguous-start.result in let len = c.self.inside.span.len in (
       (
         refl,
         λ w. rw (g.met.S.LendsRows.sees_row c.move_contiguous-start.new.slots start len c.after-changes.result.count w)

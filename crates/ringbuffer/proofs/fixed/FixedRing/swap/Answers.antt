@@ -12,7 +12,8 @@ get_mut-requires g c =
     other_full _ _ _ _ _ _ c.self.invariant.laid_out low.first low.second c.if-i-j.false c.place-a.ensures c.place-b.ensures _ c.take-first.ensures.after
 
 -- Each of the two lies where the other lay.
-swapped : (g : Over) (c : goal.After-put g) → let s = g.S.RingSlots.seen c.self.inside.slots in let start = c.self.inside.span.start in LaysOut s (g.S.RingSlots.seen c.put.new.self) start (after_swap c.args.i c.args.j (view_from s start))
+swapped : (g : Over) (c : goal.After-put g) → let s = g.S.RingSlots.seen c.self.inside.slots in let start = c.self.inside.span.start in
+    LaysOut s (g.S.RingSlots.seen c.put.new.self) start (after_swap c.args.i c.args.j (view_from s start))
 swapped g c =
     let low = rw (sym c.self.view_is) at c.requires in let took = c.take-first in let had = c.replace-second in
     let written = g.met.S.RingSlots.sees_write took.new.self c.place-b.result had.new.dest ∙ ap (λ x. changed (g.S.RingSlots.seen took.new.self) c.place-b.result (Some x)) had.ensures.after in
