@@ -1,11 +1,10 @@
 -- Items put at once into slots side by side, after the last or in place of others.
-use Rattle.ringbuffer.proofs.Words.{[], ◌∷◌, append-nil, slice_get-drop, suc, ◌≡◌, ℕ, ◌+◌, ◌-◌, ◌*◌, ◌%◌, ◌<◌, ◌≤◌, List, ◌++◌, drop, ext_get_or, get_or-set_other, get_or-set_same, length, length-drop, length-set, length-take, get_or, mod-eq_of_lt, mod-lt, set, slice_get-take, take, None, Option, Some, add-mod_right, ap, dec_lt, refl, sym, ◌∙◌, arith, length-append, common_steps, slice_get, slice_get_cases, slice_get_past, ◌⊎◌, inl, inr, Slots, IsFullAt, changed, after_puts, after_takes, view_from, SlotsHold, items_from, IsLaidOut, LaysOut}
+use Rattle.ringbuffer.proofs.Words.{◌≡◌, ℕ, ◌+◌, ◌-◌, ◌%◌, ◌<◌, ◌≤◌, List, ◌++◌, ext_get_or, get_or-set_other, get_or-set_same, length, length-set, length-take, get_or, set, slice_get-take, take, None, Option, Some, ap, refl, sym, ◌∙◌, arith, length-append, common_steps, slice_get, slice_get_cases, slice_get_past, ◌⊎◌, Slots, changed, after_puts, view_from, SlotsHold, items_from, IsLaidOut, LaysOut}
 use Rattle.std.proofs.lemmas.Option.{slice_get_within}
-use Rattle.ring_core.proofs.Items.{slice_get-append_left}
 use Rattle.ring_slots.specs.Slots.{filled, with_items}
 use Rattle.ring_slots.proofs.Filled.{filled-before, filled-behind, filled-in, length-filled}
-use Rattle.ringbuffer.proofs.SlotsHold.{count_on, contiguous_on, wrap}
-use Rattle.ringbuffer.proofs.LaysOut.{LaysOut-items, slice_get_some}
+use Rattle.ringbuffer.proofs.SlotsHold.{contiguous_on, wrap}
+use Rattle.ringbuffer.proofs.LaysOut.{LaysOut-items}
 
 -- one item more, after those put into a stretch
 module _ {X : Type 0} (slots : List (Option X)) (from : ℕ) (xs : List X) (within : from + length xs ≤ length slots) (k : ℕ) (x : X) (is : slice_get xs k ≡ Some x) where

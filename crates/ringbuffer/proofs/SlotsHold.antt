@@ -1,5 +1,5 @@
 -- What a change of one slot does to the items that lie in the slots.
-use Rattle.ringbuffer.proofs.Words.{◌≡◌, ◌≢◌, ℕ, zero, suc, ◌+◌, ◌-◌, ◌%◌, ◌<◌, ◌≤◌, ◌⊎◌, inl, inr, List, [], ◌∷◌, ◌++◌, length, take, drop, get_or, ext_get_or, Option, None, Some, refl, sym, ap, ◌∙◌, arith, length-set, get_or-set_same, get_or-set_other, set, add-mod-mod, add-mod_right, mod-add-mod, mod-eq_of_lt, mod-eq-sub-mod, mod-lt, dec_lt, common_steps, slice_get_cases, slice_get_past, slice_get, filter_map, range_with_len, slice_get-drop, slot_after, SlotsHold, items_from}
+use Rattle.ringbuffer.proofs.Words.{◌≡◌, ℕ, zero, suc, ◌+◌, ◌-◌, ◌%◌, ◌<◌, ◌≤◌, ◌⊎◌, inl, inr, List, [], ◌∷◌, length, ext_get_or, Option, None, refl, sym, ap, ◌∙◌, arith, add-mod-mod, add-mod_right, mod-add-mod, mod-eq_of_lt, mod-eq-sub-mod, mod-lt, dec_lt, slice_get, filter_map, range_with_len, slot_after, SlotsHold, items_from}
 
 -- a place counted round is the sum, less the size where the sum reaches it
 pub wrap : (start k size : ℕ) → start < size → k ≤ size → ((start + k < size) × ((start + k) % size ≡ start + k)) ⊎ ((size ≤ start + k) × ((start + k) % size ≡ start + k - size))

@@ -1,4 +1,4 @@
-use Rattle.ringbuffer.proofs.Words.{arith, refl, sym, ◌∙◌, ap, length-set, view_from, after_write}
+use Rattle.ringbuffer.proofs.Words.{arith, refl, sym, ◌∙◌, ap, length-set, after_write}
 use Rattle.ringbuffer.proofs.LaysOut.{IsSound-after, LaysOut-write}
 use Rattle.ringbuffer.proofs.fixed.FixedRing.at_mut.Goals as goal
 

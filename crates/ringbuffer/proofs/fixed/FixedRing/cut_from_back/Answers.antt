@@ -1,4 +1,4 @@
-use Rattle.ringbuffer.proofs.Words.{arith, inr, refl, view_from, ◌+◌, ◌-◌, ◌≡◌}
+use Rattle.ringbuffer.proofs.Words.{arith, inr, refl, ◌-◌, ◌≡◌}
 use Rattle.ringbuffer.proofs.Gap.{all_before, cut_fits, goes_over}
 use Rattle.ringbuffer.proofs.fixed.FixedRing.cut_from_back.Goals as goal
 

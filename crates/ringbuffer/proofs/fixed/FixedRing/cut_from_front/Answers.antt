@@ -1,4 +1,4 @@
-use Rattle.ringbuffer.proofs.Words.{arith, inl, refl, view_from, ◌-◌, ◌≡◌}
+use Rattle.ringbuffer.proofs.Words.{arith, inl, refl, ◌≡◌}
 use Rattle.ringbuffer.proofs.Gap.{all_behind, cut_fits, goes_over}
 use Rattle.ringbuffer.proofs.fixed.FixedRing.cut_from_front.Goals as goal
 

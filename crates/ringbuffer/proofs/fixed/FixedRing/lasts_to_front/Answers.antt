@@ -1,4 +1,4 @@
-use Rattle.ringbuffer.proofs.Words.{◌≡◌, ◌-◌, ◌<◌, Some, View, after_pop, after_put_first, ap, arith, length, slice_get, sym, rotated, view_from}
+use Rattle.ringbuffer.proofs.Words.{◌≡◌, ◌-◌, ◌<◌, Some, View, after_pop, after_put_first, ap, arith, length, slice_get, rotated, view_from}
 use Rattle.ringbuffer.proofs.LaysOut.{LaysOut-then}
 use Rattle.ringbuffer.proofs.Rotations.{after_lasts_to_front-more}
 use Rattle.ringbuffer.proofs.fixed.FixedRing.lasts_to_front.Goals as goal

@@ -1,4 +1,4 @@
-use Rattle.ringbuffer.proofs.Words.{◌≡◌, ◌+◌, ◌*◌, List, View, after_rewrite, arith, ap, ◌∙◌, refl, view_from}
+use Rattle.ringbuffer.proofs.Words.{◌≡◌, ◌+◌, ◌*◌, View, after_rewrite, arith, ap, ◌∙◌, refl}
 use Rattle.ringbuffer.proofs.Stretches.{stretch_is}
 use Rattle.ringbuffer.proofs.MadeContiguous.{held_beside, rewritten}
 use Rattle.ringbuffer.proofs.fixed.FixedRing.make_contiguous.Given.{Over}
