@@ -1,5 +1,5 @@
 -- What stands while the items of a ring are asked about in turn, and each that is kept moves down after those kept before it.
-use Rattle.ringbuffer.proofs.Words.{◌≡◌, ℕ, ◌+◌, ◌-◌, ◌%◌, ◌<◌, ◌≤◌, Bool, true, false, List, [], ◌∷◌, ◌++◌, if◌then◌else◌, inr, length, drop, nat_lt, None, Some, refl, sym, ap, ◌∙◌, arith, append-nil, append_assoc, length-append, length-set, slice_get, slice_get_cases, slot_at, Slots, changed, Moves, View, IsLaidOut, IsFullAt, LaysApart, LaysOut, items_from, view_from, subst}
+use Rattle.ringbuffer.proofs.Words.{◌≡◌, ℕ, ◌+◌, ◌-◌, ◌%◌, ◌<◌, ◌≤◌, Bool, true, false, List, [], ◌∷◌, ◌++◌, if◌then◌else◌, inr, length, drop, nat_lt, None, Some, refl, sym, ap, ◌∙◌, arith, append-nil, common_steps, append_assoc, length-append, length-set, slice_get, slice_get_cases, slot_at, Slots, changed, Moves, View, IsLaidOut, IsFullAt, LaysApart, LaysOut, items_from, view_from, subst}
 use Rattle.std.proofs.lemmas.Bool.Decides.{nat_tests}
 use Rattle.std.proofs.lemmas.List.{places}
 use Rattle.std.specs.List.{items_where_true}
@@ -11,8 +11,7 @@ use Rattle.ringbuffer.proofs.LaysOut.{slice_get_some}
 
 -- the rest begins with what comes first after the others
 first_after : {A : Type 0} (xs rest : List A) (x : A) → 0 < length rest → slice_get (xs ++ rest) (length xs) ≡ Some x → rest ≡ x ∷ drop 1 rest
-first_after xs [] x some is = absurd (omega (arith, some))
-first_after xs (y ∷ ys) x some is = let same : Some y ≡ Some x = sym (slice_get-at xs y ys) ∙ is in cc
+first_after xs rest x some is = grind (arith, common_steps, slice_get_cases)
 
 -- the items after one that is taken come a place before
 one_less : {A : Type 0} (xs ys : List A) (y : A) (k : ℕ) → slice_get (xs ++ ys) k ≡ (if nat_lt k (length xs) then slice_get (xs ++ y ∷ ys) k else slice_get (xs ++ y ∷ ys) (k + 1))

@@ -91,10 +91,7 @@ module _ {X : Type 0} (s : Slots X) (start : ℕ) (laid_out : IsLaidOut s start)
       let placed : place < size = rw found (mod-lt (start + (size - 1)) (omega arith)) in let before = wrap start (size - 1) size starts (omega arith) in
       rw is (LaysOut-items (changed s place (Some x)) place (x ∷ items) same_size refl placed (omega arith) (λ k within.
       let low : k < size = rw same_size at within in let round = wrap place k size placed (omega arith) in let next = wrap start (k - 1) size starts (omega arith) in
-      rw same_size (elim (dec_lt 0 k) [
-        | yes behind ↦ grind (arith, laid_out.layout (k - 1), found, before, round, next, get_or-set_other, slice_get-drop 1 (k - 1) (x ∷ items))
-        | no first ↦ let is : k ≡ 0 = omega arith in rw is (grind (arith, round, placed, get_or-set_same))
-      ])))
+      rw same_size (grind (arith, laid_out.layout (k - 1), found, before, round, next, placed, get_or-set_same, get_or-set_other, slice_get-drop 1 (k - 1) (x ∷ items), slice_get_cases))))
 
   -- the place after the last, seen from the start or from the next
   pub same_place : (len : ℕ) → 0 < len → len ≤ length s.slots → (start + len) % length s.slots ≡ ((start + 1) % length s.slots + (len - 1)) % length s.slots

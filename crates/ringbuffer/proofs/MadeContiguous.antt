@@ -14,11 +14,8 @@ module _ {X : Type 0} (size start : ℕ) (xs : List X) (fit : start + length xs 
 
   SlotsHold-beside : start < size → SlotsHold (beside size start xs) start xs
   SlotsHold-beside within k low =
-      let long = length-beside in
-      elim (wrap start k size within (omega arith)) [
-        | inl a ↦ rw (long, a.1) (grind (arith, get_or_append_left, get_or-append_right, get_or-replicate, get_or_past, get_or-map_some, length-append, length-map, length-replicate, slice_get_past))
-        | inr a ↦ rw (long, a.1) (grind (arith, common_steps, slice_get_cases))
-      ]
+      let long = length-beside in let round = wrap start k size within (omega arith) in
+      rw long (grind (arith, round, get_or_append_left, get_or-append_right, get_or-replicate, get_or_past, get_or-map_some, length-append, length-map, length-replicate, slice_get_past))
 
   from_start : drop start (beside size start xs) ≡ map Some xs ++ replicate (size - (start + length xs)) None
   from_start = grind (arith, common_steps)
