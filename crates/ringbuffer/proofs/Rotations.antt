@@ -1,5 +1,5 @@
 -- Items that go round a ring.
-use Rattle.ringbuffer.proofs.Words.{◌≡◌, ℕ, suc, ◌+◌, ◌-◌, ◌<◌, ◌≤◌, List, [], ◌∷◌, ◌++◌, Some, add-one, ap, append_assoc, arith, common_steps, drop, ext_get_or, drop-cons, get_or, length, refl, slice_get, sym, take, take-suc, rotated, View, after_pop, after_put, after_put_first, after_take, after_firsts_to_back, after_lasts_to_front, ◌∙◌}
+use Rattle.ringbuffer.proofs.Words.{slice_get_cases, ◌≡◌, ℕ, suc, ◌+◌, ◌-◌, ◌<◌, ◌≤◌, List, [], ◌∷◌, ◌++◌, Some, add-one, ap, append_assoc, arith, common_steps, drop, ext_get_or, drop-cons, get_or, length, refl, slice_get, sym, take, take-suc, rotated, View, after_pop, after_put, after_put_first, after_take, after_firsts_to_back, after_lasts_to_front, ◌∙◌}
 use Rattle.std.proofs.lemmas.Grind.{elements}
 use Rattle.std.proofs.lemmas.Option.{get_or_from_slice_get}
 use Rattle.ringbuffer.proofs.RepeatedSteps.{view_is}
@@ -22,11 +22,8 @@ module _ {X : Type 0} where
 
   pub after_firsts_to_back-more : (n : ℕ) (v : View X) (x : X) → n < length v.items → slice_get (rotated n v.items) 0 ≡ Some x → after_put (after_take (after_firsts_to_back n v)) x ≡ after_firsts_to_back (n + 1) v
   after_firsts_to_back-more n v x low first =
-      let xs = v.items in
-      let behind : drop n xs ≡ get_or xs n x ∷ drop (suc n) xs = drop-cons xs n x low in
-      let is : get_or xs n x ≡ x = let e : Some (get_or xs n x) ≡ Some x = sym (ap (λ l. slice_get (l ++ take n xs) 0) behind) ∙ first in cc in
-      let some : 0 < length (rotated n xs) = rw behind (omega arith) in
-      view_is (rw (add-one, take-suc xs n x low, behind, is) (append_assoc (drop (suc n) xs) (take n xs) (x ∷ []))) (omega arith) refl
+      let behind = drop-cons v.items n x low in let before = take-suc v.items n x low in
+      view_is (grind (arith, common_steps, slice_get_cases, behind, before)) (grind (arith, common_steps)) refl
 
   -- one more item goes from the back to the front
   pub after_lasts_to_front-more : (n : ℕ) (v : View X) (x : X) → n < length v.items → slice_get (rotated (length v.items - n) v.items) (length v.items - 1) ≡ Some x
