@@ -46,8 +46,7 @@ module _ {X : Type 0} where
 
   -- a ring that holds as many as it may holds as many after an extension
   pub after_extend-full : (capacity : ℕ) (v : View X) (ys : List X) → capacity ≡ length v.items → length (after_extend capacity v ys).items ≡ capacity
-  after_extend-full capacity v ys full =
-      let all = v.items ++ ys in omega (arith, full, length-append v.items ys, length-drop (length all - capacity) all)
+  after_extend-full capacity v ys full = grind (arith, common_steps)
 
   -- what a limit leaves of two lists: all that fits of the first before what it leaves of the second
   keep_last-append : (n : ℕ) (xs ys : List X) → keep_last (Some (n - length ys)) xs ++ keep_last (Some n) ys ≡ keep_last (Some n) (xs ++ ys)

@@ -1,4 +1,4 @@
-use Rattle.ringbuffer.proofs.Words.{[], ◌∷◌, ◌++◌, add-one, append_assoc, drop-append-le, drop-drop, option_to_list, take-suc_get, ◌≡◌, ◌+◌, ◌%◌, ◌<◌, ◌≤◌, ◌∙◌, ℕ, IsFullAt, LaysOut, List, None, Slots, Some, View, after_put, after_puts, after_take, after_takes, ap, append-nil, arith, changed, drop, items_from, length, length-append, length-drop, length-take, mod-eq_of_lt, refl, slice_get, subst, sym, take, take_all, view_from}
+use Rattle.ringbuffer.proofs.Words.{[], ◌∷◌, ◌++◌, add-one, append_assoc, drop-append-le, drop-drop, option_to_list, take-suc_get, ◌≡◌, ◌+◌, ◌%◌, ◌<◌, ◌≤◌, ◌∙◌, ℕ, IsFullAt, LaysOut, List, None, Slots, Some, View, after_put, after_puts, after_take, after_takes, ap, append-nil, arith, changed, common_steps, slice_get_cases, drop, items_from, length, length-append, length-drop, length-take, mod-eq_of_lt, refl, slice_get, subst, sym, take, take_all, view_from}
 use Rattle.std.proofs.lemmas.Option.{slice_get_read}
 use Rattle.ringbuffer.proofs.LaysOut.{LaysOut-none, LaysOut-replace, LaysOut-then, first_full}
 use Rattle.ringbuffer.proofs.RepeatedSteps.{view_is}
@@ -7,10 +7,8 @@ use Rattle.ringbuffer.proofs.fixed.FixedRing.replace_contiguous.Goals as goal
 puts_more : {X : Type 0} (v : View X) (xs : List X) (k : ℕ) (x : X) → k < length v.items → slice_get xs k ≡ Some x
     → after_put (after_take (after_puts (take k xs) (after_takes k v))) x ≡ after_puts (take (k + 1) xs) (after_takes (k + 1) v)
 puts_more v xs k x low is =
-    let rest = drop k v.items in let left = length-drop k v.items in
-    let taken : take (k + 1) xs ≡ take k xs ++ x ∷ [] = ap (λ n. take n xs) (add-one k) ∙ take-suc_get xs k ∙ ap (λ o. take k xs ++ option_to_list o) is in
-    let items = ap (λ l. l ++ x ∷ []) (drop-append-le 1 rest (take k xs) (omega arith) ∙ ap (λ l. l ++ take k xs) (drop-drop 1 k v.items)) ∙ append_assoc (drop (k + 1) v.items) (take k xs) (x ∷ []) in
-    view_is (items ∙ ap (λ l. drop (k + 1) v.items ++ l) (sym taken)) (omega (arith, ap length taken, length-append (take k xs) (x ∷ []), length-append rest (take k xs))) refl
+    let rest = drop k v.items in let left = length-drop k v.items in let taken = take-suc_get xs k in let next = drop-drop 1 k v.items in let others = drop-append-le 1 rest (take k xs) (omega arith) in
+    view_is (grind (arith, common_steps, slice_get_cases)) (grind (arith, common_steps, slice_get_cases)) refl
 
 -- the next slot holds the oldest item still, and one more is put in its place
 module _ {X : Type 0} (s mid : Slots X) (start k : ℕ) (xs : List X) (full : length (items_from s.slots start) ≡ length s.slots) (contiguous : start + length xs ≤ length s.slots) (low : k < length xs)
