@@ -3,7 +3,6 @@ use Rattle.ringbuffer.proofs.Words.{◌≡◌, ℕ, ◌+◌, ◌-◌, ◌%◌, �
 use Rattle.std.proofs.lemmas.Bool.Decides.{nat_tests}
 use Rattle.std.proofs.lemmas.List.{places}
 use Rattle.std.specs.List.{items_where_true}
-use Rattle.ring_core.proofs.Items.{slice_get-at}
 use Rattle.ring_core.proofs.RetainedItems.{Asks, asks_all, asks_more, asks_none, none_left, picked, picked_few, picked_more, rest_more, some_left}
 use Rattle.ringbuffer.specs.Retaining.{Retains}
 use Rattle.ringbuffer.proofs.Gap.{all_before, goes_over, lays_apart, read_set, reads}

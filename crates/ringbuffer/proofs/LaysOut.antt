@@ -1,5 +1,5 @@
 -- What the inner steps of a ring do to what it shows.
-use Rattle.ringbuffer.proofs.Words.{◌≡◌, ◌≢◌, ℕ, suc, ◌+◌, ◌-◌, ◌%◌, ◌<◌, ◌≤◌, List, [], ◌∷◌, ◌++◌, drop, length, take, Option, None, Some, refl, sym, ap, ◌∙◌, arith, get_or, get_or-set_other, get_or-set_same, replicate, length-set, slice_get-drop, length-append, slice_get, min, IsSome, set, mod-eq_of_lt, mod-lt, common_steps, get_or-replicate, length-drop, length-replicate, length-take, slice_get_cases, slice_get_past, Slots, slot_at, IsEmptyAt, IsFullAt, changed, View, after_pop, after_put, after_take, after_write, SlotsHold, items_from, view_from, IsLaidOut, IsSound, LaysOut, after_put_first, dec_lt, add-mod_right}
+use Rattle.ringbuffer.proofs.Words.{◌≡◌, ◌≢◌, ℕ, suc, ◌+◌, ◌-◌, ◌%◌, ◌<◌, ◌≤◌, List, [], ◌∷◌, ◌++◌, drop, length, take, Option, None, Some, refl, sym, ap, ◌∙◌, arith, get_or, get_or-set_other, get_or-set_same, replicate, length-set, slice_get-drop, length-append, slice_get, min, IsSome, set, mod-eq_of_lt, mod-lt, common_steps, get_or-replicate, length-drop, length-replicate, length-take, slice_get_cases, slice_get_past, Slots, slot_at, IsEmptyAt, IsFullAt, changed, View, after_pop, after_put, after_take, after_write, SlotsHold, items_from, view_from, IsLaidOut, IsSound, LaysOut, after_put_first, add-mod_right}
 use Rattle.ringbuffer.proofs.RepeatedSteps.{view_is}
 use Rattle.ringbuffer.proofs.SlotsHold.{items_from-SlotsHold, SlotsHold-same, count_on, same_count, wrap}
 
