@@ -117,14 +117,9 @@ module _ {X : Type 0} {limit : ℕ → ℕ} (s : Slots X) (start len : ℕ) (sou
   second_there : SideBySide s start (i + first) (count - first) 0
   second_there =
       let size = length s.slots in let fit = sound.laid_out.fit in
-      record {
-        laid_out = sound.laid_out;
-        low = omega (arith, low);
-        fit = omega (arith, low);
-        found = λ some.
-            let ends : place + first ≡ size = omega (arith, within) in
-            sym (mod_self size) ∙ ap (λ n. n % size) {x = size} {y = (start + i) % size + first} (omega (arith, found, ends)) ∙ count_on start i first (i + first) size refl;
-      }
+      let round : 0 < count - first → 0 ≡ (start + (i + first)) % size = λ some. let ends : place + first ≡ size = omega (arith, within) in
+      sym (mod_self size) ∙ ap (λ n. n % size) {x = size} {y = (start + i) % size + first} (omega (arith, found, ends)) ∙ count_on start i first (i + first) size refl in
+      record { laid_out = sound.laid_out; low = omega (arith, low); found = round; fit = omega (arith, low) }
 
   all_here : take first (drop i here) ++ take (count - first) (drop (i + first) here) ≡ take count (drop i here)
   all_here = let all : first + (count - first) ≡ count = omega arith in rw (← drop-drop, ← take-add, all) refl

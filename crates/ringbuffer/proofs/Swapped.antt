@@ -35,17 +35,5 @@ module _ {X : Type 0} (s : Slots X) (start i j a b : ℕ) (laid_out : IsLaidOut 
       rw (is, gone, ← three, ← swap_is items i j x i_low j_low, y_is, x_is)
       (LaysOut-items s start laid_out (changed (changed (changed s a None) b (Some x)) a (Some y)) start (set (set items i y) j x) (simp length-set) refl starts (simp length-set fit) (λ k within.
       let low : k < size = simp length-set at within in let fields = laid_out.layout k low in
-      simp length-set (grind (
-        arith,
-        nat_tests,
-        a_is,
-        b_is,
-        fields,
-        read_two items i j k x y i_low j_low,
-        same_count start k i size starts low,
-        same_count start k j size starts low,
-        mod-lt,
-        length-set,
-        get_or-set_same,
-        get_or-set_other,
-      ))))
+      let at_i = same_count start k i size starts low in let at_j = same_count start k j size starts low in let read = read_two items i j k x y i_low j_low in
+      simp length-set (grind (arith, nat_tests, a_is, b_is, fields, at_i, at_j, read, mod-lt, length-set, get_or-set_same, get_or-set_other))))
