@@ -1,5 +1,5 @@
 -- What steps repeated come to.
-use Rattle.ringbuffer.proofs.Words.{◌≡◌, ℕ, suc, ◌+◌, ◌-◌, ◌<◌, ◌≤◌, List, Some, ap, sym, ◌∙◌, [], ◌∷◌, ◌++◌, length, take, refl, arith, append_assoc, append-nil, length-append, length-drop, min, option_to_list, slice_get, drop-length, drop-append-le, drop_min, take_all, View, after_put, after_puts, after_take, after_takes, after_clear, after_push, after_extend, after_extend_from_slice, after_keep_newest, keep_last, drop-append, take-suc_get, keep_last-keep_last}
+use Rattle.ringbuffer.proofs.Words.{common_steps, ◌≡◌, ℕ, suc, ◌+◌, ◌-◌, ◌<◌, ◌≤◌, List, Some, ap, sym, ◌∙◌, [], ◌∷◌, ◌++◌, length, take, refl, arith, append_assoc, append-nil, length-append, length-drop, min, option_to_list, slice_get, drop-length, drop-append-le, drop_min, take_all, View, after_put, after_puts, after_take, after_takes, after_clear, after_pop, after_push, after_push_front, after_put_first, after_extend, after_extend_from_slice, after_keep_newest, keep_last, drop-append, take-suc_get, keep_last-keep_last}
 
 -- two views are equal part by part
 pub view_is : {X : Type 0} {v w : View X} → v.items ≡ w.items → v.changes ≡ w.changes → v.capacity ≡ w.capacity → v ≡ w
@@ -25,6 +25,10 @@ module _ {X : Type 0} where
       let one : length (v.items ++ x ∷ []) - capacity ≡ 1 = omega (arith, length-append v.items (x ∷ [])) in
       view_is (rw (one, drop-append-le 1 v.items (x ∷ []) (omega arith)) refl) (omega arith) refl
 
+  -- a push in front where there is no room
+  pub after_push_front-full : (capacity : ℕ) (v : View X) (x : X) → length v.items ≡ capacity → 0 < capacity → after_put_first (after_pop v) x ≡ after_push_front capacity v x
+  after_push_front-full capacity v x full some = let more : capacity ≡ suc (length v.items - 1) = omega arith in view_is (rw more refl) (omega arith) refl
+
   -- one extension, and then another
   pub after_extend-then : (capacity : ℕ) (v : View X) (xs ys : List X) → after_extend capacity (after_extend capacity v xs) ys ≡ after_extend capacity v (xs ++ ys)
   after_extend-then capacity v xs ys =
@@ -42,16 +46,11 @@ module _ {X : Type 0} where
 
   -- a ring that holds as many as it may holds as many after an extension
   pub after_extend-full : (capacity : ℕ) (v : View X) (ys : List X) → capacity ≡ length v.items → length (after_extend capacity v ys).items ≡ capacity
-  after_extend-full capacity v ys full =
-      let all = v.items ++ ys in omega (arith, full, length-append v.items ys, length-drop (length all - capacity) all)
+  after_extend-full capacity v ys full = grind (arith, common_steps)
 
   -- what a limit leaves of two lists: all that fits of the first before what it leaves of the second
   keep_last-append : (n : ℕ) (xs ys : List X) → keep_last (Some (n - length ys)) xs ++ keep_last (Some n) ys ≡ keep_last (Some n) (xs ++ ys)
-  keep_last-append n xs ys =
-      let cut = length (xs ++ ys) - n in
-      let front : length xs - (n - length ys) ≡ min cut (length xs) = omega (arith, length-append xs ys) in
-      let back : length ys - n ≡ cut - length xs = omega (arith, length-append xs ys) in
-      rw (front, back, drop_min) (drop-append cut xs ys)
+  keep_last-append n xs ys = grind (arith, common_steps, drop-append (length (xs ++ ys) - n) xs ys, drop_min)
 
   module _ (limit : ℕ) (v : View X) (xs newest : List X) (is : newest ≡ keep_last (Some limit) xs) where
     long : length newest ≡ min (length xs) limit

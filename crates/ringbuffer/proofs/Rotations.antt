@@ -1,5 +1,5 @@
 -- Items that go round a ring.
-use Rattle.ringbuffer.proofs.Words.{◌≡◌, ℕ, suc, ◌+◌, ◌-◌, ◌<◌, ◌≤◌, List, [], ◌∷◌, ◌++◌, Some, add-one, ap, append-nil, append_assoc, arith, common_steps, drop, ext_get_or, drop-cons, get_or, length, refl, slice_get, sym, take, take-suc, rotated, View, after_pop, after_put, after_put_first, after_rotate, after_take, after_firsts_to_back, after_lasts_to_front, ◌∙◌}
+use Rattle.ringbuffer.proofs.Words.{slice_get_cases, ◌≡◌, ℕ, ◌+◌, ◌-◌, ◌<◌, ◌≤◌, List, [], ◌∷◌, ◌++◌, Some, ap, arith, common_steps, drop, ext_get_or, drop-cons, length, refl, slice_get, sym, take, take-suc, rotated, View, after_pop, after_put, after_put_first, after_take, after_firsts_to_back, after_lasts_to_front, ◌∙◌}
 use Rattle.std.proofs.lemmas.Grind.{elements}
 use Rattle.std.proofs.lemmas.Option.{get_or_from_slice_get}
 use Rattle.ringbuffer.proofs.RepeatedSteps.{view_is}
@@ -20,19 +20,10 @@ module _ {X : Type 0} where
   ends_with : (n : ℕ) (xs : List X) (x : X) → n + 1 ≡ length xs → slice_get xs n ≡ Some x → drop n xs ≡ x ∷ []
   ends_with n xs x long is = grind (arith, common_steps, drop-cons xs n x (omega arith), get_or_from_slice_get)
 
-  pub after_firsts_to_back-none : (v : View X) → after_firsts_to_back 0 v ≡ v
-  after_firsts_to_back-none v = view_is (append-nil v.items) (omega arith) refl
-
   pub after_firsts_to_back-more : (n : ℕ) (v : View X) (x : X) → n < length v.items → slice_get (rotated n v.items) 0 ≡ Some x → after_put (after_take (after_firsts_to_back n v)) x ≡ after_firsts_to_back (n + 1) v
   after_firsts_to_back-more n v x low first =
-      let xs = v.items in
-      let behind : drop n xs ≡ get_or xs n x ∷ drop (suc n) xs = drop-cons xs n x low in
-      let is : get_or xs n x ≡ x = let e : Some (get_or xs n x) ≡ Some x = sym (ap (λ l. slice_get (l ++ take n xs) 0) behind) ∙ first in cc in
-      let some : 0 < length (rotated n xs) = rw behind (omega arith) in
-      view_is (rw (add-one, take-suc xs n x low, behind, is) (append_assoc (drop (suc n) xs) (take n xs) (x ∷ []))) (omega arith) refl
-
-  pub after_lasts_to_front-none : (v : View X) → after_lasts_to_front 0 v ≡ v
-  after_lasts_to_front-none v = view_is (grind (arith, common_steps)) (omega arith) refl
+      let behind = drop-cons v.items n x low in let before = take-suc v.items n x low in
+      view_is (grind (arith, common_steps, slice_get_cases, behind, before)) (grind (arith, common_steps)) refl
 
   -- one more item goes from the back to the front
   pub after_lasts_to_front-more : (n : ℕ) (v : View X) (x : X) → n < length v.items → slice_get (rotated (length v.items - n) v.items) (length v.items - 1) ≡ Some x
@@ -41,11 +32,3 @@ module _ {X : Type 0} where
       let xs = v.items in let ys = rotated (length xs - n) xs in let long = length-rotated (length xs - n) xs (omega arith) in
       let past : length xs - n + (length xs - 1) - length xs ≡ length xs - (n + 1) = omega arith in let least : length ys - 1 ≡ length xs - 1 = omega arith in
       view_is (rw least (ap (λ l. l ++ take (length xs - 1) ys) (sym (ends_with (length xs - 1) ys x (omega arith) last)) ∙ rw past at (rotated_past (length xs - n) (length xs - 1) xs x (omega arith) (omega arith) (omega arith)))) (omega arith) refl
-
-module _ {X : Type 0} (i : ℕ) (v : View X) where
-  -- a rotation turns the shorter way
-  pub after_rotate-left : i ≤ length v.items - i → after_firsts_to_back i v ≡ after_rotate i v
-  after_rotate-left few = view_is refl (omega arith) refl
-
-  pub after_rotate-right : length v.items - i ≤ i → i ≤ length v.items → after_lasts_to_front (length v.items - i) v ≡ after_rotate i v
-  after_rotate-right few low = view_is (ap (λ n. rotated n v.items) {y = i} (omega arith)) (omega arith) refl

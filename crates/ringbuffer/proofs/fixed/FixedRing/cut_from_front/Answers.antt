@@ -1,38 +1,17 @@
-use Rattle.ringbuffer.proofs.Words.{refl, ◌%◌, ap, arith, sym, view_from, ◌+◌, ◌-◌, ◌∙◌, subst, LaysApart, after_cut}
-use Rattle.ringbuffer.proofs.Gap.{cut_fits, cut_more, last_of_front, moved_up, all_behind}
+use Rattle.ringbuffer.proofs.Words.{arith, inl, refl, ◌≡◌}
+use Rattle.ringbuffer.proofs.Gap.{all_behind, cut_fits, goes_over}
 use Rattle.ringbuffer.proofs.fixed.FixedRing.cut_from_front.Goals as goal
-
-pub loop-moved-init : goal.loop-moved-init
-loop-moved-init g c =
-    let old = g.S.RingSlots.seen c.args.slots.now in let from = c.args.from in let to = c.args.to in let start = c.args.span.start in
-    subst (λ n. LaysApart old (g.S.RingSlots.seen c.drop_items.new.slots) start n (to - from) (after_cut from to 0 (view_from old start))) {x = from} {y = from - 0} (omega arith) c.drop_items.ensures.apart
-
--- The next item lies before the gap, whose last slot is empty.
-pub move_item-requires : goal.move_item-requires
-move_item-requires g c =
-    let v = view_from (g.S.RingSlots.seen c.args.slots.now) c.args.span.start in let from = c.args.from in let to = c.args.to in let n = c.loop-moved.moved in
-    let r = c.requires in let fit = r.span.laid_out.fit in let long = cut_fits from to n v (omega arith) (omega (arith, r.span.len)) in let apart = c.loop-moved.invariant in let same = apart.same_size in
-    let (full, empty) = last_of_front _ _ c.args.span.start (from - n) (to - from) _ (omega (arith, long)) (omega arith) apart (from - 1 - n) (omega (arith, c.loop-moved-test.true)) (omega (arith, long, r.span.len)) in
-    record { start = rw same r.span.laid_out.start_within; from = omega (arith, same, r.span.len, r.within, c.loop-moved-test.true); to = omega (arith, same, r.span.len, r.within, c.loop-moved-test.true); full = full; empty = empty }
 
 -- One more item is on the other side.
 pub loop-moved-preserved : goal.loop-moved-preserved
 loop-moved-preserved g c =
-    let v = view_from (g.S.RingSlots.seen c.args.slots.now) c.args.span.start in let from = c.args.from in let to = c.args.to in let n = c.loop-moved.moved in
-    let r = c.requires in let fit = r.span.laid_out.fit in let long = cut_fits from to n v (omega arith) (omega (arith, r.span.len)) in let apart = c.loop-moved.invariant in let same = apart.same_size in
-    moved_up _ _ c.args.span.start (from - n) (to - from) _ (omega (arith, long)) (omega arith) apart _ (from - 1 - n) (omega (arith, c.loop-moved-test.true)) (omega (arith, long, r.span.len)) c.move_item.ensures _ _ (omega (arith, c.loop-moved-test.true)) (cut_more from to n v)
-
-pub place-requires : goal.place-requires
-place-requires g c =
-    let r = c.requires in let same = c.loop-moved.invariant.same_size in let fit = r.span.laid_out.fit in
-    record { start = rw same r.span.laid_out.start_within; count = omega (arith, same, r.span.len, r.within) }
+    let r = c.requires in let n = c.loop-moved.moved in let (left, fit) = cut_fits r.span.laid_out r.span.len c.args.from c.args.to (omega arith) r.within n in
+    goes_over c.loop-moved.invariant (omega (arith, left, fit)) (omega arith) _ _ _ (inl (refl, omega (arith, c.loop-moved-test.true), omega arith))
+    (omega (arith, left, r.within)) (omega (arith, left, r.within)) _ _ c.move_item.ensures refl (omega arith)
 
 -- All of them are.
 pub returns : goal.returns
 returns g c =
-    let v = view_from (g.S.RingSlots.seen c.args.slots.now) c.args.span.start in let from = c.args.from in let to = c.args.to in let n = c.loop-moved.moved in
-    let r = c.requires in let fit = r.span.laid_out.fit in let long = cut_fits from to n v (omega arith) (omega (arith, r.span.len)) in let apart = c.loop-moved.invariant in let same = apart.same_size in
-    let all = all_behind _ _ c.args.span.start (from - n) (to - from) _ r.span.laid_out (omega (arith, long)) refl apart (omega (arith, c.loop-moved-test.false)) in
-    let next = c.place.ensures ∙ ap (λ k. (c.args.span.start + (to - from)) % k) same in
-    let whole = ap (λ k. after_cut from to k v) {x = n} {y = from} (omega (arith, c.loop-moved-test.false, c.loop-moved.auto.moved-end)) in
-    rw (next, sym whole) all
+    let r = c.requires in let n = c.loop-moved.moved in let (left, fit) = cut_fits r.span.laid_out r.span.len c.args.from c.args.to (omega arith) r.within n in
+    let all : n ≡ c.args.from = omega (arith, c.loop-moved-test.false, c.loop-moved.auto.moved-end) in
+    rw (c.place.ensures, c.loop-moved.invariant.same_size) (rw all at (all_behind c.loop-moved.invariant r.span.laid_out (omega (arith, left, fit)) refl (omega (arith, all))))

@@ -1,5 +1,5 @@
 use Rattle.ringbuffer.proofs.Words.{◌-◌, ap}
-use Rattle.ringbuffer.proofs.EmptiedStretches.{first_emptied, second_emptied, LaysApart-cut, LaysOut-takes, LaysOut-truncate}
+use Rattle.ringbuffer.proofs.Gap.{LaysApart-cut, LaysOut-takes, LaysOut-truncate, first_emptied, second_emptied}
 use Rattle.ringbuffer.proofs.fixed.FixedRing.drop_items.Goals as goal
 
 -- Each stretch is full before it is emptied.
@@ -16,11 +16,8 @@ empty_stretch-requires-2-clause-full g c =
 
 pub returns : goal.returns
 returns g c =
-    let left = ap (λ n. n - c.args.start) c.size.ensures.value in
+    let r = c.requires in let left = ap (λ n. n - c.args.start) c.size.ensures.value in
     let first = rw (c.min.ensures, c.min-2.ensures) at c.empty_stretch.ensures in
     let second = rw (c.saturating_sub.ensures, c.saturating_sub-2.ensures) at c.empty_stretch-2.ensures in
-    record {
-      first = LaysOut-takes _ _ c.requires.laid_out _ _ _ c.requires.order c.requires.within left _ first _ second;
-      last = LaysOut-truncate _ _ c.requires.laid_out _ _ _ c.requires.order c.requires.within left _ first _ second;
-      apart = LaysApart-cut _ _ c.requires.laid_out _ _ _ c.requires.order c.requires.within left _ first _ second;
-    }
+    let apart = LaysApart-cut _ _ r.laid_out _ _ _ r.order r.within left _ first _ second in
+    record { first = LaysOut-takes _ _ _ r.laid_out _ _ r.order r.within apart; last = LaysOut-truncate _ _ _ r.laid_out _ _ r.order r.within apart; apart = apart }

@@ -1,12 +1,7 @@
 use Rattle.ringbuffer.proofs.Words.{◌≡◌, ◌<◌, ◌∙◌, Some, View, after_put, after_take, ap, arith, length, slice_get, sym, rotated, view_from}
-use Rattle.ringbuffer.proofs.LaysOut.{LaysOut-none, LaysOut-then}
-use Rattle.ringbuffer.proofs.Rotations.{after_firsts_to_back-more, after_firsts_to_back-none}
+use Rattle.ringbuffer.proofs.LaysOut.{LaysOut-then}
+use Rattle.ringbuffer.proofs.Rotations.{after_firsts_to_back-more}
 use Rattle.ringbuffer.proofs.fixed.FixedRing.firsts_to_back.Goals as goal
-
-pub loop-init : goal.loop-init
-loop-init g c =
-    let s = g.S.RingSlots.seen c.args.slots.now in let start = c.args.span.start in
-    record { lays_out = rw (sym (after_firsts_to_back-none (view_from s start))) at (LaysOut-none s start c.requires.span.laid_out) }
 
 -- One more item goes from the front to the back.
 pub loop-preserved : goal.loop-preserved

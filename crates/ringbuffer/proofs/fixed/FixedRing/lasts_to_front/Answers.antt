@@ -1,12 +1,7 @@
-use Rattle.ringbuffer.proofs.Words.{◌≡◌, ◌-◌, ◌<◌, Some, View, after_pop, after_put_first, ap, arith, length, slice_get, sym, rotated, view_from}
-use Rattle.ringbuffer.proofs.LaysOut.{LaysOut-none, LaysOut-then}
-use Rattle.ringbuffer.proofs.Rotations.{after_lasts_to_front-more, after_lasts_to_front-none}
+use Rattle.ringbuffer.proofs.Words.{◌≡◌, ◌-◌, ◌<◌, Some, View, after_pop, after_put_first, ap, arith, length, slice_get, rotated, view_from}
+use Rattle.ringbuffer.proofs.LaysOut.{LaysOut-then}
+use Rattle.ringbuffer.proofs.Rotations.{after_lasts_to_front-more}
 use Rattle.ringbuffer.proofs.fixed.FixedRing.lasts_to_front.Goals as goal
-
-pub loop-init : goal.loop-init
-loop-init g c =
-    let s = g.S.RingSlots.seen c.args.slots.now in let start = c.args.span.start in
-    record { lays_out = rw (sym (after_lasts_to_front-none (view_from s start))) at (LaysOut-none s start c.requires.span.laid_out) }
 
 -- One more item goes from the back to the front.
 pub loop-preserved : goal.loop-preserved

@@ -1,25 +1,18 @@
-use Rattle.ringbuffer.proofs.Words.{Slots, ◌≡◌, ◌+◌, ◌-◌, ◌≤◌, ◌∙◌, ap, arith, beside, drop, items_from, length, sym, take_at, rotated}
+use Rattle.ringbuffer.proofs.Words.{Slots, ◌≡◌, ◌+◌, ◌≤◌, ◌∙◌, ap, arith, beside, drop, items_from, length, sym, take_at, rotated}
 use Rattle.ringbuffer.proofs.Rotations.{length-rotated, rotated_back}
 use Rattle.ringbuffer.proofs.Stretches.{stretch_is}
-use Rattle.ringbuffer.proofs.MadeContiguous.{beside-refilled, beside-stretch, between_empty, brought_contiguous, first_full, last_full, contiguous_fits}
+use Rattle.ringbuffer.proofs.MadeContiguous.{beside-refilled, beside-stretch, brought_contiguous, contiguous_fits, stretches}
 use Rattle.ringbuffer.proofs.fixed.FixedRing.move_contiguous.Goals as goal
 
 pub bring_first-requires : goal.bring_first-requires
 bring_first-requires g c =
-    let s = g.S.RingSlots.seen c.args.slots.now in let start = c.args.span.start in let len = c.args.span.len in let at = c.requires.span in
-    record {
-      some = at.laid_out.start_within;
-      room = omega (arith, c.size.ensures.value, c.if-span.true, c.if-first-span.true);
-      last = last_full s start at.laid_out len (c.size.result - start) at.len (omega (arith, c.size.ensures.value)) c.if-first-span.true;
-      first = first_full s start at.laid_out len (c.size.result - start) at.len (omega (arith, c.size.ensures.value)) c.if-first-span.true;
-      empty = between_empty s start at.laid_out len (c.size.result - start) at.len (omega (arith, c.size.ensures.value)) c.if-first-span.true;
-    }
+    let at = c.requires.span in let (last, first, empty) = stretches at.laid_out at.len c.if-first-span.true (omega (arith, c.size.ensures.value)) in
+    record { some = at.laid_out.start_within; room = omega (arith, c.size.ensures.value, c.if-span.true, c.if-first-span.true); last = last; first = first; empty = empty }
 
 -- Each item moved once.
 pub returns-then-span-clause-contiguous : goal.returns-then-span-clause-contiguous
 returns-then-span-clause-contiguous g c =
-    let s = g.S.RingSlots.seen c.args.slots.now in let at = c.requires.span in
-    ap (λ (s : Slots _). s.slots) c.bring_first.ensures ∙ brought_contiguous s c.args.span.start at.laid_out c.args.span.len (c.size.result - c.args.span.start) at.len (omega (arith, c.size.ensures.value)) c.if-first-span.true c.if-span.true
+    ap (λ (s : Slots _). s.slots) c.bring_first.ensures ∙ brought_contiguous c.requires.span.laid_out c.requires.span.len c.if-first-span.true (omega (arith, c.size.ensures.value)) c.if-span.true
 
 -- The items that were rotated are rotated back.
 pub returns-clause-contiguous : goal.returns-clause-contiguous

@@ -1,5 +1,5 @@
 use Rattle.ringbuffer.proofs.Words.{◌∷◌, ◌∙◌, ap, arith, after_push_front, slice_get_past, sym, view_from}
-use Rattle.ringbuffer.proofs.PutFirst.{after_push_front-full}
+use Rattle.ringbuffer.proofs.RepeatedSteps.{after_push_front-full}
 use Rattle.ringbuffer.proofs.fixed.FixedRing.push_front.Goals as goal
 
 -- The last item gives way to the new one.

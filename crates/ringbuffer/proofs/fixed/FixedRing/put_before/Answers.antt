@@ -1,6 +1,5 @@
 use Rattle.ringbuffer.proofs.Words.{arith}
-use Rattle.ringbuffer.proofs.LaysOut.{past_empty}
-use Rattle.ringbuffer.proofs.PutFirst.{LaysOut-put_first}
+use Rattle.ringbuffer.proofs.LaysOut.{LaysOut-put_first, past_empty}
 use Rattle.ringbuffer.proofs.fixed.FixedRing.put_before.Goals as goal
 
 -- The slot before the first is empty.

@@ -1,9 +1,8 @@
--- the items passed are in the place of the oldest
-use Rattle.ringbuffer.proofs.Words.{◌≡◌, ◌+◌, ◌*◌, take}
-use Rattle.ring_slots.specs.Slots.{filled}
+-- So far the items passed are the newest, in the place of as many oldest.
+use Rattle.ringbuffer.proofs.Words.{LaysOut, after_puts, after_takes, length, take, view_from, ◌%◌, ◌+◌}
 use Rattle.ringbuffer.proofs.fixed.FixedRing.replace_contiguous.Given as goal
 
 abbrev pub invariant-loop-k : goal.invariant-loop-k
 invariant-loop-k g l =
     let s = g.S.RingSlots.seen l.initial.slots in
-    g.S.RingSlots.seen l.slots ≡ record s { slots = filled s.slots l.span.start (take l.k l.items); changes = s.changes + 2 * l.k }
+    LaysOut s (g.S.RingSlots.seen l.slots) ((l.span.start + l.k) % length s.slots) (after_puts (take l.k l.items) (after_takes l.k (view_from s l.span.start)))

@@ -1,21 +1,19 @@
-use Rattle.ringbuffer.proofs.Words.{◌≡◌, ◌-◌, ◌∙◌, View, after_writes, ap, arith, length, sym}
-use Rattle.ringbuffer.proofs.Passed.{take_first_is, take_last_is, took_last}
+use Rattle.ringbuffer.proofs.Words.{◌-◌, ◌∙◌, View, after_writes, ap, arith, length, sym}
+use Rattle.ringbuffer.proofs.Passed.{take_first_is, took_last}
 use Rattle.ringbuffer.proofs.fixed.FixedRing.take_at.Goals as goal
 
 pub returns-then-index-behind-clause-after : goal.returns-then-index-behind-clause-after
 returns-then-index-behind-clause-after g c =
-    let i = c.args.index in let v = c.args.self.now in
-    let len : c.self.inside.span.len ≡ length v.items = c.self.invariant.counted ∙ ap (λ (w : View _). length w.items) c.self.view_is in
+    let i = c.args.index in let len = c.self.invariant.counted ∙ ap (λ (w : View _). length w.items) c.self.view_is in
     let (xs, order, after) = c.pass_up.ensures in let took = c.take_first.ensures in
-    after ∙ ap (after_writes 0 xs) took.after ∙ take_first_is i v c.pass_up.result xs c.requires c.in_ok-first.first (sym took.value ∙ c.in_ok-first.was) (rw (ap (λ (w : View _). w.items) took.after) at order) (omega (arith, len, c.if-index-behind.true))
+    after ∙ ap (after_writes 0 xs) took.after
+    ∙ take_first_is i c.args.self.now c.pass_up.result xs c.requires c.in_ok-first.first (sym took.value ∙ c.in_ok-first.was)
+    (rw (ap (λ (w : View _). w.items) took.after) at order) (omega (arith, len, c.if-index-behind.true))
 
 pub returns : goal.returns
 returns g c =
-    let i = c.args.index in let v = c.args.self.now in
-    let len : c.self.inside.span.len ≡ length v.items = c.self.invariant.counted ∙ ap (λ (w : View _). length w.items) c.self.view_is in
+    let i = c.args.index in let len = c.self.invariant.counted ∙ ap (λ (w : View _). length w.items) c.self.view_is in
     let (xs, order, after) = c.pass_down.ensures in let took = c.pop_back.ensures in
-    let last = c.self.inside.span.len - 1 - i in let read = sym took.value ∙ c.in_ok-last.was in let shown = rw (ap (λ (w : View _). w.items) took.after) at order in
-    record {
-      value = sym (took_last i v c.pass_down.result xs c.requires c.in_ok-last.last last (omega (arith, len)) read shown);
-      after = after ∙ ap (after_writes i xs) took.after ∙ take_last_is i v c.pass_down.result xs c.requires c.in_ok-last.last last (omega (arith, len)) read shown (omega (arith, len, c.if-index-behind.false));
-    }
+    let (value, rest) = took_last i c.args.self.now c.pass_down.result xs c.requires c.in_ok-last.last (c.self.inside.span.len - 1 - i) (omega (arith, len)) (sym took.value ∙ c.in_ok-last.was)
+    (rw (ap (λ (w : View _). w.items) took.after) at order) in
+    record { value = sym value; after = after ∙ ap (after_writes i xs) took.after ∙ rest (omega (arith, len, c.if-index-behind.false)) }

@@ -6,8 +6,7 @@ use Rattle.ringbuffer.proofs.fixed.FixedRing.take_from.Goals as goal
 pub take-requires : goal.take-requires
 take-requires g c = first_full _ _ c.requires.laid_out c.requires.some
 
-pub returns-clause-value : goal.returns-clause-value
-returns-clause-value g c = sym (first_held _ _ c.requires.laid_out) ∙ c.take.ensures.value
-
-pub returns-clause-after : goal.returns-clause-after
-returns-clause-after g c = LaysOut-take _ _ c.requires.laid_out _ _ c.requires.some c.next-next.ensures c.take.ensures.after
+pub returns : goal.returns
+returns g c =
+    let r = c.requires in let took = c.take.ensures in
+    record { value = sym (first_held _ _ r.laid_out) ∙ took.value; next = c.next-next.ensures; after = LaysOut-take _ _ r.laid_out _ _ r.some c.next-next.ensures took.after }
