@@ -1,5 +1,5 @@
 -- The items of a ring are two stretches of full slots: those up to the last slot, and those that go on at the first.
-use Rattle.ringbuffer.proofs.Words.{◌≡◌, ℕ, ◌+◌, ◌-◌, ◌<◌, ◌≤◌, ◌%◌, List, [], ◌∷◌, ◌++◌, length, map, take, drop, get_or, Option, None, Some, refl, sym, ap, ◌∙◌, arith, slice_get, min, mod-eq_of_lt, mod-lt, ext_get_or, get_or-take, get_or-drop, length-map, length-take, length-drop, take_all, slice_get-drop, slice_get-take, Slots, HoldsStretch, IsFullStretch, items_from, IsLaidOut, somes}
+use Rattle.ringbuffer.proofs.Words.{◌≡◌, ℕ, ◌+◌, ◌-◌, ◌<◌, ◌≤◌, ◌%◌, List, [], ◌∷◌, ◌++◌, length, map, take, drop, get_or, Option, None, Some, refl, sym, ap, ◌∙◌, arith, slice_get, min, mod-eq_of_lt, mod-lt, ext_get_or, get_or-take, get_or-drop, length-map, length-take, length-drop, take_all, slice_get-drop, slice_get-take, Slots, HoldsStretch, IsFullStretch, View, items_from, IsLaidOut, IsSound, somes, view_from}
 use Rattle.std.proofs.Math.Seq.{take-add}
 use Rattle.ring_slots.proofs.Filled.{get_or-map_some}
 use Rattle.ringbuffer.proofs.SlotsHold.{contiguous_on, wrap}
@@ -77,13 +77,29 @@ module _ {X : Type 0} (s : Slots X) (start : ℕ) (laid_out : IsLaidOut s start)
   both_stretches xs ys before after =
       fronts_held s start laid_out len first (omega (arith, counted)) least xs ys before after ∙ take_all len items (omega (arith, counted))
 
--- the n items from an index on lie side by side where they reach no further than the last slot
-pub onward : {X : Type 0} (s : Slots X) (start : ℕ) → IsLaidOut s start → (index n place : ℕ) → place ≡ (start + index) % length s.slots
-    → index + n ≤ length (items_from s.slots start) → n ≤ length s.slots - place → (place + n ≤ length s.slots) × HoldsStretch s.slots place n (take n (drop index (items_from s.slots start)))
-onward s start laid_out index n place at some room =
-    let items = items_from s.slots start in let below = mod-lt (start + index) {m = length s.slots} (omega (arith, laid_out.start_within)) in
-    let fit : place + n ≤ length s.slots = omega (arith, at, below, room) in (
-      fit,
-      stretch_of s.slots place n (take n (drop index items)) (omega (arith, length-take n (drop index items), length-drop index items)) fit
-          (λ k low. grind (arith, laid_out.layout (index + k), contiguous_on start index place (length s.slots) k at (omega arith), slice_get-take, slice_get-drop)),
-    )
+-- items lie in two full stretches: some slots from the start on, and some from the first slot on
+pub record InTwo {X : Type 0} (cs : List (Option X)) (start n m : ℕ) (items : List X) : Type 0 where
+  pub front : IsFullStretch cs start n
+  pub rest : IsFullStretch cs 0 m
+  pub whole : (xs ys : List X) → HoldsStretch cs start n xs → HoldsStretch cs 0 m ys → xs ++ ys ≡ items
+
+-- the n items from an index on lie side by side from a place on
+abbrev pub LieAt : {X : Type 0} → Slots X → View X → (index n place : ℕ) → Type 0
+LieAt s v index n place = (index + n ≤ length v.items) × (place + n ≤ length s.slots) × HoldsStretch s.slots place n (take n (drop index v.items))
+
+module _ {X : Type 0} {limit : ℕ → ℕ} (s : Slots X) (start len : ℕ) (sound : IsSound limit s start len) {v : View X} (shows : view_from s start ≡ v) where
+  pub in_two : {first : ℕ} → first ≡ min len (length s.slots - start) → InTwo s.slots start first (len - first) v.items
+  in_two least = let laid_out = sound.laid_out in let counted = sound.counted in
+      rw (sym shows) (record { front = first_stretch s start laid_out len _ counted least; rest = second_stretch s start laid_out len _ counted least; whole = both_stretches s start laid_out len _ counted least })
+
+  pub firsts_in_two : {count first : ℕ} → count ≤ len → first ≡ min count (length s.slots - start) → InTwo s.slots start first (count - first) (take count v.items)
+  firsts_in_two {count} few least = let laid_out = sound.laid_out in let some : count ≤ length (items_from s.slots start) = omega (arith, few, sound.counted) in
+      rw (sym shows) (record { front = front_stretch s start laid_out count _ some least; rest = rest_stretch s start laid_out count _ some least; whole = fronts_held s start laid_out count _ some least })
+
+  -- the items from an index on lie side by side where they reach no further than the last slot
+  pub onward : (index n place : ℕ) → place ≡ (start + index) % length s.slots → index + n ≤ len → n ≤ length s.slots - place → LieAt s v index n place
+  onward index n place at some room =
+      let laid_out = sound.laid_out in let items = items_from s.slots start in let counted = sound.counted in
+      let below = mod-lt (start + index) {m = length s.slots} (omega (arith, laid_out.start_within)) in let fit : place + n ≤ length s.slots = omega (arith, at, below, room) in
+      rw (sym shows) (omega arith, fit, stretch_of s.slots place n (take n (drop index items)) (omega (arith, length-take n (drop index items), length-drop index items)) fit
+          (λ k low. grind (arith, laid_out.layout (index + k), contiguous_on start index place (length s.slots) k at (omega arith), slice_get-take, slice_get-drop)))
