@@ -19,7 +19,7 @@ returns g c =
     let whole : length ys ≡ length c.args.first.now = rw c.in_default.is at done in
     let both = LaysOut-then (after_puts zs) lies lies_more in (
       ys ++ zs,
-      joined g.T.Clone.is_clone c.args.first.now c.args.second.now ys zs first whole second,
+      joined g.T.Clone.is_clone c.args.first.now c.args.second.now ys zs (omega (arith, whole)) (λ some. absurd (omega (arith, whole, some))) first second,
       both_done _ c.args.first.now c.args.second.now ys zs c.put_clones.result.1 whole done_more,
       (omega (arith, counted, counted_more, length-append ys zs), rw (after_puts-then ys zs old) at both),
     )
