@@ -1,21 +1,17 @@
 -- What a source gave in two parts, and what a vector holds that was filled by calls.
 use Rattle.ringbuffer.proofs.Words.{◌≡◌, ℕ, ◌<◌, List, [], ◌∷◌, ◌++◌, take, Option, Some, sym, ap, subst, ◌∙◌, arith, Result, Ok, Err, OnOk, OnErr, MatchResult, Yields, YieldsThen, Drains, AppendsResults, FoldsTo}
 use Rattle.std.proofs.Math.Seq.{take-nil}
+use Rattle.std.proofs.iter.runs.Lists.{Yields-both}
 
 module _ {S A : Type 0} (steps : S → Option A → S → Type 0) where
-  -- calls that gave xs, then one item, and then ys
-  yields_on : (s t u v : S) (xs : List A) (x : A) (ys : List A) → Yields steps s xs t → steps t (Some x) u → Yields steps u ys v → Yields steps s (xs ++ x ∷ ys) v
-  yields_on s t u v [] x ys first one later = (u, subst (λ w. steps w (Some x) u) (sym first) one, later)
-  yields_on s t u v (z ∷ xs) x ys first one later = (first.0, first.1, yields_on first.0 t u v xs x ys first.2 one later)
-
   -- a part, an item, and all that comes after it or a part of that
   pub both_parts : {E : Type 0} (s u : S) (xs ys : List A) (x : A) (r : Result (Unit {0}) E) → YieldsThen steps s xs (Some x) u
       → MatchResult r (λ _. Drains steps u ys) (λ _. (y : A) × (after : S) × YieldsThen steps u ys (Some y) after)
       → MatchResult r (λ _. Drains steps s (xs ++ x ∷ ys)) (λ _. (y : A) × (after : S) × YieldsThen steps s (xs ++ x ∷ ys) (Some y) after)
   both_parts s u xs ys x (Ok done) first later =
-      let all = later.1 in (later.0, (all.0, yields_on s first.0 u all.0 xs x ys first.1 first.2 all.1, all.2))
+      let all = later.1 in (later.0, (all.0, Yields-both steps xs (x ∷ ys) s first.0 all.0 first.1 (u, first.2, all.1), all.2))
   both_parts s u xs ys x (Err e) first later =
-      let part = later.2 in (later.0, later.1, (part.0, yields_on s first.0 u part.0 xs x ys first.1 first.2 part.1, part.2))
+      let part = later.2 in (later.0, later.1, (part.0, Yields-both steps xs (x ∷ ys) s first.0 part.0 first.1 (u, first.2, part.1), part.2))
 
 -- what was empty and is filled by calls holds their answers
 pub filled_by : {F X E : Type 0} (step : F → X → F → Type 0) (r : Result (Unit {0}) E) (old new : List X) (n room : ℕ) (f : F) → old ≡ [] → n ≡ room
