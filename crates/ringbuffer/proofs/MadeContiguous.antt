@@ -6,7 +6,7 @@ use Rattle.ring_slots.specs.Slots.{IsEmptyStretch, brought_first, moved_down}
 use Rattle.ring_slots.proofs.Filled.{get_or-map_some}
 use Rattle.ringbuffer.proofs.Copies.{empty_behind}
 use Rattle.ringbuffer.proofs.Rotations.{length-rotated}
-use Rattle.ringbuffer.proofs.Stretches.{first_held, first_stretch, second_held, second_stretch}
+use Rattle.ringbuffer.proofs.Stretches.{all_in_two, first_held, second_held}
 use Rattle.ringbuffer.proofs.SlotsHold.{SlotsHold-same, wrap}
 
 module _ {X : Type 0} (size start : ℕ) (xs : List X) (fit : start + length xs ≤ size) where
@@ -57,7 +57,7 @@ module _ {X : Type 0} (s : Slots X) (start : ℕ) (laid_out : IsLaidOut s start)
 
   -- what moves are full slots
   pub last_full : IsFullStretch s.slots start (length s.slots - start)
-  last_full = let count : length s.slots - start ≡ first = omega arith in rw count (first_stretch s start laid_out len first counted least)
+  last_full = let count : length s.slots - start ≡ first = omega arith in rw count (all_in_two s start laid_out len first counted least).front
 
   -- and where they go is empty
   pub between_empty : IsEmptyStretch s.slots (len - first) (start - (len - first))
@@ -82,7 +82,7 @@ module _ {X : Type 0} (s : Slots X) (start : ℕ) (laid_out : IsLaidOut s start)
 
   -- the others are full slots, too
   pub first_full : IsFullStretch s.slots 0 (len - first)
-  first_full = second_stretch s start laid_out len first counted least
+  first_full = (all_in_two s start laid_out len first counted least).rest
 
   -- where there is room for all between, they lie side by side once those in the last slots are brought to the first
   pub brought_contiguous : len ≤ start → brought_first s.slots start (len - first) ≡ beside (length s.slots) 0 items
