@@ -6,8 +6,7 @@ use Rattle.ringbuffer.proofs.fixed.FixedRing.put_round.Goals as goal
 
 -- after the last slot the first one follows
 round : (start len end first size : ℕ) → end ≡ (start + len) % size → end + first ≡ size → 0 ≡ (start + (len + first)) % size
-round start len end first size found all =
-    sym (sym (count_on start len first (len + first) size refl) ∙ ap (λ p. (p + first) % size) (sym found) ∙ ap (λ n. n % size) all ∙ mod_self size)
+round start len end first size found all = grind (arith, mod_self, count_on start len first (len + first) size refl)
 
 pub put_copies-requires-2-clause-place : goal.put_copies-requires-2-clause-place
 put_copies-requires-2-clause-place g c =
