@@ -1,7 +1,5 @@
 -- Items of a list copied one by one over the first places of another.
-use Rattle.ringbuffer.proofs.Words.{◌≡◌, ◌∙◌, ℕ, ◌<◌, ◌+◌, List, ◌∷◌, ◌++◌, drop, length, length-take, take, slice_get, slice_get-drop, Some, ap, set, sym, arith}
-use Rattle.std.proofs.lemmas.Option.{slice_get_within}
-use Rattle.ring_core.proofs.Cloned.{clone_out}
+use Rattle.ringbuffer.proofs.Words.{◌≡◌, ◌∙◌, ℕ, ◌<◌, ◌+◌, List, ◌∷◌, ◌++◌, drop, length, length-take, take, slice_get, slice_get-drop, Some, ap, set, sym, arith, slice_get_within, clone_out}
 use Rattle.ringbuffer.proofs.Paired.{take_item}
 
 -- item number n lands after those before it

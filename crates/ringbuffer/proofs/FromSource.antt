@@ -1,7 +1,6 @@
 -- What a source gave in two parts, and what a vector holds that was filled by calls.
-use Rattle.ringbuffer.proofs.Words.{◌≡◌, ℕ, ◌<◌, List, [], ◌∷◌, ◌++◌, take, Option, Some, sym, ap, subst, ◌∙◌, arith, Result, Ok, Err, OnOk, OnErr, MatchResult, Yields, YieldsThen, Drains, AppendsResults, FoldsTo}
+use Rattle.ringbuffer.proofs.Words.{◌≡◌, ℕ, ◌<◌, List, [], ◌∷◌, ◌++◌, take, Option, Some, sym, ap, subst, ◌∙◌, arith, Result, Ok, Err, OnOk, OnErr, MatchResult, Yields, YieldsThen, Drains, AppendsResults, FoldsTo, Yields-both}
 use Rattle.std.proofs.Math.Seq.{take-nil}
-use Rattle.std.proofs.iter.runs.Lists.{Yields-both}
 
 module _ {S A : Type 0} (steps : S → Option A → S → Type 0) where
   -- a part, an item, and all that comes after it or a part of that

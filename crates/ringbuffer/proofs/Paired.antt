@@ -1,12 +1,7 @@
 -- What lists and stretches of full slots hold, read from the front, and compared pair by pair.
-use Rattle.ringbuffer.proofs.Words.{add-one, option_to_list, take-suc_get, ◌≡◌, ℕ, ◌+◌, ◌<◌, ◌≤◌, false, inl, inr, true, zero, min, List, [], ◌∷◌, ◌++◌, Bool, ◌&&◌, length, length-drop, take, take-append-drop, drop, drop-drop, get_or, nat_eq, Option, None, Some, IsSome, refl, sym, subst, ap, ◌∙◌, suc, arith, drop-length, slice_get, pointwise, HoldsStretch, IsFullStretch}
+use Rattle.ringbuffer.proofs.Words.{add-one, option_to_list, take-suc_get, ◌≡◌, ℕ, ◌+◌, ◌<◌, ◌≤◌, false, inl, inr, true, zero, min, List, [], ◌∷◌, ◌++◌, Bool, ◌&&◌, length, length-drop, take, take-append-drop, drop, drop-drop, get_or, nat_eq, Option, None, Some, IsSome, refl, sym, subst, ap, ◌∙◌, suc, arith, drop-length, slice_get, pointwise, HoldsStretch, IsFullStretch, cases_Bool, drop_more, common_prefix_len-le, get_or_from_slice_get, slice_get_within, common_prefix_len}
 use Prim.Native.Nat.compare
 use Rattle.std.proofs.Math.Bool.{and_assoc, cond}
-use Rattle.std.proofs.lemmas.Bool.{cases_Bool}
-use Rattle.std.proofs.lemmas.List.{drop_more}
-use Rattle.std.proofs.lemmas.List.Sums.{common_prefix_len-le}
-use Rattle.std.proofs.lemmas.Option.{get_or_from_slice_get, slice_get_within}
-use Rattle.std.specs.List.{common_prefix_len}
 use Rattle.ringbuffer.proofs.LaysOut.{slice_get_some}
 use Rattle.ringbuffer.proofs.Stretches.{stretch_at, stretch_long}
 

@@ -1,8 +1,6 @@
 -- Clones of lists' items: what a ring of a fixed capacity shows after they were pushed, and what two lists have together.
-use Rattle.ringbuffer.proofs.Words.{common_steps, ◌≡◌, ℕ, ◌+◌, ◌-◌, ◌<◌, ◌≤◌, ◌⊎◌, inl, inr, List, [], ◌++◌, append-nil, append_assoc, drop-drop, length, min, nil_from_length, take, drop, Some, Ok, Err, OnOk, MatchResult, Result, ap, sym, ◌∙◌, arith, length-append, length-drop, length-take, subst, take_all, take-append-add, AllZip, AllZip-join, View, after_extend, keep_last}
-use Rattle.std.proofs.lemmas.List.Elements.{length_all_zip}
+use Rattle.ringbuffer.proofs.Words.{common_steps, ◌≡◌, ℕ, ◌+◌, ◌-◌, ◌<◌, ◌≤◌, ◌⊎◌, inl, inr, List, [], ◌++◌, append-nil, append_assoc, drop-drop, length, min, nil_from_length, take, drop, Some, Ok, Err, OnOk, MatchResult, Result, ap, sym, ◌∙◌, arith, length-append, length-drop, length-take, subst, take_all, take-append-add, AllZip, AllZip-join, View, after_extend, keep_last, length_all_zip, take-append-le}
 use Rattle.std.proofs.lemmas.Bool.{cases_lt}
-use Rattle.std.proofs.lemmas.List.{take-append-le}
 use Rattle.ring_core.specs.Contents.{ChangesSlots}
 use Rattle.ring_core.proofs.Cloned.{equal_clones_pushed}
 

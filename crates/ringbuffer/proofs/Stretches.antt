@@ -1,7 +1,5 @@
 -- The items of a ring are two stretches of full slots: those up to the last slot, and those that go on at the first.
-use Rattle.ringbuffer.proofs.Words.{◌≡◌, ℕ, ◌+◌, ◌-◌, ◌<◌, ◌≤◌, ◌%◌, List, [], ◌∷◌, ◌++◌, length, map, take, drop, get_or, Option, None, Some, refl, sym, ap, ◌∙◌, arith, slice_get, min, mod-eq_of_lt, mod-lt, ext_get_or, get_or-take, get_or-drop, length-map, length-take, length-drop, take_all, slice_get-drop, slice_get-take, Slots, HoldsStretch, IsFullStretch, View, items_from, IsLaidOut, IsSound, somes, view_from}
-use Rattle.std.proofs.Math.Seq.{take-add}
-use Rattle.ring_slots.proofs.Filled.{get_or-map_some}
+use Rattle.ringbuffer.proofs.Words.{◌≡◌, ℕ, ◌+◌, ◌-◌, ◌<◌, ◌≤◌, ◌%◌, List, [], ◌∷◌, ◌++◌, length, map, take, drop, get_or, Option, None, Some, refl, sym, ap, ◌∙◌, arith, slice_get, min, mod-eq_of_lt, mod-lt, ext_get_or, get_or-take, get_or-drop, length-map, length-take, length-drop, take_all, slice_get-drop, slice_get-take, Slots, HoldsStretch, IsFullStretch, View, items_from, IsLaidOut, IsSound, somes, view_from, take-add, get_or-map_some}
 use Rattle.ringbuffer.proofs.SlotsHold.{contiguous_on, wrap}
 
 module _ {X : Type 0} where

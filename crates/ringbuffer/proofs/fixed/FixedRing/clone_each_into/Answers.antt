@@ -1,5 +1,4 @@
-use Rattle.ringbuffer.proofs.Words.{[], ◌∷◌, ◌++◌, AllZip-push, arith, length-append}
-use Rattle.ring_core.proofs.Cloned.{clone_out}
+use Rattle.ringbuffer.proofs.Words.{[], ◌∷◌, ◌++◌, AllZip-push, arith, length-append, clone_out}
 use Rattle.ringbuffer.proofs.Paired.{take_item}
 use Rattle.ringbuffer.proofs.fixed.FixedRing.clone_each_into.Goals as goal
 

@@ -1,5 +1,4 @@
-use Rattle.ringbuffer.proofs.Words.{◌∙◌, ◌-◌, View, ap, length, sym}
-use Rattle.std.proofs.lemmas.Grind.{flat_map-append, fold-append}
+use Rattle.ringbuffer.proofs.Words.{◌∙◌, ◌-◌, View, ap, length, sym, flat_map-append, fold-append}
 use Rattle.ringbuffer.proofs.Stretches.{InTwo, in_two}
 use Rattle.ringbuffer.proofs.fixed.FixedRing.hash_by_stretch.Given.{Over}
 use Rattle.ringbuffer.proofs.fixed.FixedRing.hash_by_stretch.Goals as goal

@@ -1,7 +1,4 @@
-use Rattle.ringbuffer.proofs.Words.{◌≡◌, ◌∙◌, append-nil, ap, arith, sym, take_all}
-use Rattle.std.proofs.lemmas.Grind.{flat_map-append, fold-append}
-use Rattle.std.specs.List.{flat_map}
-use Rattle.std.specs.Prelude.{fold}
+use Rattle.ringbuffer.proofs.Words.{◌≡◌, ◌∙◌, append-nil, ap, arith, sym, take_all, flat_map-append, fold-append, flat_map, fold}
 use Rattle.ringbuffer.proofs.Paired.{full_at, take_item}
 use Rattle.ringbuffer.proofs.Stretches.{stretch_at, stretch_long}
 use Rattle.ringbuffer.proofs.fixed.FixedRing.hash_stretch.Goals as goal

@@ -1,5 +1,4 @@
-use Rattle.ringbuffer.proofs.Words.{◌-◌, refl, sym}
-use Rattle.std.proofs.lemmas.List.Folds.{list_any-append}
+use Rattle.ringbuffer.proofs.Words.{◌-◌, refl, sym, list_any-append}
 use Rattle.ringbuffer.proofs.Stretches.{InTwo, in_two}
 use Rattle.ringbuffer.proofs.fixed.FixedRing.holds_by_stretch.Given.{Over}
 use Rattle.ringbuffer.proofs.fixed.FixedRing.holds_by_stretch.Goals as goal

@@ -1,6 +1,4 @@
-use Rattle.ringbuffer.proofs.Words.{◌≡◌, ◌+◌, ◌-◌, [], ◌∷◌, ◌++◌, AllZip, AllZip-join, List, MatchResult, all_zip_more, arith, drop, length, length-append, length-drop, length-take, take, take_all}
-use Rattle.std.proofs.Math.Seq.{take-add}
-use Rattle.ringbuffer.specs.Pushing.{PushesOnto}
+use Rattle.ringbuffer.proofs.Words.{◌≡◌, ◌+◌, ◌-◌, [], ◌∷◌, ◌++◌, AllZip, AllZip-join, List, MatchResult, all_zip_more, arith, drop, length, length-append, length-drop, length-take, take, take_all, take-add, PushesOnto}
 use Rattle.ringbuffer.proofs.PushedStretch.{PushesOnto-then}
 use Rattle.ringbuffer.proofs.fixed.FixedRing.push_clones.Given.{Over}
 use Rattle.ringbuffer.proofs.fixed.FixedRing.push_clones.Goals as goal

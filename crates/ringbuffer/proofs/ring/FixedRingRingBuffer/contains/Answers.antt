@@ -1,5 +1,4 @@
-use Rattle.ringbuffer.proofs.Words.{sym}
-use Rattle.std.proofs.lemmas.List.Folds.{list_any-append}
+use Rattle.ringbuffer.proofs.Words.{sym, list_any-append}
 use Rattle.ring_core.proofs.Answered.{IsAnyAnswer-list_any}
 use Rattle.ringbuffer.proofs.ring.FixedRingRingBuffer.contains.Goals as goal
 

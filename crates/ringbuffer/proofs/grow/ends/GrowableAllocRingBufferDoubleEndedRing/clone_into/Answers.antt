@@ -1,8 +1,5 @@
 -- One more clone, and what holds once all are pushed.
-use Rattle.std.proofs.Common.{◌≡◌, ◌≤◌, ◌<◌, List, ℕ, arith, length, sym, take}
-use Rattle.std.proofs.lemmas.List.{take_all}
-use Rattle.std.proofs.lemmas.List.Elements.{all_zip_more, length_all_zip}
-use Rattle.std.specs.List.{AllZip}
+use Rattle.ringbuffer.proofs.Words.{◌≡◌, ◌≤◌, ◌<◌, List, ℕ, arith, length, sym, take, take_all, all_zip_more, length_all_zip, AllZip}
 use Rattle.ringbuffer.proofs.grow.ends.GrowableAllocRingBufferDoubleEndedRing.clone_into.Goals as goal
 
 pub loop-i-preserved : goal.loop-i-preserved

@@ -1,6 +1,4 @@
-use Rattle.std.proofs.Common.{◌-◌, ◌+◌, ◌≤◌, length, take}
-use Rattle.std.specs.List.{AllZip}
-use Rattle.std.specs.VecDeque.{deque_capacity, deque_len}
+use Rattle.ringbuffer.proofs.Words.{◌-◌, ◌+◌, ◌≤◌, length, take, AllZip, deque_capacity, deque_len}
 use Rattle.ringbuffer.proofs.grow.ends.GrowableAllocRingBufferDoubleEndedRing.clone_into.Given as goal
 
 -- the clones of the first items were pushed, and there is room for those of the others
