@@ -15,7 +15,5 @@ module _ {S A : Type 0} (steps : S → Option A → S → Type 0) where
 -- what was empty and is filled by calls holds their answers
 pub filled_by : {F X E : Type 0} (step : F → X → F → Type 0) (r : Result (Unit {0}) E) (old new : List X) (n room : ℕ) (f : F) → old ≡ [] → n ≡ room
     → OnOk r (AppendsResults step (take n old) new f) → OnErr r (room < n) → (last : F) × FoldsTo step f new last
-filled_by step (Ok done) old new n room f none all made full =
-    let is : new ≡ made.0 = made.2 ∙ ap (λ (l : List _). take n l ++ made.0) none ∙ ap (λ (l : List _). l ++ made.0) (take-nil n) in
-    (made.1, subst (λ (l : List _). FoldsTo step f l made.1) (sym is) made.3)
+filled_by step (Ok done) old new n room f none all made full = let is = rw (none, take-nil n) at made.2 in (made.1, rw is made.3)
 filled_by step (Err e) old new n room f none all made full = absurd (omega (arith, full, all))

@@ -14,7 +14,8 @@ decided (Some Equal) rest apart = absurd (apart refl)
 decided (Some Greater) rest apart = refl
 
 -- where one list has ended, the lengths decide, also with as many items before
-by_lengths : {X : Type 0} (cmp : X → X → Option Ordering) (xs ys : List X) (m n k : ℕ) → m ≡ k + length xs → n ≡ k + length ys → min (length xs) (length ys) ≡ 0 → slice_partial_cmp cmp xs ys ≡ Some (nat_cmp m n)
+by_lengths : {X : Type 0} (cmp : X → X → Option Ordering) (xs ys : List X) (m n k : ℕ) → m ≡ k + length xs → n ≡ k + length ys → min (length xs) (length ys) ≡ 0
+    → slice_partial_cmp cmp xs ys ≡ Some (nat_cmp m n)
 by_lengths cmp [] [] m n k long other_long ended = ap Some (nat_cmp_is m n Equal (omega arith))
 by_lengths cmp [] (y ∷ ys) m n k long other_long ended = ap Some (nat_cmp_is m n Less (omega arith))
 by_lengths cmp (x ∷ xs) [] m n k long other_long ended = ap Some (nat_cmp_is m n Greater (omega arith))
@@ -42,5 +43,5 @@ module _ {X : Type 0} {eq : X → X → Bool} {cmp : X → X → Option Ordering
   -- where no pair differs, the lengths decide
   pub ordered_as_lengths : (xs ys : List X) → min (length xs) (length ys) ≤ common_prefix_len eq xs ys → slice_partial_cmp cmp xs ys ≡ Some (nat_cmp (length xs) (length ys))
   ordered_as_lengths xs ys all =
-      let n = common_prefix_len eq xs ys in let few = common_prefix_len-le eq xs ys in
-      (after_equal xs ys n refl).0 ∙ by_lengths cmp (drop n xs) (drop n ys) (length xs) (length ys) n (omega (arith, few, length-drop n xs)) (omega (arith, few, length-drop n ys)) (omega (arith, length-drop n xs, length-drop n ys))
+      let n = common_prefix_len eq xs ys in let few = common_prefix_len-le eq xs ys in let left = length-drop n xs in let other_left = length-drop n ys in
+      (after_equal xs ys n refl).0 ∙ by_lengths cmp (drop n xs) (drop n ys) (length xs) (length ys) n (omega arith) (omega arith) (omega arith)

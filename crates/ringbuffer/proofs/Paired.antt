@@ -36,18 +36,21 @@ module _ {X : Type 0} (cs : List (Option X)) (from n : ℕ) where
 module _ {X : Type 0} (eq : X → X → Bool) (cs ds : List (Option X)) (from other n : ℕ) where
   -- the first k pairs of two stretches are equal
   abbrev pub AreEqual : ℕ → Type 0
-  AreEqual k = (xs ys : List X) → HoldsStretch cs from n xs → HoldsStretch ds other n ys → common_prefix_len eq xs ys ≡ k + common_prefix_len eq (drop k xs) (drop k ys)
+  AreEqual k = (xs ys : List X) → HoldsStretch cs from n xs → HoldsStretch ds other n ys
+      → common_prefix_len eq xs ys ≡ k + common_prefix_len eq (drop k xs) (drop k ys)
 
   -- and the next pair is, or it differs
-  module _ (k : ℕ) (so_far : AreEqual k) (low : k < n) {x y : X} (at : get_or cs (from + k) None ≡ Some x) (other_at : get_or ds (other + k) None ≡ Some y) {same : Bool} (answered : same ≡ eq x y) where
-    next : (xs ys : List X) → HoldsStretch cs from n xs → HoldsStretch ds other n ys → common_prefix_len eq (drop k xs) (drop k ys) ≡ cond same (1 + common_prefix_len eq (drop (k + 1) xs) (drop (k + 1) ys)) 0
-    next xs ys held others_held = next_pair eq xs ys k (sym (stretch_at cs from n k xs held low) ∙ at) (sym (stretch_at ds other n k ys others_held low) ∙ other_at) answered
-
+  module _ (k : ℕ) (so_far : AreEqual k) (low : k < n) {x y : X} (at : get_or cs (from + k) None ≡ Some x) (other_at : get_or ds (other + k) None ≡ Some y)
+      {same : Bool} (answered : same ≡ eq x y) where
     pub goes_on : same ≡ true → AreEqual (k + 1)
-    goes_on equal = λ xs ys held others_held. let one = rw equal at (next xs ys held others_held) in omega (arith, so_far xs ys held others_held, one)
+    goes_on equal = λ xs ys held others_held.
+        let next = next_pair eq xs ys k (sym (stretch_at cs from n k xs held low) ∙ at) (sym (stretch_at ds other n k ys others_held low) ∙ other_at) answered in
+        let one = rw equal at next in omega (arith, so_far xs ys held others_held, one)
 
     pub ends : same ≡ false → (xs ys : List X) → HoldsStretch cs from n xs → HoldsStretch ds other n ys → k ≡ common_prefix_len eq xs ys
-    ends differ = λ xs ys held others_held. let none = rw differ at (next xs ys held others_held) in omega (arith, so_far xs ys held others_held, none)
+    ends differ = λ xs ys held others_held.
+        let next = next_pair eq xs ys k (sym (stretch_at cs from n k xs held low) ∙ at) (sym (stretch_at ds other n k ys others_held low) ∙ other_at) answered in
+        let none = rw differ at next in omega (arith, so_far xs ys held others_held, none)
 
 -- beginnings of equal length are compared apart from what follows them
 pub pointwise-append : {A : Type 0} (eq : A → A → Bool) (xs ys vs ws : List A) → length xs ≡ length ys
@@ -82,9 +85,11 @@ module _ {X : Type 0} (eq : X → X → Bool) where
   ]
 
   -- The n pairs after the first k, which are equal, are compared: what follows these counts where all of them are equal.
+  abbrev pub GoesOn : (xs ys : List X) (k n more : ℕ) → Type 0
+  GoesOn xs ys k n more = (more < n → common_prefix_len eq xs ys ≡ k + more) × (n ≤ more → common_prefix_len eq xs ys ≡ k + n + common_prefix_len eq (drop (k + n) xs) (drop (k + n) ys))
+
   pub prefix_on : (xs ys : List X) (k n more : ℕ) → k + n ≤ length xs → k + n ≤ length ys → common_prefix_len eq xs ys ≡ k + common_prefix_len eq (drop k xs) (drop k ys)
-      → more ≡ common_prefix_len eq (take n (drop k xs)) (take n (drop k ys))
-      → (more < n → common_prefix_len eq xs ys ≡ k + more) × (n ≤ more → common_prefix_len eq xs ys ≡ k + n + common_prefix_len eq (drop (k + n) xs) (drop (k + n) ys))
+      → more ≡ common_prefix_len eq (take n (drop k xs)) (take n (drop k ys)) → GoesOn xs ys k n more
   prefix_on xs ys k n more low other_low so_far compared =
       let parts = rw (drop-drop n k xs, drop-drop n k ys, sym compared) at (prefix_parts n (drop k xs) (drop k ys) (omega (arith, length-drop k xs)) (omega (arith, length-drop k ys))) in
       (λ short. omega (arith, so_far, parts.0 short), λ long. omega (arith, so_far, parts.1 long))

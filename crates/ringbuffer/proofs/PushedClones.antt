@@ -1,13 +1,8 @@
 -- Clones of lists' items: what a ring of a fixed capacity shows after they were pushed, and what two lists have together.
 use Rattle.ringbuffer.proofs.Words.{common_steps, ◌≡◌, ℕ, ◌+◌, ◌-◌, ◌<◌, ◌≤◌, ◌⊎◌, inl, inr, List, [], ◌++◌, append-nil, append_assoc, drop-drop, length, min, nil_from_length, take, drop, Some, Ok, Err, OnOk, MatchResult, Result, ap, sym, ◌∙◌, arith, length-append, length-drop, length-take, subst, take_all, take-append-add, AllZip, AllZip-join, View, after_extend, keep_last, length_all_zip, take-append-le}
-use Rattle.std.proofs.lemmas.Bool.{cases_lt}
+use Rattle.std.proofs.lemmas.Result.{MatchResult-weaker}
 use Rattle.ring_core.specs.Contents.{ChangesSlots}
 use Rattle.ring_core.proofs.Cloned.{equal_clones_pushed}
-
--- what holds in one case of a result holds on Ok
-on_ok_alone : {E : Type 0} (P Q : Type 0) (r : Result (Unit {0}) E) → MatchResult r (λ _. P) (λ _. Q) → OnOk r P
-on_ok_alone P Q (Ok x) done = done
-on_ok_alone P Q (Err e) refused = tt
 
 module _ {X E : Type 0} (IsClone : X → X → Type 0) (limit : ℕ) (items : List X) (v w : View X) (P : Type 0) (r : Result (Unit {0}) E)
     (pushed : (over : ℕ) × (ys : List X) × (over ≤ length items - limit) × AllZip IsClone (take (length ys) (drop over items)) ys
@@ -16,7 +11,7 @@ module _ {X E : Type 0} (IsClone : X → X → Type 0) (limit : ℕ) (items : Li
   pub as_items : ((x y : X) → IsClone x y → y ≡ x) → OnOk r (w.items ≡ keep_last (Some limit) (v.items ++ items))
   as_items same =
       let (over, ys, within, clones, done, is) = pushed in
-      equal_clones_pushed IsClone (Some limit) items v.items w.items r (over, ys, within, clones, ap (λ (u : View X). u.items) is, on_ok_alone (over + length ys ≡ length items) P r done) same
+      equal_clones_pushed IsClone (Some limit) items v.items w.items r (over, ys, within, clones, ap (λ (u : View X). u.items) is, MatchResult-weaker r done (λ _ all. all) (λ _ _. tt)) same
 
   -- Each clone changes its slot, and one more where an item gives way.
   pub few_changes : ChangesSlots v.changes v.items w.changes w.items (length items)

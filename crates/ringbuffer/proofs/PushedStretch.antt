@@ -13,7 +13,7 @@ stays_contiguous full span end i size found low = grind (arith, contiguous_on sp
 -- These items were pushed, in as many turns of a stretch that began so.
 pub record Pushed {X : Type 0} (old : Slots X) (span : Span) (capacity : ℕ) (full : Bool) (now : Slots X) (i : ℕ) (xs : List X) : Type 0 where
   pub long : length xs ≡ i
-  pub after : LaysOut old now (after_pushes full span i (length old.slots)).start (after_extend capacity (view_from old span.start) xs)
+  pub pushed : PushesOnto old now span (after_pushes full span i (length old.slots)) capacity xs
 
 module _ {X : Type 0} {old : Slots X} {span : Span} {capacity : ℕ} (can : CanPush old span capacity) where
   abbrev v : View X
@@ -21,32 +21,25 @@ module _ {X : Type 0} {old : Slots X} {span : Span} {capacity : ℕ} (can : CanP
 
   pub none_yet : (full : Bool) → Pushed old span capacity full old 0 []
   none_yet full =
-      let empty = after_extend-none capacity v (omega (arith, can.len, can.within)) in let within = can.laid_out.start_within in
-      let stays : (after_pushes full span 0 (length old.slots)).start ≡ span.start = grind (arith, mod-eq_of_lt) in
-      record { long = refl; after = rw stays (rw empty at (LaysOut-none old span.start can.laid_out)) }
+      let empty = after_extend-none capacity v (omega (arith, can.len, can.within)) in let within = can.laid_out.start_within in let at = after_pushes full span 0 (length old.slots) in
+      let stays : at.start ≡ span.start = grind (arith, mod-eq_of_lt) in let same : at.len ≡ span.len = grind arith in
+      record { long = refl; pushed = (rw stays (rw empty at (LaysOut-none old span.start can.laid_out)), same ∙ can.len ∙ ap (λ (w : View X). length w.items) empty) }
 
-  -- up to a number of pushes that fit
-  module _ {count : ℕ} where
-    pub all_pushed : {now : Slots X} {i : ℕ} {xs : List X} (full : Bool) → full ≡ nat_eq span.len capacity → (full ≡ false → count ≤ capacity - span.len) → i ≤ count → Pushed old span capacity full now i xs
-        → PushesOnto old now span (after_pushes full span i (length old.slots)) capacity xs
-    all_pushed {xs = xs} true is room low so_far =
-        let all : span.len ≡ capacity = grind (arith, nat_tests, is) in (so_far.after, all ∙ sym (after_extend-full capacity v xs (sym all ∙ can.len)))
-    all_pushed {xs = xs} false is room low so_far =
-        let long = so_far.long in let fits = after_extend-fits capacity v xs (omega (arith, can.len, can.within, long, low, room refl)) in
-        (so_far.after, omega (arith, can.len, long, ap (λ (w : View X). length w.items) fits, length-append v.items xs))
-
-    pub one_more : {now new : Slots X} {i : ℕ} {xs : List X} (x : X) (full : Bool) → full ≡ nat_eq span.len capacity → (full ≡ false → count ≤ capacity - span.len) → i < count → Pushed old span capacity full now i xs
-        → let at = after_pushes full span i (length old.slots) in let w = view_from now at.start in
-          LaysOut now new (if full then (at.start + 1) % length now.slots else at.start) (if full then after_put (after_take w) x else after_put w x) → Pushed old span capacity full new (i + 1) (xs ++ x ∷ [])
-    one_more {i = i} {xs = xs} x true is room low so_far step =
-        let (_, most) = all_pushed true is room (omega arith) so_far in let all : span.len ≡ capacity = grind (arith, nat_tests, is) in let after = so_far.after in
-        let pushed = sym (after_push-full capacity (after_extend capacity v xs) x (sym most ∙ all) can.some) ∙ after_extend-then capacity v xs (x ∷ []) in
-        let place = ap (λ n. ((span.start + i) % length old.slots + 1) % n) after.same_size ∙ count_on span.start i 1 (i + 1) (length old.slots) refl in
-        record { long = omega (arith, so_far.long, length-append xs (x ∷ [])); after = rw (place, pushed) at (LaysOut-then (λ w. after_put (after_take w) x) after step) }
-    one_more {xs = xs} x false is room low so_far step =
-        let (_, most) = all_pushed false is room (omega arith) so_far in
-        let pushed = after_extend-fits capacity (after_extend capacity v xs) (x ∷ []) (omega (arith, most, can.within, low, room refl)) ∙ after_extend-then capacity v xs (x ∷ []) in
-        record { long = omega (arith, so_far.long, length-append xs (x ∷ [])); after = rw pushed at (LaysOut-then (λ w. after_put w x) so_far.after step) }
+  -- one push more, where so many fit
+  pub one_more : {now new : Slots X} {i count : ℕ} {xs : List X} (x : X) (full : Bool) → full ≡ nat_eq span.len capacity → (full ≡ false → count ≤ capacity - span.len) → i < count
+      → Pushed old span capacity full now i xs → let at = after_pushes full span i (length old.slots) in let w = view_from now at.start in
+        LaysOut now new (if full then (at.start + 1) % length now.slots else at.start) (if full then after_put (after_take w) x else after_put w x)
+      → Pushed old span capacity full new (i + 1) (xs ++ x ∷ [])
+  one_more {i = i} {xs = xs} x true is room low so_far step =
+      let all : span.len ≡ capacity = grind (arith, nat_tests, is) in let (after, _) = so_far.pushed in let most = λ (ys : List X). after_extend-full capacity v ys (sym all ∙ can.len) in
+      let is = sym (after_push-full capacity (after_extend capacity v xs) x (most xs) can.some) ∙ after_extend-then capacity v xs (x ∷ []) in
+      let place = ap (λ n. ((span.start + i) % length old.slots + 1) % n) after.same_size ∙ count_on span.start i 1 (i + 1) (length old.slots) refl in
+      record { long = omega (arith, so_far.long, length-append xs (x ∷ [])); pushed = (rw (place, is) at (LaysOut-then (λ w. after_put (after_take w) x) after step), all ∙ sym (most (xs ++ x ∷ []))) }
+  one_more {xs = xs} x false is room low so_far step =
+      let (after, long) = so_far.pushed in let so_far_long = so_far.long in let held = after_extend capacity v xs in
+      let is = after_extend-fits capacity held (x ∷ []) (omega (arith, long, can.within, low, room refl)) ∙ after_extend-then capacity v xs (x ∷ []) in
+      let longer = length-append xs (x ∷ []) in let more = length-append held.items (x ∷ []) in
+      record { long = omega arith; pushed = (rw is at (LaysOut-then (λ w. after_put w x) after step), omega (arith, ap (λ (w : View X). length w.items) is)) }
 
 -- Some items are pushed, and then others.
 pub PushesOnto-then : {X : Type 0} {old now new : Slots X} {at last : Span} (was : Span) (capacity : ℕ) (xs ys : List X)

@@ -42,7 +42,8 @@ module _ {X : Type 0} (s : Slots X) (start : ℕ) (laid_out : IsLaidOut s start)
   rest_held : HoldsStretch s.slots 0 (count - first) (take (count - first) (drop first (items_from s.slots start)))
   rest_held =
       let items = items_from s.slots start in let within = laid_out.start_within in let fit = laid_out.fit in let round = λ (k : ℕ). wrap start (first + k) (length s.slots) within in
-      stretch_of s.slots 0 (count - first) (take (count - first) (drop first items)) (omega (arith, length-take (count - first) (drop first items), length-drop first items)) (omega arith) (λ k low. grind (arith, laid_out.layout (first + k), round k, slice_get-take, slice_get-drop))
+      let long = length-take (count - first) (drop first items) in let behind = length-drop first items in
+      stretch_of s.slots 0 (count - first) (take (count - first) (drop first items)) (omega arith) (omega arith) (λ k low. grind (arith, laid_out.layout (first + k), round k, slice_get-take, slice_get-drop))
 
   pub lie_in_two : InTwo s.slots start first (count - first) (take count (items_from s.slots start))
   lie_in_two =
@@ -50,8 +51,8 @@ module _ {X : Type 0} (s : Slots X) (start : ℕ) (laid_out : IsLaidOut s start)
       record {
         front = (omega arith, (take first items, front_held));
         rest = (omega arith, (take (count - first) (drop first items), rest_held));
-        whole = λ xs ys before after. rw (stretch_is s.slots start first xs (take first items) before front_held, stretch_is s.slots 0 (count - first) ys (take (count - first) (drop first items)) after rest_held)
-            (sym (take-add first (count - first) items) ∙ ap (λ n. take n items) all);
+        whole = λ xs ys before after. let one = stretch_is s.slots start first xs _ before front_held in let two = stretch_is s.slots 0 (count - first) ys _ after rest_held in
+            rw (one, two) (sym (take-add first (count - first) items) ∙ ap (λ n. take n items) all);
       }
 
 -- so do all of them
@@ -80,9 +81,10 @@ module _ {X : Type 0} {limit : ℕ → ℕ} (s : Slots X) (start len : ℕ) (sou
   firsts_in_two few least = rw (sym shows) (lie_in_two s start sound.laid_out _ _ (omega (arith, few, sound.counted)) least)
 
   -- the items from an index on lie side by side where they reach no further than the last slot
-  pub onward : (index n place : ℕ) → place ≡ (start + index) % length s.slots → index + n ≤ len → n ≤ length s.slots - place → LieAt s v index n place
-  onward index n place at some room =
+  pub onward : (index n place : ℕ) → place ≡ (start + index) % length s.slots → (index + n ≤ len) × (n ≤ length s.slots - place) → LieAt s v index n place
+  onward index n place at room =
       let laid_out = sound.laid_out in let items = items_from s.slots start in let counted = sound.counted in
       let below = mod-lt (start + index) {m = length s.slots} (omega (arith, laid_out.start_within)) in let fit : place + n ≤ length s.slots = omega (arith, at, below, room) in
-      rw (sym shows) (omega arith, fit, stretch_of s.slots place n (take n (drop index items)) (omega (arith, length-take n (drop index items), length-drop index items)) fit
+      let long = length-take n (drop index items) in let behind = length-drop index items in
+      rw (sym shows) (omega arith, fit, stretch_of s.slots place n (take n (drop index items)) (omega arith) fit
           (λ k low. grind (arith, laid_out.layout (index + k), contiguous_on start index place (length s.slots) k at (omega arith), slice_get-take, slice_get-drop)))

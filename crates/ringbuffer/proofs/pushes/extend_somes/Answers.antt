@@ -3,24 +3,17 @@ use Rattle.ringbuffer.proofs.ArraysOfOptions.{somes_turn}
 use Rattle.ringbuffer.proofs.pushes.extend_somes.Goals as goal
 use Rattle.ringbuffer.proofs.pushes.extend_somes.Goals.{in-Some+in_ok-push_item, in_default}
 
--- what was taken is what the place held
-read_at : {A : Type 0} (xs : List A) (i : ℕ) (taken held : A) → taken ≡ get_or xs i held → held ≡ get_or xs i held → taken ≡ get_or xs i taken
-read_at xs i taken held same at = rw (same ∙ sym at) at
-
 pub loop-i-preserved : goal.loop-i-preserved
 loop-i-preserved g c =
-    let done = c.loop-i.invariant in
-    let i = c.loop-i.i in
+    let done = c.loop-i.invariant in let i = c.loop-i.i in
     let limit = g.R.RingBuffer.limit c.args.ring.now in
     let old = g.R.RingBuffer.contents c.args.ring.now in
     let turn : MatchOption c.take.result (g.R.RingBuffer.contents c.match-take.ring ≡ g.R.RingBuffer.contents c.loop-i.ring) (λ x. g.R.RingBuffer.contents c.match-take.ring ≡ keep_last limit (g.R.RingBuffer.contents c.loop-i.ring ++ x ∷ [])) =
     elim c.match-take.branch [ in-Some+in_ok-push_item w ↦ grind (arith, common_steps) | in_default w ↦ grind (arith, common_steps) ] in
     record {
-      pushed = somes_turn limit old _ _ c.args.items c.loop-i.items i c.take.result done.pushed done.left (omega arith) (read_at c.loop-i.items i c.take.result c.index-items-i.result c.take.ensures.value c.index-items-i.is) turn;
+      pushed = somes_turn limit old _ _ c.args.items c.loop-i.items i c.take.result done.pushed done.left (omega arith) (rw (c.take.ensures.value ∙ sym c.index-items-i.is) c.index-items-i.is) turn;
       left = rw (drop-set-lt (i + 1) c.loop-i.items i _ (omega arith), ← drop-drop, ← drop-drop, done.left) refl;
       same_length = length-set _ _ _ ∙ done.same_length;
       same_limit = elim c.match-take.branch [ in-Some+in_ok-push_item w ↦ grind (arith, common_steps) | in_default w ↦ grind (arith, common_steps) ];
     }
 
-pub loop-i-init : goal.loop-i-init
-loop-i-init g c = search rules

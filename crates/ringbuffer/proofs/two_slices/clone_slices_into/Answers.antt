@@ -9,12 +9,12 @@ made : (g : Over) (c : After-clone_slice_into-2 g) → (xs : List _) × AllZip g
     × (c.clone_slice_into.new.output ++ c.clone_slice_into-2.new.output ≡ xs ++ drop (length xs) c.args.output.now) × IfOk c.clone_slice_into-2.result (λ n. c.min-before.result + n ≡ length xs)
 made g c =
     let (ys, first, is, all) = c.in_ok-clone_slice_into.ensures.clones in let (zs, second, goes_on, whole) = c.clone_slice_into-2.ensures.clones in
-    let parts = c.split_at_mut-front.ensures in let cut = c.min-before.result in let out = c.args.output.now in let least = c.min-before.ensures in
-    let long : length ys ≡ cut = omega (arith, all, c.in_ok-clone_slice_into.ensures.count, parts.front_len, length-take cut c.args.items.0.now, least) in
-    let few : length zs ≤ length out - cut = omega (arith, ap (λ (l : List _). length l) goes_on, c.clone_slice_into-2.auto.output, length-append zs (drop (length zs) c.split_at_mut-front.result.1.now), parts.back_len) in
-    let start = rw (take-take (length ys) cut c.args.items.0.now (omega (arith, long))) at first in (
+    let parts = c.split_at_mut-front.ensures in let cut = c.min-before.result in let out = c.args.output.now in
+    let long : length ys ≡ cut = omega (arith, all, c.in_ok-clone_slice_into.ensures.count, length-take cut c.args.items.0.now) in
+    let few : length zs ≤ length out - cut = omega (arith, ap (λ (l : List _). length l) goes_on, length-append zs (drop (length zs) c.split_at_mut-front.result.1.now)) in
+    let start = rw (take-take (length ys) cut c.args.items.0.now (omega arith)) at first in (
       ys ++ zs,
-      joined g.T.Clone.is_clone c.args.items.0.now c.args.items.1.now ys zs (omega (arith, long, least)) (λ some. omega (arith, long, few, least)) start second,
+      joined g.T.Clone.is_clone c.args.items.0.now c.args.items.1.now ys zs (omega arith) (λ some. omega arith) start second,
       rw (is, goes_on, parts.front, parts.back) (grind (arith, common_steps)),
       IfOk-weaker c.clone_slice_into-2.result _ _ (λ n counted. omega (arith, long, counted, length-append ys zs)) whole,
     )

@@ -5,6 +5,5 @@ use Rattle.ringbuffer.proofs.two_slices.copy_slices.Goals as goal
 -- A beginning of the first slice is copied, and if it is whole one of the second.
 pub returns-clause-copied : goal.returns-clause-copied
 returns-clause-copied g c =
-    let front = c.split_at_mut-front.ensures in let least = c.min-before.ensures in
-    let both = both_taken c.min-before.result c.copy_slice.result c.args.items.0.now c.args.items.1.now (omega (arith, least)) (λ some. omega (arith, least, c.copy_slice.ensures.count, front.back_len, front.front_len)) in
-    rw (c.copy_from_slice.ensures.after, c.copy_slice.ensures.copied, front.back, sym both, append_assoc _ _ _, drop-drop) refl
+    let both = both_taken c.min-before.result c.copy_slice.result c.args.items.0.now c.args.items.1.now (omega arith) (λ some. omega arith) in
+    rw (c.copy_from_slice.ensures.after, c.copy_slice.ensures.copied, c.split_at_mut-front.ensures.back, sym both, append_assoc _ _ _, drop-drop) refl

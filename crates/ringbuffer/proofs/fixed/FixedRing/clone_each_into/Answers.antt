@@ -6,5 +6,5 @@ use Rattle.ringbuffer.proofs.fixed.FixedRing.clone_each_into.Goals as goal
 pub loop-k-preserved : goal.loop-k-preserved
 loop-k-preserved g c =
     let (ys, clones, long, is) = c.loop-k.invariant in let y = c.in_ok-output.field-0 in
-    let placed = clone_out c.args.output.now ys c.loop-k.k y long (omega (arith, c.min-count.ensures, c.loop-k-test.true)) in
-    (ys ++ y ∷ [], rw (take_item _ _ _ c.at.ensures) (AllZip-push _ _ _ _ _ clones c.in_ok-output.ensures.cases), omega (arith, long, length-append ys (y ∷ [])), rw is placed)
+    let placed = clone_out c.args.output.now ys c.loop-k.k y long (omega arith) in
+    (ys ++ y ∷ [], rw (take_item _ _ _ c.at.ensures) (AllZip-push _ _ _ _ _ clones c.in_ok-output.ensures.cases), omega (arith, length-append ys (y ∷ [])), rw is placed)

@@ -9,4 +9,5 @@ pub loop-len-preserved : goal.loop-len-preserved
 loop-len-preserved g c =
     let (ys, all, long, lays_out) = c.loop-len.invariant.put in let y = c.in-Ok.item in
     let more = LaysOut-then (λ v. after_put v y) lays_out c.put_next.ensures in
-    record { put = (ys ++ y ∷ [], rw (take_item _ _ _ c.at.ensures) (AllZip-push _ _ _ _ _ all c.in-Ok.ensures.cases), omega (arith, length-append ys (y ∷ [])), rw after_puts-more at more) }
+    let longer = length-append ys (y ∷ []) in
+    record { put = (ys ++ y ∷ [], rw (take_item _ _ _ c.at.ensures) (AllZip-push _ _ _ _ _ all c.in-Ok.ensures.cases), omega arith, rw after_puts-more at more) }

@@ -5,16 +5,15 @@ use Rattle.ringbuffer.proofs.fixed.FixedRing.common_prefix_len.Goals as goal
 -- One pair more is equal.
 pub loop-k-preserved : goal.loop-k-preserved
 loop-k-preserved g c =
-    let more = rw c.if-not-same.false at (next_pair g.T.PartialEq.eq _ _ c.loop-k.k c.at.ensures c.at-in-loop-k.ensures c.eq-same.ensures) in omega (arith, c.loop-k.invariant, more)
+    let more = rw c.if-not-same.false at (next_pair g.T.PartialEq.eq _ _ c.loop-k.k c.at.ensures c.at-in-loop-k.ensures c.eq-same.ensures) in omega arith
 
 -- This pair differs.
 pub returns-then-not-same : goal.returns-then-not-same
 returns-then-not-same g c =
-    let none = rw c.if-not-same.true at (next_pair g.T.PartialEq.eq _ _ c.loop-k.k c.at.ensures c.at-in-loop-k.ensures c.eq-same.ensures) in omega (arith, c.loop-k.invariant, none)
+    let none = rw c.if-not-same.true at (next_pair g.T.PartialEq.eq _ _ c.loop-k.k c.at.ensures c.at-in-loop-k.ensures c.eq-same.ensures) in omega arith
 
 -- One of the rings has no item left.
 pub returns : goal.returns
 returns g c =
-    let none = prefix_past g.T.PartialEq.eq c.loop-k.k c.args.self.now.items c.args.other.now.items (omega (arith, c.loop-k-test.false, c.min-len.ensures, c.self.invariant.counted, c.other.invariant.counted,
-        ap (λ (v : View _). length v.items) c.self.view_is, ap (λ (v : View _). length v.items) c.other.view_is)) in
-    omega (arith, c.loop-k.invariant, none, c.loop-k-test.false, c.loop-k.auto.k-end)
+    let none = prefix_past g.T.PartialEq.eq c.loop-k.k c.args.self.now.items c.args.other.now.items (omega (arith, ap (λ (v : View _). length v.items) c.self.view_is, ap (λ (v : View _). length v.items) c.other.view_is)) in
+    omega arith

@@ -9,8 +9,8 @@ both : (g : Over) (c : After-split_at_mut-front g) → InTwo (g.S.RingSlots.seen
     (length (take (c.min-count.result - c.min-first.result) c.split_at_mut-front.result.1.now)) (take c.min-count.result c.args.self.now.items)
 both g c =
     let others = c.split_at_mut-front.result.1.now in let n = c.min-count.result - c.min-first.result in
-    let places : length (take n others) ≡ n = omega (arith, length-take n others, c.split_at_mut-front.ensures.back_len, c.min-count.ensures) in
-    rw (c.split_at_mut-front.ensures.front_len, places) (firsts_in_two _ _ _ c.self.invariant c.self.view_is (omega (arith, c.min-count.ensures)) (rw c.size.ensures.value at c.min-first.ensures))
+    let places : length (take n others) ≡ n = omega (arith, length-take n others) in
+    rw (c.split_at_mut-front.ensures.front_len, places) (firsts_in_two _ _ _ c.self.invariant c.self.view_is (omega arith) (rw c.size.ensures.value at c.min-first.ensures))
 
 pub copy_stretch-requires : goal.copy_stretch-requires
 copy_stretch-requires g c = (both g c.before).front
@@ -21,5 +21,6 @@ copy_stretch-requires-2 g c = (both g c.before.before.before.before).rest
 -- The two stretches are the first items.
 pub returns-clause-copied : goal.returns-clause-copied
 returns-clause-copied g c =
-    let all : c.min-first.result + (c.min-count.result - c.min-first.result) ≡ c.min-count.result = omega (arith, c.min-first.ensures) in
-    rw (sym ((both g c.before.before.before.before.before.before.before.before).whole _ _ c.copy_stretch.ensures c.copy_stretch-2.ensures), c.split_at_mut-front.ensures.back, drop-drop, all, append_assoc) refl
+    let all : c.min-first.result + (c.min-count.result - c.min-first.result) ≡ c.min-count.result = omega arith in
+    let both = (both g c.before.before.before.before.before.before.before.before).whole _ _ c.copy_stretch.ensures c.copy_stretch-2.ensures in
+    rw (sym both, c.split_at_mut-front.ensures.back, drop-drop, all, append_assoc) refl

@@ -6,9 +6,10 @@ use Rattle.ringbuffer.proofs.fixed.FixedRing.equals_by_stretch.Goals as goal
 use Rattle.ringbuffer.proofs.fixed.FixedRing.equals_by_stretch.Goals.{After-split_at, After-stretch_equals}
 
 -- the items lie in two stretches, as long as the parts of the slice
-both : (g : Over) (c : After-split_at g) → InTwo (g.S.RingSlots.seen c.self.inside.slots).slots c.self.inside.span.start (length c.split_at.result.0.now) (length c.split_at.result.1.now) c.args.self.now.items
+both : (g : Over) (c : After-split_at g)
+    → InTwo (g.S.RingSlots.seen c.self.inside.slots).slots c.self.inside.span.start (length c.split_at.result.0.now) (length c.split_at.result.1.now) c.args.self.now.items
 both g c =
-    let rest : length c.split_at.result.1.now ≡ c.self.inside.span.len - c.min-first.result = omega (arith, c.split_at.ensures.back_len, c.self.invariant.counted, ap (λ (v : View _). length v.items) c.self.view_is, c.requires) in
+    let rest : length c.split_at.result.1.now ≡ c.self.inside.span.len - c.min-first.result = omega (arith, ap (λ (v : View _). length v.items) c.self.view_is) in
     rw (c.split_at.ensures.front_len, rest) (in_two _ _ _ c.self.invariant c.self.view_is (rw c.size.ensures.value at c.min-first.ensures))
 
 pub stretch_equals-requires : goal.stretch_equals-requires
@@ -33,4 +34,5 @@ returns-then-stretch_equals g c =
 -- The first stretch differs.
 pub returns-else-stretch_equals : goal.returns-else-stretch_equals
 returns-else-stretch_equals g c =
-    let (_, (ys, more)) = (both g c.before.before.before.before).rest in rw (compared g c.before ys more, c.if-stretch_equals.false) refl
+    let (_, (ys, more)) = (both g c.before.before.before.before).rest in
+    rw (compared g c.before ys more, c.if-stretch_equals.false) refl

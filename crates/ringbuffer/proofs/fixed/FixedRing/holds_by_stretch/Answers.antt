@@ -4,7 +4,8 @@ use Rattle.ringbuffer.proofs.fixed.FixedRing.holds_by_stretch.Given.{Over}
 use Rattle.ringbuffer.proofs.fixed.FixedRing.holds_by_stretch.Goals as goal
 
 -- the items lie in two stretches
-both : (g : Over) (c : goal.After-min-first g) → InTwo (g.S.RingSlots.seen c.self.inside.slots).slots c.self.inside.span.start c.min-first.result (c.self.inside.span.len - c.min-first.result) c.args.self.now.items
+both : (g : Over) (c : goal.After-min-first g)
+    → InTwo (g.S.RingSlots.seen c.self.inside.slots).slots c.self.inside.span.start c.min-first.result (c.self.inside.span.len - c.min-first.result) c.args.self.now.items
 both g c = in_two _ _ _ c.self.invariant c.self.view_is (rw c.size.ensures.value at c.min-first.ensures)
 
 pub stretch_holds-requires : goal.stretch_holds-requires
