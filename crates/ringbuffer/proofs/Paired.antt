@@ -86,12 +86,14 @@ module _ {X : Type 0} (eq : X → X → Bool) where
 
   -- The n pairs after the first k, which are equal, are compared: what follows these counts where all of them are equal.
   abbrev pub GoesOn : (xs ys : List X) (k n more : ℕ) → Type 0
-  GoesOn xs ys k n more = (more < n → common_prefix_len eq xs ys ≡ k + more) × (n ≤ more → common_prefix_len eq xs ys ≡ k + n + common_prefix_len eq (drop (k + n) xs) (drop (k + n) ys))
+  GoesOn xs ys k n more = (more < n → common_prefix_len eq xs ys ≡ k + more)
+      × (n ≤ more → common_prefix_len eq xs ys ≡ k + n + common_prefix_len eq (drop (k + n) xs) (drop (k + n) ys))
 
   pub prefix_on : (xs ys : List X) (k n more : ℕ) → k + n ≤ length xs → k + n ≤ length ys → common_prefix_len eq xs ys ≡ k + common_prefix_len eq (drop k xs) (drop k ys)
       → more ≡ common_prefix_len eq (take n (drop k xs)) (take n (drop k ys)) → GoesOn xs ys k n more
   prefix_on xs ys k n more low other_low so_far compared =
-      let parts = rw (drop-drop n k xs, drop-drop n k ys, sym compared) at (prefix_parts n (drop k xs) (drop k ys) (omega (arith, length-drop k xs)) (omega (arith, length-drop k ys))) in
+      let left = length-drop k xs in let other_left = length-drop k ys in
+      let parts = rw (drop-drop n k xs, drop-drop n k ys, sym compared) at (prefix_parts n (drop k xs) (drop k ys) (omega arith) (omega arith)) in
       (λ short. omega (arith, so_far, parts.0 short), λ long. omega (arith, so_far, parts.1 long))
 
   -- lists of one length are equal where all their pairs are

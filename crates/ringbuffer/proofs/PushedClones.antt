@@ -10,8 +10,8 @@ module _ {X E : Type 0} (IsClone : X → X → Type 0) (limit : ℕ) (items : Li
   -- Clones that each equal their item are as good as the items.
   pub as_items : ((x y : X) → IsClone x y → y ≡ x) → OnOk r (w.items ≡ keep_last (Some limit) (v.items ++ items))
   as_items same =
-      let (over, ys, within, clones, done, is) = pushed in
-      equal_clones_pushed IsClone (Some limit) items v.items w.items r (over, ys, within, clones, ap (λ (u : View X). u.items) is, MatchResult-weaker r done (λ _ all. all) (λ _ _. tt)) same
+      let (over, ys, within, clones, done, is) = pushed in let whole = MatchResult-weaker r done (λ _ all. all) (λ _ _. tt) in
+      equal_clones_pushed IsClone (Some limit) items v.items w.items r (over, ys, within, clones, ap (λ (u : View X). u.items) is, whole) same
 
   -- Each clone changes its slot, and one more where an item gives way.
   pub few_changes : ChangesSlots v.changes v.items w.changes w.items (length items)

@@ -21,20 +21,23 @@ module _ {X : Type 0} {old : Slots X} {span : Span} {capacity : ℕ} (can : CanP
 
   pub none_yet : (full : Bool) → Pushed old span capacity full old 0 []
   none_yet full =
-      let empty = after_extend-none capacity v (omega (arith, can.len, can.within)) in let within = can.laid_out.start_within in let at = after_pushes full span 0 (length old.slots) in
+      let empty = after_extend-none capacity v (omega (arith, can.len, can.within)) in
+      let within = can.laid_out.start_within in let at = after_pushes full span 0 (length old.slots) in
       let stays : at.start ≡ span.start = grind (arith, mod-eq_of_lt) in let same : at.len ≡ span.len = grind arith in
       record { long = refl; pushed = (rw stays (rw empty at (LaysOut-none old span.start can.laid_out)), same ∙ can.len ∙ ap (λ (w : View X). length w.items) empty) }
 
   -- one push more, where so many fit
-  pub one_more : {now new : Slots X} {i count : ℕ} {xs : List X} (x : X) (full : Bool) → full ≡ nat_eq span.len capacity → (full ≡ false → count ≤ capacity - span.len) → i < count
-      → Pushed old span capacity full now i xs → let at = after_pushes full span i (length old.slots) in let w = view_from now at.start in
+  pub one_more : {now new : Slots X} {i count : ℕ} {xs : List X} (x : X) (full : Bool) → full ≡ nat_eq span.len capacity → (full ≡ false → count ≤ capacity - span.len)
+      → i < count → Pushed old span capacity full now i xs → let at = after_pushes full span i (length old.slots) in let w = view_from now at.start in
         LaysOut now new (if full then (at.start + 1) % length now.slots else at.start) (if full then after_put (after_take w) x else after_put w x)
       → Pushed old span capacity full new (i + 1) (xs ++ x ∷ [])
   one_more {i = i} {xs = xs} x true is room low so_far step =
-      let all : span.len ≡ capacity = grind (arith, nat_tests, is) in let (after, _) = so_far.pushed in let most = λ (ys : List X). after_extend-full capacity v ys (sym all ∙ can.len) in
+      let (after, _) = so_far.pushed in let all : span.len ≡ capacity = grind (arith, nat_tests, is) in
+      let most = λ (ys : List X). after_extend-full capacity v ys (sym all ∙ can.len) in
       let is = sym (after_push-full capacity (after_extend capacity v xs) x (most xs) can.some) ∙ after_extend-then capacity v xs (x ∷ []) in
       let place = ap (λ n. ((span.start + i) % length old.slots + 1) % n) after.same_size ∙ count_on span.start i 1 (i + 1) (length old.slots) refl in
-      record { long = omega (arith, so_far.long, length-append xs (x ∷ [])); pushed = (rw (place, is) at (LaysOut-then (λ w. after_put (after_take w) x) after step), all ∙ sym (most (xs ++ x ∷ []))) }
+      let longer = length-append xs (x ∷ []) in let lies = rw (place, is) at (LaysOut-then (λ w. after_put (after_take w) x) after step) in
+      record { long = omega (arith, so_far.long); pushed = (lies, all ∙ sym (most (xs ++ x ∷ []))) }
   one_more {xs = xs} x false is room low so_far step =
       let (after, long) = so_far.pushed in let so_far_long = so_far.long in let held = after_extend capacity v xs in
       let is = after_extend-fits capacity held (x ∷ []) (omega (arith, long, can.within, low, room refl)) ∙ after_extend-then capacity v xs (x ∷ []) in

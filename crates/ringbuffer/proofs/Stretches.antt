@@ -43,7 +43,8 @@ module _ {X : Type 0} (s : Slots X) (start : ℕ) (laid_out : IsLaidOut s start)
   rest_held =
       let items = items_from s.slots start in let within = laid_out.start_within in let fit = laid_out.fit in let round = λ (k : ℕ). wrap start (first + k) (length s.slots) within in
       let long = length-take (count - first) (drop first items) in let behind = length-drop first items in
-      stretch_of s.slots 0 (count - first) (take (count - first) (drop first items)) (omega arith) (omega arith) (λ k low. grind (arith, laid_out.layout (first + k), round k, slice_get-take, slice_get-drop))
+      stretch_of s.slots 0 (count - first) (take (count - first) (drop first items)) (omega arith) (omega arith)
+          (λ k low. grind (arith, laid_out.layout (first + k), round k, slice_get-take, slice_get-drop))
 
   pub lie_in_two : InTwo s.slots start first (count - first) (take count (items_from s.slots start))
   lie_in_two =

@@ -1,12 +1,12 @@
 use Rattle.ringbuffer.proofs.Words.{◌≡◌, ◌≤◌, ◌+◌, ◌-◌, ◌++◌, AllZip, IfOk, IfOk-weaker, List, ap, arith, common_steps, drop, length, length-append, length-drop, length-take, rules, take, take-take}
 use Rattle.ringbuffer.proofs.PushedClones.{joined}
-use Rattle.ringbuffer.proofs.two_slices.clone_slices_into.Given.{Over}
 use Rattle.ringbuffer.proofs.two_slices.clone_slices_into.Goals as goal
 use Rattle.ringbuffer.proofs.two_slices.clone_slices_into.Goals.{After-clone_slice_into-2}
 
 -- Clones of the first slice, which is done unless the output is full, and then those of the second.
-made : (g : Over) (c : After-clone_slice_into-2 g) → (xs : List _) × AllZip g.T.Clone.is_clone (take (length xs) (c.args.items.0.now ++ c.args.items.1.now)) xs
-    × (c.clone_slice_into.new.output ++ c.clone_slice_into-2.new.output ≡ xs ++ drop (length xs) c.args.output.now) × IfOk c.clone_slice_into-2.result (λ n. c.min-before.result + n ≡ length xs)
+made : (g : _) (c : After-clone_slice_into-2 g) → (xs : List _) × AllZip g.T.Clone.is_clone (take (length xs) (c.args.items.0.now ++ c.args.items.1.now)) xs
+    × (c.clone_slice_into.new.output ++ c.clone_slice_into-2.new.output ≡ xs ++ drop (length xs) c.args.output.now)
+    × IfOk c.clone_slice_into-2.result (λ n. c.min-before.result + n ≡ length xs)
 made g c =
     let (ys, first, is, all) = c.in_ok-clone_slice_into.ensures.clones in let (zs, second, goes_on, whole) = c.clone_slice_into-2.ensures.clones in
     let parts = c.split_at_mut-front.ensures in let cut = c.min-before.result in let out = c.args.output.now in

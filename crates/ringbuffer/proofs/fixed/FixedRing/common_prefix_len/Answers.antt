@@ -15,5 +15,6 @@ returns-then-not-same g c =
 -- One of the rings has no item left.
 pub returns : goal.returns
 returns g c =
-    let none = prefix_past g.T.PartialEq.eq c.loop-k.k c.args.self.now.items c.args.other.now.items (omega (arith, ap (λ (v : View _). length v.items) c.self.view_is, ap (λ (v : View _). length v.items) c.other.view_is)) in
+    let long = ap (λ (v : View _). length v.items) c.self.view_is in let other_long = ap (λ (v : View _). length v.items) c.other.view_is in
+    let none = prefix_past g.T.PartialEq.eq c.loop-k.k c.args.self.now.items c.args.other.now.items (omega arith) in
     omega arith

@@ -1,11 +1,10 @@
 use Rattle.ringbuffer.proofs.Words.{◌≡◌, ◌+◌, ◌-◌, append_assoc, arith, drop-drop, length, length-take, refl, sym, take}
 use Rattle.ringbuffer.proofs.Stretches.{InTwo, firsts_in_two}
-use Rattle.ringbuffer.proofs.fixed.FixedRing.copy_stretches.Given.{Over}
 use Rattle.ringbuffer.proofs.fixed.FixedRing.copy_stretches.Goals as goal
 use Rattle.ringbuffer.proofs.fixed.FixedRing.copy_stretches.Goals.{After-split_at_mut-front}
 
 -- the items that are copied lie in two stretches, as long as the parts of the output that take them
-both : (g : Over) (c : After-split_at_mut-front g) → InTwo (g.S.RingSlots.seen c.self.inside.slots).slots c.self.inside.span.start (length c.split_at_mut-front.result.0.now)
+both : (g : _) (c : After-split_at_mut-front g) → InTwo (g.S.RingSlots.seen c.self.inside.slots).slots c.self.inside.span.start (length c.split_at_mut-front.result.0.now)
     (length (take (c.min-count.result - c.min-first.result) c.split_at_mut-front.result.1.now)) (take c.min-count.result c.args.self.now.items)
 both g c =
     let others = c.split_at_mut-front.result.1.now in let n = c.min-count.result - c.min-first.result in

@@ -1,11 +1,10 @@
 use Rattle.ringbuffer.proofs.Words.{◌∙◌, ◌-◌, View, ap, length, sym, flat_map-append, fold-append}
 use Rattle.ringbuffer.proofs.Stretches.{InTwo, in_two}
-use Rattle.ringbuffer.proofs.fixed.FixedRing.hash_by_stretch.Given.{Over}
 use Rattle.ringbuffer.proofs.fixed.FixedRing.hash_by_stretch.Goals as goal
 use Rattle.ringbuffer.proofs.fixed.FixedRing.hash_by_stretch.Goals.{After-write_usize}
 
 -- the items lie in two stretches
-both : (g : Over) (c : After-write_usize g)
+both : (g : _) (c : After-write_usize g)
     → InTwo (g.S.RingSlots.seen c.self.inside.slots).slots c.self.inside.span.start c.min-first.result (c.self.inside.span.len - c.min-first.result) c.args.self.now.items
 both g c = in_two _ _ _ c.self.invariant c.self.view_is (rw c.size.ensures.value at c.min-first.ensures)
 

@@ -1,10 +1,9 @@
 use Rattle.ringbuffer.proofs.Words.{◌-◌, refl, sym, list_any-append}
 use Rattle.ringbuffer.proofs.Stretches.{InTwo, in_two}
-use Rattle.ringbuffer.proofs.fixed.FixedRing.holds_by_stretch.Given.{Over}
 use Rattle.ringbuffer.proofs.fixed.FixedRing.holds_by_stretch.Goals as goal
 
 -- the items lie in two stretches
-both : (g : Over) (c : goal.After-min-first g)
+both : (g : _) (c : goal.After-min-first g)
     → InTwo (g.S.RingSlots.seen c.self.inside.slots).slots c.self.inside.span.start c.min-first.result (c.self.inside.span.len - c.min-first.result) c.args.self.now.items
 both g c = in_two _ _ _ c.self.invariant c.self.view_is (rw c.size.ensures.value at c.min-first.ensures)
 

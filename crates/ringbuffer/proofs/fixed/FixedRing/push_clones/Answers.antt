@@ -1,11 +1,10 @@
 use Rattle.ringbuffer.proofs.Words.{◌≡◌, ◌+◌, ◌-◌, [], ◌∷◌, ◌++◌, AllZip, AllZip-join, List, MatchResult, all_zip_more, arith, drop, length, length-append, length-drop, length-take, take, take_all, take-add, PushesOnto}
 use Rattle.ringbuffer.proofs.PushedStretch.{PushesOnto-then}
-use Rattle.ringbuffer.proofs.fixed.FixedRing.push_clones.Given.{Over}
 use Rattle.ringbuffer.proofs.fixed.FixedRing.push_clones.Goals as goal
 use Rattle.ringbuffer.proofs.fixed.FixedRing.push_clones.Goals.{After-push_clone_stretch}
 
 -- Clones of the items so far, of the next one and of some after it are those of a longer beginning.
-pushed : (g : Over) (c : After-push_clone_stretch g)
+pushed : (g : _) (c : After-push_clone_stretch g)
     → (ys : List _) × (length ys ≡ c.loop-done.done + (1 + c.push_clone_stretch.result.1)) × AllZip g.T.Clone.is_clone (take (length ys) c.args.items.now) ys
     × MatchResult c.push_clone_stretch.result.2 (λ _. Unit {0}) (λ _. (x : _) × ¬ (g.T.Clone.is_infallible x))
     × PushesOnto (g.S.RingSlots.seen c.args.slots.now) (g.S.RingSlots.seen c.push_clone_stretch.new.slots) c.args.span c.push_clone_stretch.result.0 c.args.capacity ys

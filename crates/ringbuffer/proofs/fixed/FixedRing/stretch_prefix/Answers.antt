@@ -1,6 +1,5 @@
 use Rattle.ringbuffer.proofs.Words.{◌≡◌, ◌∙◌, ◌+◌, ◌*◌, ◌-◌, arith, sym}
 use Rattle.ringbuffer.proofs.Paired.{AreEqual, ends, full_at, goes_on, none_left}
-use Rattle.ringbuffer.proofs.fixed.FixedRing.stretch_prefix.Given.{Over}
 use Rattle.ringbuffer.proofs.fixed.FixedRing.stretch_prefix.Goals as goal
 use Rattle.ringbuffer.proofs.fixed.FixedRing.stretch_prefix.Goals.{After-get-in-loop-turn-2, After-get-then-len-eq1}
 
@@ -9,9 +8,10 @@ loop-turn-init g c =
     record { equal = λ xs ys held others_held. omega arith; full = full_at _ _ _ c.requires.full; others_full = full_at _ _ _ c.requires.others_full }
 
 -- A turn's first pair is equal.
-one_equal : (g : Over) (c : After-get-in-loop-turn-2 g) → let S = g.S.RingSlots in
+one_equal : (g : _) (c : After-get-in-loop-turn-2 g) → let S = g.S.RingSlots in
     AreEqual g.T.PartialEq.eq (S.seen c.args.slots.now).slots (S.seen c.args.others.now).slots c.args.from c.args.other_from c.args.len (2 * c.loop-turn.turn + 1)
-one_equal g c = goes_on _ _ _ _ _ _ (2 * c.loop-turn.turn) c.loop-turn.invariant.equal (omega arith) c.get.ensures c.get-in-loop-turn.ensures c.eq-same.ensures c.if-not-same.false
+one_equal g c =
+    goes_on _ _ _ _ _ _ (2 * c.loop-turn.turn) c.loop-turn.invariant.equal (omega arith) c.get.ensures c.get-in-loop-turn.ensures c.eq-same.ensures c.if-not-same.false
 
 -- It differs.
 pub returns-then-not-same-clause-value : goal.returns-then-not-same-clause-value
@@ -33,7 +33,7 @@ loop-turn-preserved g c =
     record { equal = rw place two; full = c.loop-turn.invariant.full; others_full = c.loop-turn.invariant.others_full }
 
 -- All but the last of an odd number are equal.
-but_last : (g : Over) (c : After-get-then-len-eq1 g) → let S = g.S.RingSlots in
+but_last : (g : _) (c : After-get-then-len-eq1 g) → let S = g.S.RingSlots in
     AreEqual g.T.PartialEq.eq (S.seen c.args.slots.now).slots (S.seen c.args.others.now).slots c.args.from c.args.other_from c.args.len (c.args.len - 1)
 but_last g c =
     let place : 2 * c.loop-turn.turn ≡ c.args.len - 1 = omega arith in rw place at c.loop-turn.invariant.equal
