@@ -1,5 +1,5 @@
 -- What a source gave in two parts, and what a vector holds that was filled by calls.
-use Rattle.ringbuffer.proofs.Words.{◌≡◌, ℕ, ◌<◌, List, [], ◌∷◌, ◌++◌, take, Option, Some, sym, ap, subst, ◌∙◌, arith, Result, Ok, Err, OnOk, OnErr, MatchResult, Yields, YieldsThen, Drains, AppendsResults, FoldsTo, Yields-both}
+use Rattle.ringbuffer.proofs.Words.{◌≡◌, ℕ, ◌<◌, List, [], ◌∷◌, ◌++◌, take, Option, Some, arith, Result, Ok, Err, OnOk, OnErr, MatchResult, YieldsThen, Drains, AppendsResults, FoldsTo, Yields-both}
 use Rattle.std.proofs.Math.Seq.{take-nil}
 
 module _ {S A : Type 0} (steps : S → Option A → S → Type 0) where

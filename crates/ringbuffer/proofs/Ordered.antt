@@ -1,5 +1,5 @@
 -- Two lists are ordered as the first pair that differs, or as their lengths.
-use Rattle.ringbuffer.proofs.Words.{◌≡◌, ◌∙◌, ℕ, ◌+◌, ◌≤◌, inl, inr, Bool, List, [], ◌∷◌, Option, None, Some, ap, arith, drop, length, length-drop, min, refl, slice_get, suc, sym, cases_Bool, common_prefix_len-le, common_prefix_len}
+use Rattle.ringbuffer.proofs.Words.{◌≡◌, ◌∙◌, ℕ, ◌+◌, ◌≤◌, inl, inr, Bool, List, [], ◌∷◌, Option, None, Some, ap, arith, drop, length, length-drop, min, refl, slice_get, suc, cases_Bool, common_prefix_len-le, common_prefix_len}
 use Rattle.std.proofs.Common.{Ordering, Less, Equal, Greater}
 use Rattle.std.specs.Cmp.{IsPartialOrder, nat_cmp_is}
 use Rattle.std.specs.Cmp.Lexicographic.{slice_partial_cmp}

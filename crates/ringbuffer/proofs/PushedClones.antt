@@ -1,5 +1,5 @@
 -- Clones of lists' items: what a ring of a fixed capacity shows after they were pushed, and what two lists have together.
-use Rattle.ringbuffer.proofs.Words.{common_steps, ◌≡◌, ℕ, ◌+◌, ◌-◌, ◌<◌, ◌≤◌, ◌⊎◌, inl, inr, List, [], ◌++◌, append-nil, append_assoc, drop-drop, length, min, nil_from_length, take, drop, Some, Ok, Err, OnOk, MatchResult, Result, ap, sym, ◌∙◌, arith, length-append, length-drop, length-take, subst, take_all, take-append-add, AllZip, AllZip-join, View, after_extend, keep_last, length_all_zip, take-append-le}
+use Rattle.ringbuffer.proofs.Words.{common_steps, ◌≡◌, ℕ, ◌+◌, ◌-◌, ◌<◌, ◌≤◌, List, ◌++◌, length, take, drop, Some, OnOk, MatchResult, Result, ap, arith, length-append, length-drop, length-take, take-append-add, AllZip, AllZip-join, View, after_extend, keep_last, length_all_zip}
 use Rattle.std.proofs.lemmas.Result.{MatchResult-weaker}
 use Rattle.ring_core.specs.Contents.{ChangesSlots}
 use Rattle.ring_core.proofs.Cloned.{equal_clones_pushed}

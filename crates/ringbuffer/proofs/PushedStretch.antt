@@ -29,7 +29,7 @@ module _ {X : Type 0} {old : Slots X} {span : Span} {capacity : ℕ} (can : CanP
   -- one push more, where so many fit
   pub one_more : {now new : Slots X} {i count : ℕ} {xs : List X} (x : X) (full : Bool) → full ≡ nat_eq span.len capacity → (full ≡ false → count ≤ capacity - span.len)
       → i < count → Pushed old span capacity full now i xs → let at = after_pushes full span i (length old.slots) in let w = view_from now at.start in
-        LaysOut now new (if full then (at.start + 1) % length now.slots else at.start) (if full then after_put (after_take w) x else after_put w x)
+      LaysOut now new (if full then (at.start + 1) % length now.slots else at.start) (if full then after_put (after_take w) x else after_put w x)
       → Pushed old span capacity full new (i + 1) (xs ++ x ∷ [])
   one_more {i = i} {xs = xs} x true is room low so_far step =
       let (after, _) = so_far.pushed in let all : span.len ≡ capacity = grind (arith, nat_tests, is) in

@@ -44,7 +44,7 @@ module _ {X : Type 0} (s : Slots X) (start : ℕ) (laid_out : IsLaidOut s start)
       let items = items_from s.slots start in let within = laid_out.start_within in let fit = laid_out.fit in let round = λ (k : ℕ). wrap start (first + k) (length s.slots) within in
       let long = length-take (count - first) (drop first items) in let behind = length-drop first items in
       stretch_of s.slots 0 (count - first) (take (count - first) (drop first items)) (omega arith) (omega arith)
-          (λ k low. grind (arith, laid_out.layout (first + k), round k, slice_get-take, slice_get-drop))
+      (λ k low. grind (arith, laid_out.layout (first + k), round k, slice_get-take, slice_get-drop))
 
   pub lie_in_two : InTwo s.slots start first (count - first) (take count (items_from s.slots start))
   lie_in_two =
@@ -87,5 +87,9 @@ module _ {X : Type 0} {limit : ℕ → ℕ} (s : Slots X) (start len : ℕ) (sou
       let laid_out = sound.laid_out in let items = items_from s.slots start in let counted = sound.counted in
       let below = mod-lt (start + index) {m = length s.slots} (omega (arith, laid_out.start_within)) in let fit : place + n ≤ length s.slots = omega (arith, at, below, room) in
       let long = length-take n (drop index items) in let behind = length-drop index items in
-      rw (sym shows) (omega arith, fit, stretch_of s.slots place n (take n (drop index items)) (omega arith) fit
-          (λ k low. grind (arith, laid_out.layout (index + k), contiguous_on start index place (length s.slots) k at (omega arith), slice_get-take, slice_get-drop)))
+      rw (sym shows) (
+        omega arith,
+        fit,
+        stretch_of s.slots place n (take n (drop index items)) (omega arith) fit
+            (λ k low. grind (arith, laid_out.layout (index + k), contiguous_on start index place (length s.slots) k at (omega arith), slice_get-take, slice_get-drop)),
+      )

@@ -1,4 +1,4 @@
-use Rattle.ringbuffer.proofs.Words.{◌≡◌, ℕ, get_or, ◌+◌, ◌++◌, List, [], ◌∷◌, MatchOption, refl, sym, ◌∙◌, arith, drop-drop, drop-set-lt, length-set, common_steps, keep_last, rules}
+use Rattle.ringbuffer.proofs.Words.{◌≡◌, ◌+◌, ◌++◌, [], ◌∷◌, MatchOption, refl, sym, ◌∙◌, arith, drop-drop, drop-set-lt, length-set, common_steps, keep_last}
 use Rattle.ringbuffer.proofs.ArraysOfOptions.{somes_turn}
 use Rattle.ringbuffer.proofs.pushes.extend_somes.Goals as goal
 use Rattle.ringbuffer.proofs.pushes.extend_somes.Goals.{in-Some+in_ok-push_item, in_default}
@@ -17,4 +17,3 @@ loop-i-preserved g c =
       same_length = length-set _ _ _ ∙ done.same_length;
       same_limit = elim c.match-take.branch [ in-Some+in_ok-push_item w ↦ grind (arith, common_steps) | in_default w ↦ grind (arith, common_steps) ];
     }
-

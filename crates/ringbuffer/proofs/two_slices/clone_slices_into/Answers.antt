@@ -1,4 +1,4 @@
-use Rattle.ringbuffer.proofs.Words.{◌≡◌, ◌≤◌, ◌+◌, ◌-◌, ◌++◌, AllZip, IfOk, IfOk-weaker, List, ap, arith, common_steps, drop, length, length-append, length-drop, length-take, rules, take, take-take}
+use Rattle.ringbuffer.proofs.Words.{◌≡◌, ◌≤◌, ◌+◌, ◌-◌, ◌++◌, AllZip, IfOk, IfOk-weaker, List, ap, arith, common_steps, drop, length, length-append, length-take, rules, take, take-take}
 use Rattle.ringbuffer.proofs.PushedClones.{joined}
 use Rattle.ringbuffer.proofs.two_slices.clone_slices_into.Goals as goal
 use Rattle.ringbuffer.proofs.two_slices.clone_slices_into.Goals.{After-clone_slice_into-2}

@@ -1,4 +1,4 @@
-use Rattle.ringbuffer.proofs.Words.{◌≡◌, ◌≤◌, [], ◌∷◌, ◌++◌, refl, arith, all_zip_more}
+use Rattle.ringbuffer.proofs.Words.{◌≡◌, [], ◌∷◌, ◌++◌, refl, arith, all_zip_more}
 use Rattle.ringbuffer.proofs.PushedStretch.{none_yet, one_more, stays_contiguous}
 use Rattle.ringbuffer.proofs.fixed.FixedRing.push_clone_stretch.Goals as goal
 

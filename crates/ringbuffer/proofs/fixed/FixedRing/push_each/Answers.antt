@@ -1,4 +1,4 @@
-use Rattle.ringbuffer.proofs.Words.{[], ◌∷◌, ◌++◌, arith, rules, length-drop}
+use Rattle.ringbuffer.proofs.Words.{[], ◌∷◌, arith, rules, length-drop}
 use Rattle.ringbuffer.proofs.PushedStretch.{PushesOnto-then}
 use Rattle.ringbuffer.proofs.fixed.FixedRing.push_each.Goals as goal
 

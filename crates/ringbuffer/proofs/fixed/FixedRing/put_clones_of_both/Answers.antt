@@ -1,4 +1,4 @@
-use Rattle.ringbuffer.proofs.Words.{◌≡◌, ◌<◌, Err, List, MatchResult, Ok, Result, ◌++◌, after_puts, arith, length, length-append, view_from}
+use Rattle.ringbuffer.proofs.Words.{◌≡◌, ◌++◌, after_puts, arith, length, length-append, view_from}
 use Rattle.std.proofs.lemmas.Result.{MatchResult-weaker}
 use Rattle.ringbuffer.proofs.LaysOut.{LaysOut-then}
 use Rattle.ringbuffer.proofs.PushedClones.{joined}

@@ -1,4 +1,4 @@
-use Rattle.ringbuffer.proofs.Words.{◌≡◌, ℕ, ◌+◌, ◌%◌, ◌++◌, ap, refl, sym, ◌∙◌, arith, length, length-append, take-append-drop, mod_self, View, after_puts, view_from, items_from}
+use Rattle.ringbuffer.proofs.Words.{◌≡◌, ℕ, ◌+◌, ◌%◌, ◌++◌, ap, refl, arith, length, length-append, take-append-drop, mod_self, View, after_puts, items_from}
 use Rattle.ringbuffer.proofs.SlotsHold.{count_on}
 use Rattle.ringbuffer.proofs.LaysOut.{LaysOut-then}
 use Rattle.ringbuffer.proofs.RepeatedSteps.{after_puts-then}

@@ -1,4 +1,4 @@
-use Rattle.ringbuffer.proofs.Words.{◌≡◌, ◌∙◌, ◌+◌, ◌*◌, ◌-◌, arith, sym}
+use Rattle.ringbuffer.proofs.Words.{◌≡◌, ◌+◌, ◌*◌, ◌-◌, arith}
 use Rattle.ringbuffer.proofs.Paired.{AreEqual, ends, full_at, goes_on, none_left}
 use Rattle.ringbuffer.proofs.fixed.FixedRing.stretch_prefix.Goals as goal
 use Rattle.ringbuffer.proofs.fixed.FixedRing.stretch_prefix.Goals.{After-get-in-loop-turn-2, After-get-then-len-eq1}

@@ -1,4 +1,4 @@
-use Rattle.ringbuffer.proofs.Words.{◌≡◌, ◌∷◌, ◌++◌, [], append_assoc, refl}
+use Rattle.ringbuffer.proofs.Words.{◌∷◌, ◌++◌, [], append_assoc, refl}
 use Rattle.ringbuffer.proofs.FromSource.{both_parts}
 use Rattle.ringbuffer.proofs.grow.GrowableAllocRingBufferRingBuffer.extend.Goals as goal
 

@@ -1,4 +1,4 @@
-use Rattle.ringbuffer.proofs.Words.{◌≡◌, ◌+◌, ◌%◌, List, Some, None, IsLaidOut, SlotsHold, ap, arith, get_or, items_from, length, length-map, map, mod-eq_of_lt, refl, rules, sym, ◌∙◌, get_or-map_some}
+use Rattle.ringbuffer.proofs.Words.{◌≡◌, List, Some, IsLaidOut, SlotsHold, ap, arith, items_from, length, length-map, map, mod-eq_of_lt, refl, rules, sym, ◌∙◌, get_or-map_some}
 use Rattle.ringbuffer.proofs.RepeatedSteps.{view_is}
 use Rattle.ringbuffer.proofs.SlotsHold.{items_from-SlotsHold}
 use Rattle.ringbuffer.proofs.plain.convert.CopyRingBuffer+T+CAP.from_array.Goals as goal
