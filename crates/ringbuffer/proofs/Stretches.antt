@@ -87,9 +87,6 @@ module _ {X : Type 0} {limit : ℕ → ℕ} (s : Slots X) (start len : ℕ) (sou
       let laid_out = sound.laid_out in let items = items_from s.slots start in let counted = sound.counted in
       let below = mod-lt (start + index) {m = length s.slots} (omega (arith, laid_out.start_within)) in let fit : place + n ≤ length s.slots = omega (arith, at, below, room) in
       let long = length-take n (drop index items) in let behind = length-drop index items in
-      rw (sym shows) (
-        omega arith,
-        fit,
-        stretch_of s.slots place n (take n (drop index items)) (omega arith) fit
-            (λ k low. grind (arith, laid_out.layout (index + k), contiguous_on start index place (length s.slots) k at (omega arith), slice_get-take, slice_get-drop)),
-      )
+      let held = stretch_of s.slots place n (take n (drop index items)) (omega arith) fit
+      (λ k low. grind (arith, laid_out.layout (index + k), contiguous_on start index place (length s.slots) k at (omega arith), slice_get-take, slice_get-drop)) in
+      rw (sym shows) (omega arith, fit, held)

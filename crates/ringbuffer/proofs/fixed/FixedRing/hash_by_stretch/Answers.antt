@@ -19,11 +19,5 @@ pub returns : goal.returns
 returns g c =
     let two = both g c.before.before.before.before in let (_, (xs, held)) = two.front in let (_, (ys, more)) = two.rest in
     let counted = c.self.invariant.counted ∙ ap (λ (v : View _). length v.items) c.self.view_is in
-    rw (
-      sym counted,
-      sym (two.whole xs ys held more),
-      flat_map-append g.T.Hash.hash_input xs ys,
-      fold-append g.H.Hasher.write,
-      sym c.write_usize.ensures,
-      sym (c.hash_stretch.ensures xs held),
-    ) (c.hash_stretch-2.ensures ys more)
+    let first = c.hash_stretch.ensures xs held in let both = flat_map-append g.T.Hash.hash_input xs ys in
+    rw (sym counted, sym (two.whole xs ys held more), both, fold-append g.H.Hasher.write, sym c.write_usize.ensures, sym first) (c.hash_stretch-2.ensures ys more)
