@@ -14,6 +14,5 @@ loop-i-preserved g c =
       pushed = somes_turn limit old _ _ c.args.items c.loop-i.items i c.take.result done.pushed done.left (omega arith)
           (rw (c.take.ensures.value ∙ sym c.index-items-i.is) c.index-items-i.is) turn;
       left = rw (drop-set-lt (i + 1) c.loop-i.items i _ (omega arith), ← drop-drop, ← drop-drop, done.left) refl;
-      same_length = length-set _ _ _ ∙ done.same_length;
       same_limit = elim c.match-take.branch [ in-Some+in_ok-push_item w ↦ grind (arith, common_steps) | in_default w ↦ grind (arith, common_steps) ];
     }

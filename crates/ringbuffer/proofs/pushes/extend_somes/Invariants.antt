@@ -8,6 +8,5 @@ invariant-loop-i g l =
     record {
       pushed : R.contents l.ring ≡ keep_last (R.limit l.fn.ring) (R.contents l.fn.ring ++ somes (take l.i l.fn.items));
       left : drop l.i l.items ≡ drop l.i l.fn.items;
-      same_length : length l.items ≡ length l.fn.items;
       same_limit : R.limit l.ring ≡ R.limit l.fn.ring;
     }
