@@ -1,4 +1,4 @@
-use Rattle.ringbuffer.proofs.Words.{◌≡◌, ◌+◌, ◌++◌, [], ◌∷◌, MatchOption, refl, sym, ◌∙◌, arith, drop-drop, drop-set-lt, length-set, common_steps, keep_last}
+use Rattle.ringbuffer.proofs.Words.{rules, ◌≡◌, ◌+◌, ◌++◌, [], ◌∷◌, MatchOption, refl, sym, ◌∙◌, arith, drop-drop, drop-set-lt, common_steps, keep_last}
 use Rattle.ringbuffer.proofs.ArraysOfOptions.{somes_turn}
 use Rattle.ringbuffer.proofs.pushes.extend_somes.Goals as goal
 use Rattle.ringbuffer.proofs.pushes.extend_somes.Goals.{in-Some+in_ok-push_item, in_default}
@@ -16,3 +16,6 @@ loop-i-preserved g c =
       left = rw (drop-set-lt (i + 1) c.loop-i.items i _ (omega arith), ← drop-drop, ← drop-drop, done.left) refl;
       same_limit = elim c.match-take.branch [ in-Some+in_ok-push_item w ↦ grind (arith, common_steps) | in_default w ↦ grind (arith, common_steps) ];
     }
+
+pub loop-i-init : goal.loop-i-init
+loop-i-init g c = search rules

@@ -1,4 +1,4 @@
-use Rattle.ringbuffer.proofs.Words.{◌≡◌, ◌++◌, drop, length, take, keep_last, somes}
+use Rattle.ringbuffer.proofs.Words.{◌≡◌, ◌++◌, drop, take, keep_last, somes}
 use Rattle.ringbuffer.proofs.pushes.extend_somes.Given as goal
 
 -- the items before the index came after the old ones, and the other places are as they were
