@@ -1,7 +1,21 @@
-use Rattle.ringbuffer.proofs.Words.{rules, ◌≡◌, ◌+◌, ◌++◌, [], ◌∷◌, MatchOption, refl, sym, ◌∙◌, arith, drop-drop, drop-set-lt, common_steps, keep_last}
-use Rattle.ringbuffer.proofs.ArraysOfOptions.{somes_turn}
+use Rattle.ringbuffer.proofs.Words.{rules, ◌≡◌, ◌+◌, ◌++◌, [], ◌∷◌, MatchOption, refl, sym, ◌∙◌, arith, drop-drop, drop-set-lt, common_steps, keep_last, ℕ, ◌<◌, List, drop, get_or, length, take, Option, None, Some, ap, add-one, append-nil, append_assoc, length-drop, get_or-drop, filter_map-append, take-suc, keep_last-keep_last, somes}
 use Rattle.ringbuffer.proofs.pushes.extend_somes.Goals as goal
 use Rattle.ringbuffer.proofs.pushes.extend_somes.Goals.{in-Some+in_ok-push_item, in_default}
+
+-- one more place of an array of options: its item, if it holds one, came after the others
+somes_turn : {A : Type 0} (limit : Option ℕ) (old now next : List A) (whole left : List (Option A)) (i : ℕ) (o : Option A)
+    → now ≡ keep_last limit (old ++ somes (take i whole)) → drop i left ≡ drop i whole → i < length left → o ≡ get_or left i o
+    → MatchOption o (next ≡ now) (λ x. next ≡ keep_last limit (now ++ x ∷ []))
+    → next ≡ keep_last limit (old ++ somes (take (i + 1) whole))
+somes_turn {A = A} limit old now next whole left i o so_far same within at moved =
+    let long : i < length whole = omega (arith, ap length same, length-drop i left, length-drop i whole) in
+    let before = get_or-drop i whole 0 o in let now_left = get_or-drop i left 0 o in let there : get_or whole i o ≡ o = grind (arith, before, now_left) in
+    let one_more : somes (take (i + 1) whole) ≡ somes (take i whole) ++ somes (o ∷ []) = rw (add-one, take-suc whole i o long, there, filter_map-append) refl in
+    rw one_more (rotated o moved)
+  where
+    rotated : (p : Option A) → MatchOption p (next ≡ now) (λ x. next ≡ keep_last limit (now ++ x ∷ [])) → next ≡ keep_last limit (old ++ (somes (take i whole) ++ somes (p ∷ [])))
+    rotated None stays = rw append-nil (stays ∙ so_far)
+    rotated (Some x) pushed = pushed ∙ rw (so_far, keep_last-keep_last, append_assoc) refl
 
 pub loop-i-preserved : goal.loop-i-preserved
 loop-i-preserved g c =

@@ -1,6 +1,14 @@
-use Rattle.ringbuffer.proofs.Words.{◌∷◌, ◌++◌, [], append_assoc, refl}
-use Rattle.ringbuffer.proofs.FromSource.{both_parts}
+use Rattle.ringbuffer.proofs.Words.{◌∷◌, ◌++◌, [], append_assoc, refl, List, Option, Some, Result, Ok, Err, MatchResult, YieldsThen, Drains, Yields-both}
 use Rattle.ringbuffer.proofs.grow.GrowableAllocRingBufferRingBuffer.extend.Goals as goal
+
+-- a part, an item, and all that comes after it or a part of that
+both_parts : {S A E : Type 0} (steps : S → Option A → S → Type 0) (s u : S) (xs ys : List A) (x : A) (r : Result (Unit {0}) E)
+    → YieldsThen steps s xs (Some x) u → MatchResult r (λ _. Drains steps u ys) (λ _. (y : A) × (after : S) × YieldsThen steps u ys (Some y) after)
+    → MatchResult r (λ _. Drains steps s (xs ++ x ∷ ys)) (λ _. (y : A) × (after : S) × YieldsThen steps s (xs ++ x ∷ ys) (Some y) after)
+both_parts steps s u xs ys x (Ok done) first later =
+    let all = later.1 in (later.0, (all.0, Yields-both steps xs (x ∷ ys) s first.0 all.0 first.1 (u, first.2, all.1), all.2))
+both_parts steps s u xs ys x (Err e) first later =
+    let part = later.2 in (later.0, later.1, (part.0, Yields-both steps xs (x ∷ ys) s first.0 part.0 first.1 (u, first.2, part.1), part.2))
 
 -- What was poured, the item that found no room, and what came after it.
 pub returns-clause-extends : goal.returns-clause-extends
