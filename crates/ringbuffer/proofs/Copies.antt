@@ -1,47 +1,34 @@
 -- Items put at once into slots side by side, after the last or in place of others.
-use Rattle.ringbuffer.proofs.Words.{◌≡◌, ℕ, ◌+◌, ◌-◌, ◌%◌, ◌<◌, ◌≤◌, List, ◌++◌, ext_get_or, get_or-set_other, get_or-set_same, length, length-set, length-take, get_or, set, slice_get-take, take, None, Option, Some, ap, refl, sym, ◌∙◌, arith, length-append, common_steps, slice_get, slice_get_cases, slice_get_past, ◌⊎◌, Slots, changed, after_puts, view_from, SlotsHold, items_from, IsLaidOut, LaysOut}
-use Rattle.std.proofs.lemmas.Option.{slice_get_within}
-use Rattle.ring_slots.specs.Slots.{filled, with_items}
+use Rattle.ringbuffer.proofs.Words.{[], ◌∷◌, append-nil, slice_get-drop, suc, ◌≡◌, ℕ, ◌+◌, ◌-◌, ◌*◌, ◌%◌, ◌<◌, ◌≤◌, List, ◌++◌, drop, append_assoc, map, length-map, map-append, length, length-drop, length-take, get_or, mod-eq_of_lt, mod-lt, set, take, None, Option, Some, add-mod_right, ap, dec_lt, refl, sym, ◌∙◌, arith, length-append, common_steps, slice_get, slice_get_cases, slice_get_past, ◌⊎◌, inl, inr, Slots, IsFullAt, changed, after_puts, after_takes, view_from, SlotsHold, items_from, IsLaidOut, LaysOut, drop_more, slice_get_within, filled, with_items}
+use Rattle.std.proofs.Math.Seq.{set-append_seam}
+use Rattle.ring_core.proofs.Items.{slice_get-append_left}
 use Rattle.ring_slots.proofs.Filled.{filled-before, filled-behind, filled-in, length-filled}
-use Rattle.ringbuffer.proofs.SlotsHold.{contiguous_on, wrap}
-use Rattle.ringbuffer.proofs.LaysOut.{LaysOut-items}
+use Rattle.ringbuffer.proofs.SlotsHold.{count_on, contiguous_on, wrap}
+use Rattle.ringbuffer.proofs.LaysOut.{LaysOut-items, slice_get_some}
+use Rattle.ringbuffer.proofs.Paired.{take_item}
 
 -- one item more, after those put into a stretch
-module _ {X : Type 0} (slots : List (Option X)) (from : ℕ) (xs : List X) (within : from + length xs ≤ length slots) (k : ℕ) (x : X) (is : slice_get xs k ≡ Some x) where
-  few : length (take k xs) ≡ k
-  few = omega (arith, length-take k xs, slice_get_within xs k x is)
+module _ {X : Type 0} (slots : List (Option X)) (from : ℕ) where
+  filled-more : (ys : List X) (x : X) → from + length ys < length slots → set (filled slots from ys) (from + length ys) (Some x) ≡ filled slots from (ys ++ x ∷ [])
+  filled-more ys x room =
+      let front = take from slots ++ map Some ys in let at = from + length ys in
+      let long : length front ≡ at = omega (arith, length-append (take from slots) (map Some ys), length-take from slots, length-map ys Some) in
+      let next : from + length (ys ++ x ∷ []) ≡ at + 1 = omega (arith, length-append ys (x ∷ [])) in
+      let put = rw (long, ← drop_more slots at None room) at (set-append_seam front (get_or slots at None) (drop (at + 1) slots) (Some x)) in
+      rw (next, map-append) (simp append_assoc (simp append_assoc at put))
 
-  more : length (take (k + 1) xs) ≡ k + 1
-  more = omega (arith, length-take (k + 1) xs, slice_get_within xs k x is)
-
-  pub filled-next : set (filled slots from (take k xs)) (from + k) (Some x) ≡ filled slots from (take (k + 1) xs)
-  filled-next =
-      let low = slice_get_within xs k x is in
-      let room : from + length (take k xs) ≤ length slots = omega (arith, few, low) in let room' : from + length (take (k + 1) xs) ≤ length slots = omega (arith, more, low) in
-      let long = length-filled slots from (take k xs) room in let long' = length-filled slots from (take (k + 1) xs) room' in
-      ext_get_or None (set (filled slots from (take k xs)) (from + k) (Some x)) (filled slots from (take (k + 1) xs)) (length-set (filled slots from (take k xs)) (from + k) (Some x) ∙ long ∙ sym long') (λ i here.
-      grind (
-        arith,
-        few,
-        more,
-        is,
-        long,
-        get_or-set_same,
-        get_or-set_other,
-        filled-before slots from (take k xs) room i,
-        filled-in slots from (take k xs) room i,
-        filled-behind slots from (take k xs) room i,
-        filled-before slots from (take (k + 1) xs) room' i,
-        filled-in slots from (take (k + 1) xs) room' i,
-        filled-behind slots from (take (k + 1) xs) room' i,
-        slice_get-take k (i - from) xs,
-        slice_get-take (k + 1) (i - from) xs,
-      ))
+  pub filled-next : (xs : List X) → from + length xs ≤ length slots → (k : ℕ) (x : X) → slice_get xs k ≡ Some x
+      → set (filled slots from (take k xs)) (from + k) (Some x) ≡ filled slots from (take (k + 1) xs)
+  filled-next xs within k x is =
+      let low = slice_get_within xs k x is in let few : length (take k xs) ≡ k = omega (arith, length-take k xs) in
+      ap (λ n. set (filled slots from (take k xs)) (from + n) (Some x)) (sym few)
+      ∙ filled-more (take k xs) x (omega (arith, few)) ∙ ap (filled slots from) (sym (take_item xs k x is))
 
 pub with_items-next : {X : Type 0} (s : Slots X) (from : ℕ) (xs : List X) → from + length xs ≤ length s.slots → (k : ℕ) (x : X) → slice_get xs k ≡ Some x
     → changed (with_items s from (take k xs)) (from + k) (Some x) ≡ with_items s from (take (k + 1) xs)
 with_items-next s from xs within k x is =
-    let counted : s.changes + length (take k xs) + 1 ≡ s.changes + length (take (k + 1) xs) = omega (arith, few s.slots from xs within k x is, more s.slots from xs within k x is) in
+    let low = slice_get_within xs k x is in
+    let counted : s.changes + length (take k xs) + 1 ≡ s.changes + length (take (k + 1) xs) = omega (arith, length-take k xs, length-take (k + 1) xs) in
     λ i. record { slots = filled-next s.slots from xs within k x is i; changes = counted i; capacity = s.capacity }
 
 module _ {X : Type 0} (s : Slots X) (start : ℕ) (laid_out : IsLaidOut s start) (place len : ℕ) where

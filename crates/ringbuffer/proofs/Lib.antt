@@ -1,13 +1,10 @@
-pub mod ArraysOfOptions
 pub mod Conversions
 pub mod CopiedOut
 pub mod Copies
-pub mod FromSource
 pub mod Gap
 pub mod KeptItems
 pub mod LaysOut
 pub mod MadeContiguous
-pub mod Ordered
 pub mod Paired
 pub mod Passed
 pub mod PushedClones

@@ -5,7 +5,7 @@ use Rattle.ring_slots.specs.Slots.{IsEmptyStretch, brought_first, moved_down, wi
 use Rattle.ring_slots.proofs.Filled.{get_or-map_some}
 use Rattle.ringbuffer.proofs.Copies.{empty_behind}
 use Rattle.ringbuffer.proofs.Rotations.{length-rotated}
-use Rattle.ringbuffer.proofs.Stretches.{first_held, first_stretch, second_held, second_stretch}
+use Rattle.ringbuffer.proofs.Stretches.{all_in_two, first_held, second_held}
 use Rattle.ringbuffer.proofs.SlotsHold.{SlotsHold-same, wrap}
 
 module _ {X : Type 0} (size start : ℕ) (xs : List X) (fit : start + length xs ≤ size) where
@@ -47,8 +47,8 @@ module _ {X : Type 0} {s : Slots X} {start len first : ℕ} (laid_out : IsLaidOu
   stretches =
       let fit = laid_out.fit in let size = length s.slots in let count : size - start ≡ first = omega arith in
       let found : len - first ≡ (start + len) % size = elim (wrap start len size laid_out.start_within (omega arith)) [ inl a ↦ let none = a.0 in absurd (omega arith) | inr a ↦ sym (a.1 ∙ omega arith) ] in (
-        rw count (first_stretch s start laid_out len first counted least),
-        second_stretch s start laid_out len first counted least,
+        rw count (all_in_two s start laid_out len first counted least).front,
+        (all_in_two s start laid_out len first counted least).rest,
         (omega arith, empty_behind s start laid_out (len - first) len (start - (len - first)) counted (λ _. found) (omega arith) (omega arith)),
       )
 

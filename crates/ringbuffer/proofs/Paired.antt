@@ -1,12 +1,22 @@
--- What stretches of full slots hold, read from the front, and compared pair by pair.
-use Rattle.ringbuffer.proofs.Words.{◌≡◌, ℕ, ◌+◌, ◌<◌, ◌≤◌, inl, inr, zero, min, List, [], ◌∷◌, ◌++◌, Bool, ◌&&◌, length, length-drop, take, take-append-drop, drop, drop-drop, get_or, nat_eq, Option, None, Some, IsSome, refl, sym, subst, ap, ◌∙◌, add-one, suc, arith, drop-cons, drop-length, slice_get, pointwise, HoldsStretch, IsFullStretch}
+-- What lists and stretches of full slots hold, read from the front, and compared pair by pair.
+use Rattle.ringbuffer.proofs.Words.{add-one, option_to_list, take-suc_get, ◌≡◌, ℕ, ◌+◌, ◌<◌, ◌≤◌, false, inl, inr, true, zero, min, List, [], ◌∷◌, ◌++◌, Bool, ◌&&◌, length, length-drop, take, take-append-drop, drop, drop-drop, get_or, nat_eq, Option, None, Some, IsSome, refl, sym, subst, ap, ◌∙◌, suc, arith, drop-length, slice_get, pointwise, HoldsStretch, IsFullStretch, cases_Bool, drop_more, common_prefix_len-le, get_or_from_slice_get, slice_get_within, common_prefix_len}
 use Prim.Native.Nat.compare
 use Rattle.std.proofs.Math.Bool.{and_assoc, cond}
-use Rattle.std.proofs.lemmas.Bool.{cases_Bool}
-use Rattle.std.proofs.lemmas.Option.{get_or_from_slice_get}
-use Rattle.std.specs.List.{common_prefix_len}
 use Rattle.ringbuffer.proofs.LaysOut.{slice_get_some}
 use Rattle.ringbuffer.proofs.Stretches.{stretch_at, stretch_long}
+
+-- the items of a list from a place on begin with the one there
+pub drop_item : {X : Type 0} (xs : List X) (k : ℕ) (x : X) → slice_get xs k ≡ Some x → drop k xs ≡ x ∷ drop (k + 1) xs
+drop_item xs k x is = drop_more xs k x (slice_get_within xs k x is) ∙ ap (λ y. y ∷ drop (k + 1) xs) (get_or_from_slice_get xs k x x is)
+
+-- and the items up to there end with it
+pub take_item : {X : Type 0} (xs : List X) (k : ℕ) (x : X) → slice_get xs k ≡ Some x → take (k + 1) xs ≡ take k xs ++ x ∷ []
+take_item xs k x is = rw add-one (take-suc_get xs k ∙ ap (λ r. take k xs ++ option_to_list r) is)
+
+-- the answer for the pair at a place decides what the pairs from there on say
+pub next_pair : {X : Type 0} (eq : X → X → Bool) (xs ys : List X) (k : ℕ) {x y : X} {same : Bool} → slice_get xs k ≡ Some x → slice_get ys k ≡ Some y → same ≡ eq x y
+    → common_prefix_len eq (drop k xs) (drop k ys) ≡ cond same (1 + common_prefix_len eq (drop (k + 1) xs) (drop (k + 1) ys)) 0
+next_pair eq xs ys k {x} {y} is other_is answered = rw (drop_item xs k x is, drop_item ys k y other_is, answered) refl
 
 module _ {X : Type 0} (cs : List (Option X)) (from n : ℕ) where
   -- each slot of a full stretch holds an item
@@ -17,23 +27,30 @@ module _ {X : Type 0} (cs : List (Option X)) (from n : ℕ) where
   module _ (full : IsFullStretch cs from n) (xs : List X) (holds : HoldsStretch cs from n xs) where
     -- the next item, and those after it
     pub ahead : (k : ℕ) (x : X) → k < n → get_or cs (from + k) None ≡ Some x → drop k xs ≡ x ∷ drop (k + 1) xs
-    ahead k x low is =
-        let item : slice_get xs k ≡ Some x = sym (stretch_at cs from n k xs holds low) ∙ is in
-        rw add-one (drop-cons xs k x (omega (arith, stretch_long cs from n xs holds full.0)) ∙ ap (λ y. y ∷ drop (suc k) xs) (get_or_from_slice_get xs k x x item))
+    ahead k x low is = drop_item xs k x (sym (stretch_at cs from n k xs holds low) ∙ is)
 
     -- none is left after all
     pub none_left : drop n xs ≡ []
     none_left = rw (sym (stretch_long cs from n xs holds full.0)) (drop-length xs)
 
--- the answer for the pair at index k, and the pairs after it, are the pairs from there on of two stretches
-abbrev pub ComparesAt : {X : Type 0} → (X → X → Bool) → List (Option X) → List (Option X) → ℕ → ℕ → ℕ → ℕ → Bool → Type 0
-ComparesAt {X} eq cs ds from other n k same = (xs ys : List X) → HoldsStretch cs from n xs → HoldsStretch ds other n ys
-    → common_prefix_len eq (drop k xs) (drop k ys) ≡ cond same (1 + common_prefix_len eq (drop (k + 1) xs) (drop (k + 1) ys)) 0
+module _ {X : Type 0} (eq : X → X → Bool) (cs ds : List (Option X)) (from other n : ℕ) where
+  -- the first k pairs of two stretches are equal
+  abbrev pub AreEqual : ℕ → Type 0
+  AreEqual k = (xs ys : List X) → HoldsStretch cs from n xs → HoldsStretch ds other n ys
+      → common_prefix_len eq xs ys ≡ k + common_prefix_len eq (drop k xs) (drop k ys)
 
-pub next_pair : {X : Type 0} (eq : X → X → Bool) (cs ds : List (Option X)) (from other n : ℕ) → IsFullStretch cs from n → IsFullStretch ds other n
-    → (k : ℕ) → k < n → {x y : X} → get_or cs (from + k) None ≡ Some x → get_or ds (other + k) None ≡ Some y → {same : Bool} → same ≡ eq x y → ComparesAt eq cs ds from other n k same
-next_pair eq cs ds from other n full others_full k low {x} {y} is other_is answered = λ xs ys held others_held.
-    rw (ahead cs from n full xs held k x low is, ahead ds other n others_full ys others_held k y low other_is, answered) refl
+  -- and the next pair is, or it differs
+  module _ (k : ℕ) (so_far : AreEqual k) (low : k < n) {x y : X} (at : get_or cs (from + k) None ≡ Some x) (other_at : get_or ds (other + k) None ≡ Some y)
+      {same : Bool} (answered : same ≡ eq x y) where
+    pub goes_on : same ≡ true → AreEqual (k + 1)
+    goes_on equal = λ xs ys held others_held.
+        let next = next_pair eq xs ys k (sym (stretch_at cs from n k xs held low) ∙ at) (sym (stretch_at ds other n k ys others_held low) ∙ other_at) answered in
+        let one = rw equal at next in omega (arith, so_far xs ys held others_held, one)
+
+    pub ends : same ≡ false → (xs ys : List X) → HoldsStretch cs from n xs → HoldsStretch ds other n ys → k ≡ common_prefix_len eq xs ys
+    ends differ = λ xs ys held others_held.
+        let next = next_pair eq xs ys k (sym (stretch_at cs from n k xs held low) ∙ at) (sym (stretch_at ds other n k ys others_held low) ∙ other_at) answered in
+        let none = rw differ at next in omega (arith, so_far xs ys held others_held, none)
 
 -- beginnings of equal length are compared apart from what follows them
 pub pointwise-append : {A : Type 0} (eq : A → A → Bool) (xs ys vs ws : List A) → length xs ≡ length ys
@@ -52,51 +69,32 @@ pointwise-cut eq xs vs ys front back n first second long =
     rw whole at parts
 
 module _ {X : Type 0} (eq : X → X → Bool) where
-  prefix_nil : (xs : List X) → common_prefix_len eq xs [] ≡ 0
-  prefix_nil [] = refl
-  prefix_nil (x ∷ xs) = refl
-
   -- where one of the lists has ended, no pair is left
   pub prefix_past : (n : ℕ) (xs ys : List X) → min (length xs) (length ys) ≤ n → common_prefix_len eq (drop n xs) (drop n ys) ≡ 0
-  prefix_past zero [] ys past = refl
-  prefix_past zero (x ∷ xs) [] past = refl
-  prefix_past zero (x ∷ xs) (y ∷ ys) past = absurd (omega (arith, past))
-  prefix_past (suc n) [] ys past = refl
-  prefix_past (suc n) (x ∷ xs) [] past = prefix_nil (drop n xs)
-  prefix_past (suc n) (x ∷ xs) (y ∷ ys) past = prefix_past n xs ys (omega (arith, past))
+  prefix_past n xs ys past = omega (arith, common_prefix_len-le eq (drop n xs) (drop n ys), length-drop n xs, length-drop n ys, past)
 
   -- Lists are compared by their first parts, and where all pairs of these are equal, by what follows.
-  prefix_short : (n : ℕ) (xs ys : List X) → n ≤ length xs → n ≤ length ys → common_prefix_len eq (take n xs) (take n ys) < n
-      → common_prefix_len eq xs ys ≡ common_prefix_len eq (take n xs) (take n ys)
-  prefix_short zero xs ys low other_low short = absurd (omega (arith, short))
-  prefix_short (suc n) [] ys low other_low short = absurd (omega (arith, low))
-  prefix_short (suc n) (x ∷ xs) [] low other_low short = absurd (omega (arith, other_low))
-  prefix_short (suc n) (x ∷ xs) (y ∷ ys) low other_low short = elim (cases_Bool (eq x y)) [
-    | inl same ↦ let less = rw same at short in rw same (ap (λ k. 1 + k) (prefix_short n xs ys (omega (arith, low)) (omega (arith, other_low)) (omega (arith, less))))
-    | inr apart ↦ rw apart refl
-  ]
-
-  prefix_on : (n : ℕ) (xs ys : List X) → n ≤ length xs → n ≤ length ys → n ≤ common_prefix_len eq (take n xs) (take n ys)
-      → common_prefix_len eq xs ys ≡ n + common_prefix_len eq (drop n xs) (drop n ys)
-  prefix_on zero xs ys low other_low long = omega arith
-  prefix_on (suc n) [] ys low other_low long = absurd (omega (arith, low))
-  prefix_on (suc n) (x ∷ xs) [] low other_low long = absurd (omega (arith, other_low))
-  prefix_on (suc n) (x ∷ xs) (y ∷ ys) low other_low long = elim (cases_Bool (eq x y)) [
-    | inl same ↦ let more = rw same at long in let rest = prefix_on n xs ys (omega (arith, low)) (omega (arith, other_low)) (omega (arith, more)) in rw same (omega (arith, rest))
-    | inr apart ↦ let none = rw apart at long in absurd (omega (arith, none))
+  prefix_parts : (n : ℕ) (xs ys : List X) → n ≤ length xs → n ≤ length ys → let most = common_prefix_len eq (take n xs) (take n ys) in
+      (most < n → common_prefix_len eq xs ys ≡ most) × (n ≤ most → common_prefix_len eq xs ys ≡ n + common_prefix_len eq (drop n xs) (drop n ys))
+  prefix_parts zero xs ys low other_low = (λ short. absurd (omega (arith, short)), λ long. omega arith)
+  prefix_parts (suc n) [] ys low other_low = absurd (omega (arith, low))
+  prefix_parts (suc n) (x ∷ xs) [] low other_low = absurd (omega (arith, other_low))
+  prefix_parts (suc n) (x ∷ xs) (y ∷ ys) low other_low = elim (cases_Bool (eq x y)) [
+    | inl same ↦ let rest = prefix_parts n xs ys (omega (arith, low)) (omega (arith, other_low)) in rw same (λ short. omega (arith, short), λ long. omega (arith, long))
+    | inr apart ↦ rw apart (λ short. refl, λ long. absurd (omega (arith, long)))
   ]
 
   -- The n pairs after the first k, which are equal, are compared: what follows these counts where all of them are equal.
-  module _ (xs ys : List X) (k n more : ℕ) (low : k + n ≤ length xs) (other_low : k + n ≤ length ys) (so_far : common_prefix_len eq xs ys ≡ k + common_prefix_len eq (drop k xs) (drop k ys))
-      (compared : more ≡ common_prefix_len eq (take n (drop k xs)) (take n (drop k ys))) where
-    pub prefix_ends : more < n → common_prefix_len eq xs ys ≡ k + more
-    prefix_ends short =
-        let here = prefix_short n (drop k xs) (drop k ys) (omega (arith, length-drop k xs)) (omega (arith, length-drop k ys)) (rw compared at short) in omega (arith, so_far, here, compared)
+  abbrev pub GoesOn : (xs ys : List X) (k n more : ℕ) → Type 0
+  GoesOn xs ys k n more = (more < n → common_prefix_len eq xs ys ≡ k + more)
+      × (n ≤ more → common_prefix_len eq xs ys ≡ k + n + common_prefix_len eq (drop (k + n) xs) (drop (k + n) ys))
 
-    pub prefix_goes_on : n ≤ more → common_prefix_len eq xs ys ≡ k + n + common_prefix_len eq (drop (k + n) xs) (drop (k + n) ys)
-    prefix_goes_on long =
-        let on = prefix_on n (drop k xs) (drop k ys) (omega (arith, length-drop k xs)) (omega (arith, length-drop k ys)) (rw compared at long) in
-        let after = rw (drop-drop n k xs, drop-drop n k ys) at on in omega (arith, so_far, after)
+  pub prefix_on : (xs ys : List X) (k n more : ℕ) → k + n ≤ length xs → k + n ≤ length ys → common_prefix_len eq xs ys ≡ k + common_prefix_len eq (drop k xs) (drop k ys)
+      → more ≡ common_prefix_len eq (take n (drop k xs)) (take n (drop k ys)) → GoesOn xs ys k n more
+  prefix_on xs ys k n more low other_low so_far compared =
+      let left = length-drop k xs in let other_left = length-drop k ys in
+      let parts = rw (drop-drop n k xs, drop-drop n k ys, sym compared) at (prefix_parts n (drop k xs) (drop k ys) (omega arith) (omega arith)) in
+      (λ short. omega (arith, so_far, parts.0 short), λ long. omega (arith, so_far, parts.1 long))
 
   -- lists of one length are equal where all their pairs are
   pub pointwise_prefix : (xs ys : List X) → length xs ≡ length ys → pointwise eq xs ys ≡ nat_eq (common_prefix_len eq xs ys) (length xs)

@@ -1,46 +1,52 @@
 -- Pushes up to the last slot, or to the capacity: a stretch of places that goes contiguous on.
-use Rattle.ringbuffer.proofs.Words.{◌≡◌, ℕ, ◌<◌, ◌≤◌, ◌+◌, ◌%◌, Bool, true, false, List, [], ◌∷◌, ◌++◌, if◌then◌else◌, refl, ap, sym, ◌∙◌, arith, length, length-append, mod-eq_of_lt, Slots, Span, View, after_put, after_push, after_take, after_extend, after_pushes, view_from, items_from, LaysOut}
-use Rattle.ringbuffer.specs.Pushing.{PushesOnto}
-use Rattle.ringbuffer.proofs.LaysOut.{LaysOut-then}
+use Rattle.ringbuffer.proofs.Words.{◌≡◌, ℕ, ◌<◌, ◌≤◌, ◌+◌, ◌-◌, ◌%◌, Bool, true, false, List, [], ◌∷◌, ◌++◌, if◌then◌else◌, nat_eq, refl, ap, sym, ◌∙◌, arith, length, length-append, mod-eq_of_lt, Slots, Span, View, after_put, after_take, after_extend, after_pushes, view_from, LaysOut, PushesOnto}
+use Rattle.std.proofs.lemmas.Bool.Decides.{nat_tests}
+use Rattle.ringbuffer.specs.Layout.{CanPush}
+use Rattle.ringbuffer.proofs.LaysOut.{LaysOut-none, LaysOut-then}
 use Rattle.ringbuffer.proofs.SlotsHold.{contiguous_on, count_on}
-use Rattle.ringbuffer.proofs.RepeatedSteps.{after_extend-then, after_extend-fits, after_extend-full, after_puts-more, after_push-full}
+use Rattle.ringbuffer.proofs.RepeatedSteps.{after_extend-then, after_extend-fits, after_extend-full, after_extend-none, after_push-full}
 
 -- The place after the last goes contiguous on.
 pub stays_contiguous : (full : Bool) (span : Span) (end i size : ℕ) → end ≡ (span.start + span.len) % size → end + i < size → let now = after_pushes full span i size in end + i ≡ (now.start + now.len) % size
 stays_contiguous full span end i size found low = grind (arith, contiguous_on span.start span.len end size i found low, count_on span.start i span.len (span.len + i) size)
 
--- No push leaves the start as it is.
-pub none_yet : (full : Bool) (span : Span) (size : ℕ) → span.start < size → (after_pushes full span 0 size).start ≡ span.start
-none_yet full span size low = grind (arith, mod-eq_of_lt)
+-- These items were pushed, in as many turns of a stretch that began so.
+pub record Pushed {X : Type 0} (old : Slots X) (span : Span) (capacity : ℕ) (full : Bool) (now : Slots X) (i : ℕ) (xs : List X) : Type 0 where
+  pub long : length xs ≡ i
+  pub pushed : PushesOnto old now span (after_pushes full span i (length old.slots)) capacity xs
 
--- As many pushes on, from a ring of that length.
-module _ {X : Type 0} (old : Slots X) (span : Span) (capacity i : ℕ) (xs : List X) (long : length xs ≡ i) (counted : span.len ≡ length (items_from old.slots span.start)) where
-  abbrev pub v : View X
+module _ {X : Type 0} {old : Slots X} {span : Span} {capacity : ℕ} (can : CanPush old span capacity) where
+  abbrev v : View X
   v = view_from old span.start
 
-  abbrev pub now_at : Bool → Span
-  now_at full = after_pushes full span i (length old.slots)
+  pub none_yet : (full : Bool) → Pushed old span capacity full old 0 []
+  none_yet full =
+      let empty = after_extend-none capacity v (omega (arith, can.len, can.within)) in
+      let within = can.laid_out.start_within in let at = after_pushes full span 0 (length old.slots) in
+      let stays : at.start ≡ span.start = grind (arith, mod-eq_of_lt) in let same : at.len ≡ span.len = grind arith in
+      record { long = refl; pushed = (rw stays (rw empty at (LaysOut-none old span.start can.laid_out)), same ∙ can.len ∙ ap (λ (w : View X). length w.items) empty) }
 
-  pub long_then : (full : Bool) → (full ≡ true → span.len ≡ capacity) → (full ≡ false → span.len + i ≤ capacity) → (now_at full).len ≡ length (after_extend capacity v xs).items
-  long_then true full room = full refl ∙ sym (after_extend-full capacity v xs (sym (full refl) ∙ counted))
-  long_then false full room = omega (arith, counted, long, ap (λ (w : View X). length w.items) (after_extend-fits capacity v xs (omega (arith, counted, long, room refl))), length-append v.items xs)
+  -- one push more, where so many fit
+  pub one_more : {now new : Slots X} {i count : ℕ} {xs : List X} (x : X) (full : Bool) → full ≡ nat_eq span.len capacity → (full ≡ false → count ≤ capacity - span.len)
+      → i < count → Pushed old span capacity full now i xs → let at = after_pushes full span i (length old.slots) in let w = view_from now at.start in
+      LaysOut now new (if full then (at.start + 1) % length now.slots else at.start) (if full then after_put (after_take w) x else after_put w x)
+      → Pushed old span capacity full new (i + 1) (xs ++ x ∷ [])
+  one_more {i = i} {xs = xs} x true is room low so_far step =
+      let (after, _) = so_far.pushed in let all : span.len ≡ capacity = grind (arith, nat_tests, is) in
+      let most = λ (ys : List X). after_extend-full capacity v ys (sym all ∙ can.len) in
+      let is = sym (after_push-full capacity (after_extend capacity v xs) x (most xs) can.some) ∙ after_extend-then capacity v xs (x ∷ []) in
+      let place = ap (λ n. ((span.start + i) % length old.slots + 1) % n) after.same_size ∙ count_on span.start i 1 (i + 1) (length old.slots) refl in
+      let longer = length-append xs (x ∷ []) in let lies = rw (place, is) at (LaysOut-then (λ w. after_put (after_take w) x) after step) in
+      record { long = omega (arith, so_far.long); pushed = (lies, all ∙ sym (most (xs ++ x ∷ []))) }
+  one_more {xs = xs} x false is room low so_far step =
+      let (after, long) = so_far.pushed in let so_far_long = so_far.long in let held = after_extend capacity v xs in
+      let is = after_extend-fits capacity held (x ∷ []) (omega (arith, long, can.within, low, room refl)) ∙ after_extend-then capacity v xs (x ∷ []) in
+      let longer = length-append xs (x ∷ []) in let more = length-append held.items (x ∷ []) in
+      record { long = omega arith; pushed = (rw is at (LaysOut-then (λ w. after_put w x) after step), omega (arith, ap (λ (w : View X). length w.items) is)) }
 
-  pub one_more : {now new : Slots X} (x : X) → 0 < capacity → (full : Bool) → (full ≡ true → span.len ≡ capacity) → (full ≡ false → span.len + i < capacity) → LaysOut old now (now_at full).start (after_extend capacity v xs)
-      → LaysOut now new (if full then ((now_at full).start + 1) % length now.slots else (now_at full).start) (if full then after_put (after_take (view_from now (now_at full).start)) x else after_put (view_from now (now_at full).start) x)
-      → LaysOut old new (after_pushes full span (i + 1) (length old.slots)).start (after_extend capacity v (xs ++ x ∷ []))
-  one_more x some true full room so_far step =
-      let pushed = sym (after_push-full capacity (after_extend capacity v xs) x (after_extend-full capacity v xs (sym (full refl) ∙ counted)) some) ∙ after_extend-then capacity v xs (x ∷ []) in
-      let place = ap (λ n. ((span.start + i) % length old.slots + 1) % n) so_far.same_size ∙ count_on span.start i 1 (i + 1) (length old.slots) refl in
-      rw (place, pushed) at (LaysOut-then (λ w. after_put (after_take w) x) so_far step)
-  one_more x some false full room so_far step =
-      let fits = after_extend-fits capacity v xs (omega (arith, counted, long, room refl)) in let fits' = after_extend-fits capacity v (xs ++ x ∷ []) (omega (arith, counted, long, room refl, length-append xs (x ∷ []))) in
-      rw fits' at (rw after_puts-more at (LaysOut-then (λ w. after_put w x) (rw (sym fits) at so_far) step))
-
--- After some items one more is pushed, and then a stretch.
-pub stretch_pushed : {X : Type 0} {old now over new : Slots X} {at last : Span} (was next : Span) (capacity : ℕ) (xs : List X) (x : X) (ys : List X)
-    → PushesOnto old now was at capacity xs → LaysOut now over next.start (after_push capacity (view_from now at.start) x) → PushesOnto over new next last capacity ys → PushesOnto old new was last capacity (xs ++ x ∷ ys)
-stretch_pushed {old = old} was next capacity xs x ys so_far pushed (stretch, long) =
-    let v = view_from old was.start in
-    let is = after_extend-then capacity (after_extend capacity v xs) (x ∷ []) ys ∙ after_extend-then capacity v xs (x ∷ ys) in
-    let all = rw is at (LaysOut-then (λ w. after_extend capacity (after_push capacity w x) ys) so_far.0 (LaysOut-then (λ w. after_extend capacity w ys) pushed stretch)) in
-    (all, long ∙ ap (λ (w : View _). length w.items) (sym stretch.shows ∙ all.shows))
+-- Some items are pushed, and then others.
+pub PushesOnto-then : {X : Type 0} {old now new : Slots X} {at last : Span} (was : Span) (capacity : ℕ) (xs ys : List X)
+    → PushesOnto old now was at capacity xs → PushesOnto now new at last capacity ys → PushesOnto old new was last capacity (xs ++ ys)
+PushesOnto-then {old = old} was capacity xs ys (first, _) (second, long) =
+    let all = rw (after_extend-then capacity (view_from old was.start) xs ys) at (LaysOut-then (λ w. after_extend capacity w ys) first second) in
+    (all, long ∙ ap (λ (w : View _). length w.items) (sym second.shows ∙ all.shows))

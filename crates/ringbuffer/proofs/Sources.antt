@@ -1,6 +1,5 @@
 -- What a source gave in several calls, joined.
-use Rattle.ringbuffer.proofs.Words.{List, [], ◌∷◌, ◌++◌, Bool, true, false, Some, refl, arith, IsFinite, MakesProgress, Ghosts, Gives}
-use Rattle.std.proofs.iter.runs.Lists.{Yields-both}
+use Rattle.ringbuffer.proofs.Words.{List, [], ◌∷◌, ◌++◌, Bool, true, false, Some, refl, arith, IsFinite, MakesProgress, Ghosts, Gives, Yields-both}
 
 module _ {S A : Type 0} (it : Ghosts S A) where
   abbrev pub gives : Bool → S → List A → S → Type 0

@@ -3,17 +3,9 @@ use Rattle.ringbuffer.proofs.pushes.extend_cloned.Goals as goal
 
 pub loop-item-preserved : goal.loop-item-preserved
 loop-item-preserved g c =
-    let limit = g.R.RingBuffer.limit c.args.ring.now in
-    let old = g.R.RingBuffer.contents c.args.ring.now in
-    let (same, (ys, clones, kept)) = c.loop-item.invariant in
-    let made = c.in-Ok.clone in (
-      c.push_item.ensures.limit ∙ same,
-      (
-        ys ++ made ∷ [],
-        rw map-append (AllZip-push _ _ _ _ _ clones c.in-Ok.ensures.cases),
-        c.in_ok-push_item.ensures.contents ∙ rw (same, kept, keep_last-keep_last limit (old ++ ys) (made ∷ []), append_assoc old ys (made ∷ [])) refl,
-      ),
-    )
+    let (same, (ys, clones, kept)) = c.loop-item.invariant in let made = c.in-Ok.clone in
+    let all = AllZip-push _ _ _ _ _ clones c.in-Ok.ensures.cases in
+    (c.push_item.ensures.limit ∙ same, (ys ++ made ∷ [], rw map-append all, c.in_ok-push_item.ensures.contents ∙ rw (same, kept, keep_last-keep_last, append_assoc) refl))
 
 -- The clone of the item that came after those that were cloned is refused.
 pub returns-in_default-clause-refused : goal.returns-in_default-clause-refused

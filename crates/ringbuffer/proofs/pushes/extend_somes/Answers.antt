@@ -1,24 +1,33 @@
-use Rattle.ringbuffer.proofs.Words.{◌≡◌, ℕ, get_or, ◌+◌, ◌++◌, List, [], ◌∷◌, MatchOption, refl, sym, ◌∙◌, arith, drop-drop, drop-set-lt, length-set, common_steps, keep_last, rules}
-use Rattle.ringbuffer.proofs.ArraysOfOptions.{somes_turn}
+use Rattle.ringbuffer.proofs.Words.{rules, ◌≡◌, ◌+◌, ◌++◌, [], ◌∷◌, MatchOption, refl, sym, ◌∙◌, arith, drop-drop, drop-set-lt, common_steps, keep_last, ℕ, ◌<◌, List, drop, get_or, length, take, Option, None, Some, ap, add-one, append-nil, append_assoc, length-drop, get_or-drop, filter_map-append, take-suc, keep_last-keep_last, somes}
 use Rattle.ringbuffer.proofs.pushes.extend_somes.Goals as goal
 use Rattle.ringbuffer.proofs.pushes.extend_somes.Goals.{in-Some+in_ok-push_item, in_default}
 
--- what was taken is what the place held
-read_at : {A : Type 0} (xs : List A) (i : ℕ) (taken held : A) → taken ≡ get_or xs i held → held ≡ get_or xs i held → taken ≡ get_or xs i taken
-read_at xs i taken held same at = rw (same ∙ sym at) at
+-- one more place of an array of options: its item, if it holds one, came after the others
+somes_turn : {A : Type 0} (limit : Option ℕ) (old now next : List A) (whole left : List (Option A)) (i : ℕ) (o : Option A)
+    → now ≡ keep_last limit (old ++ somes (take i whole)) → drop i left ≡ drop i whole → i < length left → o ≡ get_or left i o
+    → MatchOption o (next ≡ now) (λ x. next ≡ keep_last limit (now ++ x ∷ []))
+    → next ≡ keep_last limit (old ++ somes (take (i + 1) whole))
+somes_turn {A = A} limit old now next whole left i o so_far same within at moved =
+    let long : i < length whole = omega (arith, ap length same, length-drop i left, length-drop i whole) in
+    let before = get_or-drop i whole 0 o in let now_left = get_or-drop i left 0 o in let there : get_or whole i o ≡ o = grind (arith, before, now_left) in
+    let one_more : somes (take (i + 1) whole) ≡ somes (take i whole) ++ somes (o ∷ []) = rw (add-one, take-suc whole i o long, there, filter_map-append) refl in
+    rw one_more (rotated o moved)
+  where
+    rotated : (p : Option A) → MatchOption p (next ≡ now) (λ x. next ≡ keep_last limit (now ++ x ∷ [])) → next ≡ keep_last limit (old ++ (somes (take i whole) ++ somes (p ∷ [])))
+    rotated None stays = rw append-nil (stays ∙ so_far)
+    rotated (Some x) pushed = pushed ∙ rw (so_far, keep_last-keep_last, append_assoc) refl
 
 pub loop-i-preserved : goal.loop-i-preserved
 loop-i-preserved g c =
-    let done = c.loop-i.invariant in
-    let i = c.loop-i.i in
+    let done = c.loop-i.invariant in let i = c.loop-i.i in
     let limit = g.R.RingBuffer.limit c.args.ring.now in
     let old = g.R.RingBuffer.contents c.args.ring.now in
     let turn : MatchOption c.take.result (g.R.RingBuffer.contents c.match-take.ring ≡ g.R.RingBuffer.contents c.loop-i.ring) (λ x. g.R.RingBuffer.contents c.match-take.ring ≡ keep_last limit (g.R.RingBuffer.contents c.loop-i.ring ++ x ∷ [])) =
     elim c.match-take.branch [ in-Some+in_ok-push_item w ↦ grind (arith, common_steps) | in_default w ↦ grind (arith, common_steps) ] in
     record {
-      pushed = somes_turn limit old _ _ c.args.items c.loop-i.items i c.take.result done.pushed done.left (omega arith) (read_at c.loop-i.items i c.take.result c.index-items-i.result c.take.ensures.value c.index-items-i.is) turn;
+      pushed = somes_turn limit old _ _ c.args.items c.loop-i.items i c.take.result done.pushed done.left (omega arith)
+          (rw (c.take.ensures.value ∙ sym c.index-items-i.is) c.index-items-i.is) turn;
       left = rw (drop-set-lt (i + 1) c.loop-i.items i _ (omega arith), ← drop-drop, ← drop-drop, done.left) refl;
-      same_length = length-set _ _ _ ∙ done.same_length;
       same_limit = elim c.match-take.branch [ in-Some+in_ok-push_item w ↦ grind (arith, common_steps) | in_default w ↦ grind (arith, common_steps) ];
     }
 

@@ -1,4 +1,4 @@
-use Rattle.ringbuffer.proofs.Words.{◌≡◌, ◌++◌, drop, length, take, keep_last, somes}
+use Rattle.ringbuffer.proofs.Words.{◌≡◌, ◌++◌, drop, take, keep_last, somes}
 use Rattle.ringbuffer.proofs.pushes.extend_somes.Given as goal
 
 -- the items before the index came after the old ones, and the other places are as they were
@@ -8,6 +8,5 @@ invariant-loop-i g l =
     record {
       pushed : R.contents l.ring ≡ keep_last (R.limit l.fn.ring) (R.contents l.fn.ring ++ somes (take l.i l.fn.items));
       left : drop l.i l.items ≡ drop l.i l.fn.items;
-      same_length : length l.items ≡ length l.fn.items;
       same_limit : R.limit l.ring ≡ R.limit l.fn.ring;
     }

@@ -1,5 +1,4 @@
-use Rattle.ringbuffer.proofs.Words.{[], ◌∷◌, ◌++◌, all_zip_more, arith, length-append}
-use Rattle.ring_core.proofs.Cloned.{clone_out}
+use Rattle.ringbuffer.proofs.Words.{[], ◌∷◌, ◌++◌, all_zip_more, arith, length-append, clone_out}
 use Rattle.ringbuffer.proofs.two_slices.clone_slice_into.Goals as goal
 
 -- One more clone is in its place.

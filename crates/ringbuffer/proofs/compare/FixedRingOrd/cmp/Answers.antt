@@ -1,6 +1,5 @@
 -- Where capacities are equal, a total order of items answers, as `partial_cmp` does.
-use Rattle.ringbuffer.proofs.Words.{◌≡◌, ◌∙◌, refl, sym}
-use Rattle.std.proofs.Common.{Equal}
+use Rattle.ringbuffer.proofs.Words.{◌≡◌, ◌∙◌, refl, sym, Equal}
 use Rattle.std.specs.Ordering.{nat_cmp}
 use Rattle.std.specs.Cmp.Lexicographic.{lists_agrees}
 use Rattle.ringbuffer.proofs.compare.FixedRingOrd.cmp.Goals as goal

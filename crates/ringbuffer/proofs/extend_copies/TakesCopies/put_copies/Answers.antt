@@ -1,6 +1,4 @@
-use Rattle.ringbuffer.proofs.Words.{◌+◌, ◌≤◌, ◌∙◌, Some, ap, arith, changed, length, length-take, refl, take}
-use Rattle.std.proofs.lemmas.Option.{slice_get_read}
-use Rattle.ring_slots.proofs.Filled.{filled-behind, length-filled}
+use Rattle.ringbuffer.proofs.Words.{◌+◌, ◌≤◌, ◌∙◌, Some, ap, arith, changed, length, length-take, refl, take, slice_get_read, filled-behind, length-filled}
 use Rattle.ringbuffer.proofs.Copies.{with_items-next}
 use Rattle.ringbuffer.proofs.extend_copies.TakesCopies.put_copies.Goals as goal
 

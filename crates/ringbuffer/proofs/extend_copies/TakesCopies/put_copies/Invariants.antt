@@ -1,6 +1,5 @@
 -- the items passed are put
-use Rattle.ringbuffer.proofs.Words.{◌≡◌, take}
-use Rattle.ring_slots.specs.Slots.{with_items}
+use Rattle.ringbuffer.proofs.Words.{◌≡◌, take, with_items}
 use Rattle.ringbuffer.proofs.extend_copies.TakesCopies.put_copies.Given as goal
 
 abbrev pub invariant-loop-k : goal.invariant-loop-k

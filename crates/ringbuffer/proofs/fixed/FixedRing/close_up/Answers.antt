@@ -8,15 +8,6 @@ use Rattle.ringbuffer.proofs.fixed.FixedRing.close_up.Goals.{else-kept-index, th
 pub loop-index-init : goal.loop-index-init
 loop-index-init g c = record { callable = c.requires.callable; within = omega arith; closes = closes_none _ _ _ _ c.requires.span.laid_out }
 
-<<<<<<< HEAD
-pub place_branchless-place-requires-clause-start : goal.place_branchless-place-requires-clause-start
-place_branchless-place-requires-clause-start g c = rw c.loop-index.invariant.closes.apart.same_size c.requires.span.laid_out.start_within
-
-pub place_branchless-place-requires-clause-count : goal.place_branchless-place-requires-clause-count
-place_branchless-place-requires-clause-count g c = let fit = c.requires.span.laid_out.fit in omega (arith, c.loop-index.invariant.closes.apart.same_size, c.requires.span.len)
-
-=======
->>>>>>> 6ac6a601143da7ba678243f6c4e7f7e0c645bbb2
 pub get-requires : goal.get-requires
 get-requires g c = full _ _ _ _ c.requires.span.laid_out c.loop-index.invariant.closes (omega (arith, c.requires.span.len)) _ c.place_branchless-place.ensures
 

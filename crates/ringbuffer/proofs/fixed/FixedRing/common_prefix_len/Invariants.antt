@@ -1,6 +1,5 @@
 -- the pairs so far were equal
-use Rattle.ringbuffer.proofs.Words.{◌≡◌, ◌+◌, drop}
-use Rattle.std.specs.List.{common_prefix_len}
+use Rattle.ringbuffer.proofs.Words.{◌≡◌, ◌+◌, drop, common_prefix_len}
 use Rattle.ringbuffer.proofs.fixed.FixedRing.common_prefix_len.Given as goal
 
 abbrev pub invariant-loop-k : goal.invariant-loop-k

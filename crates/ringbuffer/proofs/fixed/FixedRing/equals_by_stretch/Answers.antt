@@ -1,37 +1,38 @@
-use Rattle.ringbuffer.proofs.Words.{◌≡◌, ◌∙◌, ◌-◌, View, ap, arith, drop, length, length-take-le, pointwise, sym, take, take-append-drop, items_from}
+use Rattle.ringbuffer.proofs.Words.{HoldsStretch, List, View, ap, arith, length, pointwise, refl, sym, ◌&&◌, ◌-◌, ◌≡◌}
 use Rattle.ringbuffer.proofs.Paired.{pointwise-cut}
-use Rattle.ringbuffer.proofs.Stretches.{first_held, first_stretch, second_held, second_stretch}
+use Rattle.ringbuffer.proofs.Stretches.{InTwo, in_two, stretch_long}
 use Rattle.ringbuffer.proofs.fixed.FixedRing.equals_by_stretch.Goals as goal
+use Rattle.ringbuffer.proofs.fixed.FixedRing.equals_by_stretch.Goals.{After-split_at, After-stretch_equals}
+
+-- the items lie in two stretches, as long as the parts of the slice
+both : (g : _) (c : After-split_at g)
+    → InTwo (g.S.RingSlots.seen c.self.inside.slots).slots c.self.inside.span.start (length c.split_at.result.0.now) (length c.split_at.result.1.now) c.args.self.now.items
+both g c =
+    let rest : length c.split_at.result.1.now ≡ c.self.inside.span.len - c.min-first.result = omega (arith, ap (λ (v : View _). length v.items) c.self.view_is) in
+    rw (c.split_at.ensures.front_len, rest) (in_two _ _ _ c.self.invariant c.self.view_is (rw c.size.ensures.value at c.min-first.ensures))
 
 pub stretch_equals-requires : goal.stretch_equals-requires
-stretch_equals-requires g c =
-    rw c.split_at.ensures.front_len (first_stretch _ _ c.self.invariant.laid_out _ _ c.self.invariant.counted (rw c.size.ensures.value at c.min-first.ensures))
+stretch_equals-requires g c = (both g c.before.before).front
 
 pub stretch_equals-requires-then-stretch_equals : goal.stretch_equals-requires-then-stretch_equals
-stretch_equals-requires-then-stretch_equals g c =
-    let rest : length c.split_at.result.1.now ≡ c.self.inside.span.len - c.min-first.result = omega (arith, c.split_at.ensures.back_len, c.self.invariant.counted, ap (λ (v : View _). length v.items) c.self.view_is, c.requires) in
-    rw rest (second_stretch _ _ c.self.invariant.laid_out _ _ c.self.invariant.counted (rw c.size.ensures.value at c.min-first.ensures))
+stretch_equals-requires-then-stretch_equals g c = (both g c.before.before.before.before).rest
+
+-- The first stretch is compared, and what the second holds is left.
+compared : (g : _) (c : After-stretch_equals g) (ys : List _) → HoldsStretch (g.S.RingSlots.seen c.self.inside.slots).slots 0 (length c.split_at.result.1.now) ys
+    → pointwise g.T.PartialEq.eq c.args.self.now.items c.args.items.now ≡ (c.stretch_equals.result && pointwise g.T.PartialEq.eq ys c.split_at.result.1.now)
+compared g c ys more =
+    let two = both g c.before.before.before in let (fit, (xs, held)) = two.front in
+    let parts = pointwise-cut g.T.PartialEq.eq xs ys c.args.items.now _ _ _ c.split_at.ensures.front c.split_at.ensures.back (stretch_long _ _ _ xs held fit) in
+    rw (sym (two.whole xs ys held more), parts, sym (c.stretch_equals.ensures xs held)) refl
 
 -- The second stretch decides where the first is equal.
 pub returns-then-stretch_equals : goal.returns-then-stretch_equals
 returns-then-stretch_equals g c =
-    let s = g.S.RingSlots.seen c.self.inside.slots in let items = items_from s.slots c.self.inside.span.start in let n = c.min-first.result in
-    let least = rw c.size.ensures.value at c.min-first.ensures in let eq = g.T.PartialEq.eq in
-    let rest : length c.split_at.result.1.now ≡ c.self.inside.span.len - n = omega (arith, c.split_at.ensures.back_len, c.self.invariant.counted, ap (λ (v : View _). length v.items) c.self.view_is, c.requires) in
-    let one = c.stretch_equals.ensures (take n items) (rw c.split_at.ensures.front_len (first_held _ _ c.self.invariant.laid_out _ _ c.self.invariant.counted least)) in
-    let two = c.stretch_equals-then-stretch_equals.ensures (drop n items) (rw rest (second_held _ _ c.self.invariant.laid_out _ _ c.self.invariant.counted least)) in
-    let long = length-take-le n items (omega (arith, least, c.self.invariant.counted)) ∙ sym c.split_at.ensures.front_len in
-    let both = pointwise-cut eq (take n items) (drop n items) c.args.items.now _ _ n c.split_at.ensures.front c.split_at.ensures.back long in
-    let same = rw (take-append-drop n items, sym one ∙ c.if-stretch_equals.true) at both in
-    two ∙ sym same ∙ ap (λ (v : View _). pointwise eq v.items c.args.items.now) c.self.view_is
+    let (_, (ys, more)) = (both g c.before.before.before.before.before).rest in
+    rw (compared g c.before.before ys more, c.if-stretch_equals.true) (c.stretch_equals-then-stretch_equals.ensures ys more)
 
 -- The first stretch differs.
 pub returns-else-stretch_equals : goal.returns-else-stretch_equals
 returns-else-stretch_equals g c =
-    let s = g.S.RingSlots.seen c.self.inside.slots in let items = items_from s.slots c.self.inside.span.start in let n = c.min-first.result in
-    let least = rw c.size.ensures.value at c.min-first.ensures in let eq = g.T.PartialEq.eq in
-    let one = c.stretch_equals.ensures (take n items) (rw c.split_at.ensures.front_len (first_held _ _ c.self.invariant.laid_out _ _ c.self.invariant.counted least)) in
-    let long = length-take-le n items (omega (arith, least, c.self.invariant.counted)) ∙ sym c.split_at.ensures.front_len in
-    let both = pointwise-cut eq (take n items) (drop n items) c.args.items.now _ _ n c.split_at.ensures.front c.split_at.ensures.back long in
-    let apart = rw (take-append-drop n items, sym one ∙ c.if-stretch_equals.false) at both in
-    c.if-stretch_equals.false ∙ sym apart ∙ ap (λ (v : View _). pointwise eq v.items c.args.items.now) c.self.view_is
+    let (_, (ys, more)) = (both g c.before.before.before.before).rest in
+    rw (compared g c.before ys more, c.if-stretch_equals.false) refl

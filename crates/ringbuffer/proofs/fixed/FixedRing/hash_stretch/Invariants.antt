@@ -1,7 +1,5 @@
 -- the items of the slots passed were fed
-use Rattle.ringbuffer.proofs.Words.{◌≡◌, List, take, HoldsStretch}
-use Rattle.std.specs.List.{flat_map}
-use Rattle.std.specs.Prelude.{fold}
+use Rattle.ringbuffer.proofs.Words.{◌≡◌, List, take, HoldsStretch, flat_map, fold}
 use Rattle.ringbuffer.proofs.fixed.FixedRing.hash_stretch.Given as goal
 
 abbrev pub invariant-loop-k : goal.invariant-loop-k

@@ -1,5 +1,4 @@
-use Rattle.ringbuffer.proofs.Words.{◌≡◌, drop}
-use Rattle.std.specs.List.{list_any}
+use Rattle.ringbuffer.proofs.Words.{◌≡◌, drop, list_any}
 use Rattle.ringbuffer.proofs.fixed.FixedRing.holds.Given as goal
 
 -- what the items from the index on say is what all items say

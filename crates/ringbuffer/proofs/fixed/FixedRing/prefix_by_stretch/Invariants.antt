@@ -1,6 +1,5 @@
 -- So many pairs are equal, and the others are still to be compared.
-use Rattle.ringbuffer.proofs.Words.{◌≡◌, ◌+◌, ◌-◌, ◌≤◌, drop}
-use Rattle.std.specs.List.{common_prefix_len}
+use Rattle.ringbuffer.proofs.Words.{◌≡◌, ◌+◌, ◌-◌, ◌≤◌, drop, common_prefix_len}
 use Rattle.ringbuffer.proofs.fixed.FixedRing.prefix_by_stretch.Given as goal
 
 abbrev pub invariant-loop-equal : goal.invariant-loop-equal

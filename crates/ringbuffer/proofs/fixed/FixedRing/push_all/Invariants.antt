@@ -1,6 +1,5 @@
 -- So far what the source gave is pushed.
-use Rattle.ringbuffer.proofs.Words.{List, true, Gives}
-use Rattle.ringbuffer.specs.Pushing.{PushesOnto}
+use Rattle.ringbuffer.proofs.Words.{List, true, Gives, PushesOnto}
 use Rattle.ringbuffer.proofs.fixed.FixedRing.push_all.Given as goal
 
 abbrev pub invariant-loop-item : goal.invariant-loop-item

@@ -1,6 +1,5 @@
 -- So far the items that were passed have their clones, which are pushed.
-use Rattle.ringbuffer.proofs.Words.{◌≡◌, ◌-◌, ◌≤◌, List, length, take, AllZip}
-use Rattle.ringbuffer.specs.Pushing.{PushesOnto}
+use Rattle.ringbuffer.proofs.Words.{◌≡◌, ◌-◌, ◌≤◌, List, length, take, AllZip, PushesOnto}
 use Rattle.ringbuffer.proofs.fixed.FixedRing.push_clones.Given as goal
 
 abbrev pub invariant-loop-done : goal.invariant-loop-done

@@ -9,6 +9,5 @@ pub loop-len-preserved : goal.loop-len-preserved
 loop-len-preserved g c =
     let (xs, clones, long, lays_out) = c.loop-len.invariant.put in let x = c.in-Ok.item in
     let more = LaysOut-then (λ v. after_put v x) lays_out c.put_next.ensures in
-    record {
-      put = (xs ++ x ∷ [], All-push (g.T.Clone.is_clone c.args.value) xs x clones c.in-Ok.ensures.cases, omega (arith, length-append xs (x ∷ [])), rw after_puts-more at more);
-    }
+    let all = All-push (g.T.Clone.is_clone c.args.value) xs x clones c.in-Ok.ensures.cases in
+    record { put = (xs ++ x ∷ [], all, omega (arith, length-append xs (x ∷ [])), rw after_puts-more at more) }

@@ -1,6 +1,5 @@
 -- what the items from the place on say is what all say
-use Rattle.ringbuffer.proofs.Words.{◌≡◌, List, drop, length, HoldsStretch}
-use Rattle.std.specs.Cmp.Lexicographic.{pointwise}
+use Rattle.ringbuffer.proofs.Words.{◌≡◌, List, drop, length, HoldsStretch, pointwise}
 use Rattle.ringbuffer.proofs.fixed.FixedRing.stretch_equals.Given as goal
 
 abbrev pub invariant-loop-k : goal.invariant-loop-k

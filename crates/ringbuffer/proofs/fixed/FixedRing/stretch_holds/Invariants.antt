@@ -1,6 +1,5 @@
 -- what the items from the place on say is what all say
-use Rattle.ringbuffer.proofs.Words.{◌≡◌, List, drop, HoldsStretch}
-use Rattle.std.specs.List.{list_any}
+use Rattle.ringbuffer.proofs.Words.{◌≡◌, List, drop, HoldsStretch, list_any}
 use Rattle.ringbuffer.proofs.fixed.FixedRing.stretch_holds.Given as goal
 
 abbrev pub invariant-loop-k : goal.invariant-loop-k

@@ -1,8 +1,13 @@
--- the pairs so far were equal
-use Rattle.ringbuffer.proofs.Words.{◌≡◌, ◌+◌, ◌*◌, List, drop, HoldsStretch}
-use Rattle.std.specs.List.{common_prefix_len}
+-- the pairs so far were equal, and each slot of both stretches holds an item
+use Rattle.ringbuffer.proofs.Words.{◌+◌, ◌*◌, ◌<◌, IsSome, None, get_or, ℕ}
+use Rattle.ringbuffer.proofs.Paired.{AreEqual}
 use Rattle.ringbuffer.proofs.fixed.FixedRing.stretch_prefix.Given as goal
 
 abbrev pub invariant-loop-turn : goal.invariant-loop-turn
-invariant-loop-turn g l = (xs ys : List _) → HoldsStretch (g.S.RingSlots.seen l.slots).slots l.from l.fn.len xs → HoldsStretch (g.S.RingSlots.seen l.others).slots l.other_from l.fn.len ys
-    → common_prefix_len g.T.PartialEq.eq xs ys ≡ 2 * l.turn + common_prefix_len g.T.PartialEq.eq (drop (2 * l.turn) xs) (drop (2 * l.turn) ys)
+invariant-loop-turn g l =
+    let cs = (g.S.RingSlots.seen l.slots).slots in let ds = (g.S.RingSlots.seen l.others).slots in
+    record {
+      equal : AreEqual g.T.PartialEq.eq cs ds l.from l.other_from l.fn.len (2 * l.turn);
+      full : (k : ℕ) → k < l.fn.len → IsSome (get_or cs (l.from + k) None);
+      others_full : (k : ℕ) → k < l.fn.len → IsSome (get_or ds (l.other_from + k) None);
+    }

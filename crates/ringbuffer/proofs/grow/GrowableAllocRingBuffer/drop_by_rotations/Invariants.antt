@@ -1,5 +1,4 @@
-use Rattle.ringbuffer.proofs.Words.{◌≡◌, ◌+◌, ◌-◌, ◌≤◌, drop}
-use Rattle.std.specs.VecDeque.{deque_len}
+use Rattle.ringbuffer.proofs.Words.{◌≡◌, ◌+◌, ◌-◌, ◌≤◌, drop, deque_len}
 use Rattle.ringbuffer.proofs.grow.GrowableAllocRingBuffer.drop_by_rotations.Given as goal
 
 -- the first ones are gone, but for as many as are left

@@ -1,7 +1,6 @@
-use Rattle.std.proofs.lemmas.Iterator.{YieldsList-from_slice}
+use Rattle.ringbuffer.proofs.Words.{YieldsList-from_slice, rules}
 use Rattle.std.proofs.lemmas.Iterator.Consumers.{YieldsList-from_copied}
 use Rattle.std.proofs.lemmas.Iterator.Adapters.{items_from_extend}
-use Rattle.std.proofs.Common.{rules}
 use Rattle.ringbuffer.proofs.grow.GrowableAllocRingBuffer.extend_reserved.Goals as goal
 
 -- the source gives the slice's items

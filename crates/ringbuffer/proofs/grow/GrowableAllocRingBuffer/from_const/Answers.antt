@@ -1,5 +1,4 @@
-use Rattle.ringbuffer.proofs.Words.{Some, YieldsList-unpacked}
-use Rattle.ringbuffer.proofs.Conversions.{list_made}
+use Rattle.ringbuffer.proofs.Conversions.{Some, YieldsList-unpacked, list_made}
 use Rattle.ringbuffer.proofs.grow.GrowableAllocRingBuffer.from_const.Goals as goal
 
 pub returns : goal.returns

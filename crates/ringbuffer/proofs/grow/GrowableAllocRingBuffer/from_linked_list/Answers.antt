@@ -1,5 +1,4 @@
-use Rattle.ringbuffer.proofs.Words.{YieldsList-from_rest}
-use Rattle.ringbuffer.proofs.Conversions.{list_made}
+use Rattle.ringbuffer.proofs.Conversions.{YieldsList-from_rest, list_made}
 use Rattle.ringbuffer.proofs.grow.GrowableAllocRingBuffer.from_linked_list.Goals as goal
 
 pub returns : goal.returns

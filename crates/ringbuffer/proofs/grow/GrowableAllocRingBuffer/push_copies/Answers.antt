@@ -1,5 +1,4 @@
-use Rattle.std.proofs.Common.{arith}
-use Rattle.std.proofs.lemmas.Grind.{common_steps}
+use Rattle.ringbuffer.proofs.Words.{arith, common_steps}
 use Rattle.ringbuffer.proofs.grow.GrowableAllocRingBuffer.push_copies.Goals as goal
 
 pub loop-i-preserved : goal.loop-i-preserved

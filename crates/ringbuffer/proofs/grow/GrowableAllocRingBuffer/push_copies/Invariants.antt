@@ -1,6 +1,5 @@
 -- So far the items that were passed are put, and there is room for the others.
-use Rattle.ringbuffer.proofs.Words.{◌≡◌, ◌+◌, ◌-◌, ◌≤◌, ◌++◌, length, take}
-use Rattle.std.specs.VecDeque.{deque_capacity, deque_len}
+use Rattle.ringbuffer.proofs.Words.{◌≡◌, ◌+◌, ◌-◌, ◌≤◌, ◌++◌, length, take, deque_capacity, deque_len}
 use Rattle.ringbuffer.proofs.grow.GrowableAllocRingBuffer.push_copies.Given as goal
 
 abbrev pub invariant-loop-i : goal.invariant-loop-i

@@ -1,5 +1,4 @@
-use Rattle.ringbuffer.proofs.Words.{◌≡◌, ◌-◌, ◌≤◌, drop}
-use Rattle.std.specs.VecDeque.{deque_len}
+use Rattle.ringbuffer.proofs.Words.{◌≡◌, ◌-◌, ◌≤◌, drop, deque_len}
 use Rattle.ringbuffer.proofs.grow.slices.without_first.Given as goal
 
 -- the first ones are gone, as many as the deque has fewer

@@ -1,7 +1,5 @@
-use Rattle.std.proofs.Common.{ℕ, rules, ◌^◌, ◌<◌, ◌≤◌, arith}
-use Rattle.std.proofs.Math.Decide.{dec_lt}
+use Rattle.ringbuffer.proofs.Words.{ℕ, rules, ◌^◌, ◌<◌, ◌≤◌, arith, dec_lt, IsPowerOfTwo}
 use Rattle.std.proofs.Math.Pow.{pow_mono}
-use Rattle.std.specs.Int.{IsPowerOfTwo}
 use Rattle.ringbuffer.proofs.heap.AllocRingBuffer+T.set_capacity.Goals as goal
 
 -- a power of two that fits a word is at most half of what a word counts

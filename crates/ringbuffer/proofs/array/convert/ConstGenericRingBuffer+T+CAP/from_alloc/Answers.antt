@@ -1,5 +1,4 @@
-use Rattle.ringbuffer.proofs.Words.{Some, YieldsList-unpacked}
-use Rattle.ringbuffer.proofs.Conversions.{last_made}
+use Rattle.ringbuffer.proofs.Conversions.{Some, YieldsList-unpacked, last_made}
 use Rattle.ringbuffer.proofs.array.convert.ConstGenericRingBuffer+T+CAP.from_alloc.Goals as goal
 
 pub returns : goal.returns

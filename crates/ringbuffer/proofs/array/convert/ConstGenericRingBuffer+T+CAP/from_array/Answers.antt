@@ -1,6 +1,4 @@
-use Rattle.ringbuffer.proofs.Words.{ap, arith, refl, View}
-use Rattle.ring_core.proofs.Callers.{held_on_ok}
-use Rattle.ringbuffer.proofs.Conversions.{all_kept, length-somes}
+use Rattle.ringbuffer.proofs.Conversions.{ap, arith, refl, View, held_on_ok, all_kept, length-somes}
 use Rattle.ringbuffer.proofs.array.convert.ConstGenericRingBuffer+T+CAP.from_array.Goals as goal
 
 pub returns : goal.returns

@@ -1,5 +1,4 @@
-use Rattle.ringbuffer.proofs.Words.{YieldsList-from_rest}
-use Rattle.ringbuffer.proofs.Conversions.{last_made}
+use Rattle.ringbuffer.proofs.Conversions.{YieldsList-from_rest, last_made}
 use Rattle.ringbuffer.proofs.array.convert.ConstGenericRingBuffer+T+CAP.from_linked_list.Goals as goal
 
 pub returns : goal.returns

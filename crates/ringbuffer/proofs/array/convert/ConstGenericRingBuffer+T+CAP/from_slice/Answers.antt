@@ -1,5 +1,4 @@
-use Rattle.ringbuffer.proofs.Words.{refl, ◌++◌, Some, ap, ◌∙◌, YieldsList-from_slice, keep_last, View}
-use Rattle.ringbuffer.proofs.Conversions.{ClonesMeet-drained, refuses_none}
+use Rattle.ringbuffer.proofs.Conversions.{refl, ◌++◌, Some, ap, ◌∙◌, YieldsList-from_slice, keep_last, View, ClonesMeet-drained, refuses_none}
 use Rattle.ringbuffer.proofs.array.convert.ConstGenericRingBuffer+T+CAP.from_slice.Goals as goal
 
 pub returns-clause-items : goal.returns-clause-items

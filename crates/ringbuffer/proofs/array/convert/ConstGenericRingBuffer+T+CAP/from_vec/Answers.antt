@@ -1,5 +1,4 @@
-use Rattle.ringbuffer.proofs.Words.{rules, YieldsList-from_vec}
-use Rattle.ringbuffer.proofs.Conversions.{last_made}
+use Rattle.ringbuffer.proofs.Conversions.{rules, YieldsList-from_vec, last_made}
 use Rattle.ringbuffer.proofs.array.convert.ConstGenericRingBuffer+T+CAP.from_vec.Goals as goal
 
 pub returns : goal.returns

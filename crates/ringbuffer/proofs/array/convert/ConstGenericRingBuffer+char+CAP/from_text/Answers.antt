@@ -1,5 +1,4 @@
-use Rattle.ringbuffer.proofs.Words.{ap, ◌∙◌, chars_rest, YieldsList-from_chars}
-use Rattle.ringbuffer.proofs.Conversions.{last_made}
+use Rattle.ringbuffer.proofs.Conversions.{ap, ◌∙◌, chars_rest, YieldsList-from_chars, last_made}
 use Rattle.ringbuffer.proofs.array.convert.ConstGenericRingBuffer+char+CAP.from_text.Goals as goal
 
 pub returns : goal.returns

@@ -1,5 +1,4 @@
-use Rattle.ringbuffer.proofs.Words.{ap, ◌∙◌, chars_rest, YieldsList-from_chars}
-use Rattle.ringbuffer.proofs.Conversions.{list_made}
+use Rattle.ringbuffer.proofs.Conversions.{ap, ◌∙◌, chars_rest, YieldsList-from_chars, list_made}
 use Rattle.ringbuffer.proofs.grow.convert.GrowableAllocRingBuffer+char.from_text.Goals as goal
 
 pub returns : goal.returns

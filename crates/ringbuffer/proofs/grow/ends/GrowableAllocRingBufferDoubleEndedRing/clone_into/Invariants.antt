@@ -1,10 +1,8 @@
-use Rattle.std.proofs.Common.{◌-◌, ◌+◌, ◌≤◌, length, take}
-use Rattle.std.specs.List.{AllZip}
-use Rattle.std.specs.VecDeque.{deque_capacity, deque_len}
+use Rattle.ringbuffer.proofs.Words.{◌≡◌, ◌-◌, ◌+◌, ◌≤◌, length, take, AllZip, deque_capacity, deque_len}
 use Rattle.ringbuffer.proofs.grow.ends.GrowableAllocRingBufferDoubleEndedRing.clone_into.Given as goal
 
 -- the clones of the first items were pushed, and there is room for those of the others
 abbrev pub invariant-loop-i : goal.invariant-loop-i
 invariant-loop-i g l =
-    AllZip g.T.Clone.is_clone (take l.i l.self-inside.deque.items) l.other-inside.deque.items
-    × (deque_len l.other-inside.deque + (length l.self-inside.deque.items - l.i) ≤ deque_capacity l.other-inside.deque)
+    let items = l.self-inside.deque.items in let clones = l.other-inside.deque.items in
+    AllZip g.T.Clone.is_clone (take (length clones) items) clones × (length clones ≡ l.i) × (deque_len l.other-inside.deque + (length items - l.i) ≤ deque_capacity l.other-inside.deque)

@@ -1,6 +1,4 @@
-use Rattle.ringbuffer.proofs.Words.{◌≡◌, Some, ap, arith, refl, sym, ◌∙◌, View}
-use Rattle.ring_core.proofs.Callers.{held_on_ok}
-use Rattle.ringbuffer.proofs.Conversions.{all_kept, length-somes}
+use Rattle.ringbuffer.proofs.Conversions.{◌≡◌, Some, ap, arith, refl, sym, ◌∙◌, View, held_on_ok, all_kept, length-somes}
 use Rattle.ringbuffer.proofs.heap.convert.AllocRingBuffer+T.from_array.Goals as goal
 
 pub returns : goal.returns

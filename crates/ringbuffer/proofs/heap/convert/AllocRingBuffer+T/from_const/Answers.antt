@@ -1,5 +1,4 @@
-use Rattle.ringbuffer.proofs.Words.{Some, arith, rules, YieldsList-unpacked}
-use Rattle.ringbuffer.proofs.Conversions.{all_made}
+use Rattle.ringbuffer.proofs.Conversions.{Some, arith, rules, YieldsList-unpacked, all_made}
 use Rattle.ringbuffer.proofs.heap.convert.AllocRingBuffer+T.from_const.Goals as goal
 
 pub returns : goal.returns

@@ -1,5 +1,4 @@
-use Rattle.ringbuffer.proofs.Words.{arith, rules, YieldsList-from_vec}
-use Rattle.ringbuffer.proofs.Conversions.{all_made}
+use Rattle.ringbuffer.proofs.Conversions.{arith, rules, YieldsList-from_vec, all_made}
 use Rattle.ringbuffer.proofs.heap.convert.AllocRingBuffer+T.from_vec.Goals as goal
 
 pub returns : goal.returns

@@ -1,5 +1,4 @@
-use Rattle.ringbuffer.proofs.Words.{ap, refl, ◌∙◌, chars_rest, YieldsList-from_chars, IfOk-weaker}
-use Rattle.ringbuffer.proofs.Conversions.{all_made, length-chars_le}
+use Rattle.ringbuffer.proofs.Conversions.{ap, refl, ◌∙◌, chars_rest, YieldsList-from_chars, IfOk-weaker, all_made, length-chars_le}
 use Rattle.ringbuffer.proofs.heap.convert.AllocRingBuffer+char.from_text.Goals as goal
 
 pub returns-clause-items : goal.returns-clause-items
