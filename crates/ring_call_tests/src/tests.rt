@@ -23,8 +23,9 @@ mod sums;
 mod taking;
 mod uses;
 
+use ring_test_support::items::{held, is_pushed};
 use ring_test_support::kinds::{Calls, Kind, first_fault_on};
-use ring_test_support::steps::{Row, Step, first_fault};
+use ring_test_support::steps::{Outcome, Row, Step, first_fault};
 use ringbuffer::{DoubleEndedRing, RingBuffer};
 use std::fmt::Debug;
 use std::process::Abort;
@@ -38,6 +39,16 @@ fn assert_equal<T: PartialEq + Debug + Drop>(rt: &impl Abort, found: T, wanted: 
 /// Asserts that each of the calls answers what its step says.
 fn assert_steps<R: DoubleEndedRing<i64>>(rt: &impl Abort, ring: &mut R, steps: &[Step]) {
     assert_equal(rt, first_fault(ring, steps), None);
+}
+
+/// Pushes the items in order. None is refused.
+fn push_all<R: RingBuffer<i64>>(rt: &impl Abort, ring: &mut R, items: &[i64]) {
+    assert!(rt; is_pushed(ring, items));
+}
+
+/// Asserts that the ring holds these items and no other, in order.
+fn assert_holds<R: RingBuffer<i64>>(rt: &impl Abort, ring: &R, items: &[i64]) {
+    assert_equal(rt, held(ring, items), Outcome::Agrees);
 }
 
 /// Does the calls of a list on a new ring of each of these types, with this capacity. Each answers what its step says.
@@ -56,19 +67,4 @@ fn answers(
 fn assert_rows(rt: &(impl Abort + AllocGlobal), kinds: &[Kind], capacity: usize, rows: &[Row]) {
     let fault = first_fault_on(rt.alloc(), kinds, capacity, Calls::Rows(rows));
     assert_equal(rt, fault, None);
-}
-
-/// Pushes the items in order. None is refused.
-fn push_all<R: RingBuffer<i64>>(rt: &impl Abort, ring: &mut R, items: &[i64]) {
-    for item in items {
-        assert!(rt; ring.push(*item).is_ok());
-    }
-}
-
-/// Asserts that the ring holds these items and no other, in order.
-fn assert_holds<R: RingBuffer<i64>>(rt: &impl Abort, ring: &R, items: &[i64]) {
-    assert_equal(rt, ring.len(), items.len());
-    for (i, item) in items.iter().enumerate() {
-        assert_equal(rt, (i, ring.get(i).copied()), (i, Some(*item)));
-    }
 }

@@ -12,6 +12,8 @@ mod slots;
 
 use ring_test_support::counted::{Counted, Supply};
 use ring_test_support::drought::Drought;
+use ring_test_support::items::{held, is_pushed};
+use ring_test_support::steps::Outcome;
 use ringbuffer::RingBuffer;
 use std::fmt::Debug;
 use std::process::Abort;
@@ -24,17 +26,12 @@ fn assert_equal<T: PartialEq + Debug + Drop>(rt: &impl Abort, found: T, wanted: 
 
 /// Pushes the items in order. None is refused.
 fn push_all<R: RingBuffer<i64>>(rt: &impl Abort, ring: &mut R, items: &[i64]) {
-    for item in items {
-        assert!(rt; ring.push(*item).is_ok());
-    }
+    assert!(rt; is_pushed(ring, items));
 }
 
 /// Asserts that the ring holds these items and no other, in order.
 fn assert_holds<R: RingBuffer<i64>>(rt: &impl Abort, ring: &R, items: &[i64]) {
-    assert_equal(rt, ring.len(), items.len());
-    for (i, item) in items.iter().enumerate() {
-        assert_equal(rt, (i, ring.get(i).copied()), (i, Some(*item)));
-    }
+    assert_equal(rt, held(ring, items), Outcome::Agrees);
 }
 
 /// Makes a drought that spares `spare` bytes.

@@ -3,6 +3,7 @@
 use crate::answers::{
     answered, counted, found, put, said, searched, taken, unless_refused, written,
 };
+use crate::items::{held, is_pushed};
 use crate::steps::{Outcome, Step};
 use crate::walks::{added, drained, lent, read};
 use ringbuffer::{DoubleEndedRing, RingBufferExt, binary_search, partition_point, retain};
@@ -10,8 +11,8 @@ use ringbuffer::{DoubleEndedRing, RingBufferExt, binary_search, partition_point,
 /// Does a call on the ring. Returns what came of it.
 pub(crate) fn outcome_of<R: DoubleEndedRing<i64>>(ring: &mut R, step: &Step) -> Outcome {
     match step {
-        Step::Push(pushes) => pushed(ring, pushes),
-        Step::Enqueue(pushes) => enqueued(ring, pushes),
+        Step::Push(pushes) => pushed(ring, pushes, true),
+        Step::Enqueue(pushes) => pushed(ring, pushes, false),
         Step::PushToLen(lengths) => lengthened(ring, lengths),
         Step::PushAll(items) => unless_refused(is_pushed(ring, items)),
         Step::Extend(items) => unless_refused(ring.extend(items.iter().copied()).is_ok()),
@@ -155,20 +156,19 @@ fn parted<R: DoubleEndedRing<i64>>(ring: &R, bound: i64, wanted: usize) -> Outco
     counted(below, wanted)
 }
 
-fn pushed<R: DoubleEndedRing<i64>>(ring: &mut R, pushes: &[(i64, Option<i64>)]) -> Outcome {
+/// Pushes each item by a `push`, or else by an `enqueue`, and finds what it hands back.
+fn pushed<R: DoubleEndedRing<i64>>(
+    ring: &mut R,
+    pushes: &[(i64, Option<i64>)],
+    by_push: bool,
+) -> Outcome {
     for (i, (item, back)) in pushes.iter().enumerate() {
-        match ring.push(*item) {
-            Ok(found) if found == *back => {}
-            Ok(found) => return Outcome::Differs(i, found),
-            Err(_) => return Outcome::Refused,
-        }
-    }
-    Outcome::Agrees
-}
-
-fn enqueued<R: DoubleEndedRing<i64>>(ring: &mut R, pushes: &[(i64, Option<i64>)]) -> Outcome {
-    for (i, (item, back)) in pushes.iter().enumerate() {
-        match ring.enqueue(*item) {
+        let pushed = if by_push {
+            ring.push(*item)
+        } else {
+            ring.enqueue(*item)
+        };
+        match pushed {
             Ok(found) if found == *back => {}
             Ok(found) => return Outcome::Differs(i, found),
             Err(_) => return Outcome::Refused,
@@ -187,15 +187,6 @@ fn lengthened<R: DoubleEndedRing<i64>>(ring: &mut R, lengths: &[usize]) -> Outco
         }
     }
     Outcome::Agrees
-}
-
-fn is_pushed<R: DoubleEndedRing<i64>>(ring: &mut R, items: &[i64]) -> bool {
-    for item in items {
-        if ring.push(*item).is_err() {
-            return false;
-        }
-    }
-    true
 }
 
 fn found_all<R: DoubleEndedRing<i64>>(ring: &mut R, first: usize, items: &[i64]) -> Outcome {
@@ -241,17 +232,4 @@ fn dequeued<R: DoubleEndedRing<i64>>(ring: &mut R, items: &[i64]) -> Outcome {
         None => Outcome::Agrees,
         more => Outcome::Differs(items.len(), more),
     }
-}
-
-fn held<R: DoubleEndedRing<i64>>(ring: &R, items: &[i64]) -> Outcome {
-    if ring.len() != items.len() {
-        return Outcome::Counts(ring.len());
-    }
-    for (i, item) in items.iter().enumerate() {
-        let found = ring.get(i).copied();
-        if found != Some(*item) {
-            return Outcome::Differs(i, found);
-        }
-    }
-    Outcome::Agrees
 }

@@ -82,6 +82,16 @@ fn fault_of<R: DoubleEndedRing<i64>>(alloc: Global, ring: &mut R, calls: Calls) 
     Some((0, 0, step, outcome))
 }
 
+/// Calls a function that has the capacity as a parameter, if it is one of these.
+macro_rules! by_capacity {
+    ($capacity:expr, $function:ident, $alloc:expr, $calls:expr, $($one:literal)*) => {
+        match $capacity {
+            $($one => $function::<$one>($alloc, $calls),)*
+            _ => Some(NO_RING),
+        }
+    };
+}
+
 /// Does the calls on an array ring. Its capacity is a parameter, so that rings of all capacities are one type to prove.
 fn fault_in_array_of<const CAP: usize>(alloc: Global, calls: Calls) -> Option<Fault>
     requires some { 0 < CAP }
@@ -91,18 +101,7 @@ fn fault_in_array_of<const CAP: usize>(alloc: Global, calls: Calls) -> Option<Fa
 }
 
 fn fault_in_array(alloc: Global, capacity: usize, calls: Calls) -> Option<Fault> {
-    match capacity {
-        1 => fault_in_array_of::<1>(alloc, calls),
-        2 => fault_in_array_of::<2>(alloc, calls),
-        3 => fault_in_array_of::<3>(alloc, calls),
-        4 => fault_in_array_of::<4>(alloc, calls),
-        5 => fault_in_array_of::<5>(alloc, calls),
-        8 => fault_in_array_of::<8>(alloc, calls),
-        13 => fault_in_array_of::<13>(alloc, calls),
-        16 => fault_in_array_of::<16>(alloc, calls),
-        50 => fault_in_array_of::<50>(alloc, calls),
-        _ => Some(NO_RING),
-    }
+    by_capacity!(capacity, fault_in_array_of, alloc, calls, 1 2 3 4 5 8 13 16 50)
 }
 
 fn fault_of_copies_in<const CAP: usize>(alloc: Global, calls: Calls) -> Option<Fault>
@@ -113,17 +112,7 @@ fn fault_of_copies_in<const CAP: usize>(alloc: Global, calls: Calls) -> Option<F
 }
 
 fn fault_of_copies(alloc: Global, capacity: usize, calls: Calls) -> Option<Fault> {
-    match capacity {
-        1 => fault_of_copies_in::<1>(alloc, calls),
-        2 => fault_of_copies_in::<2>(alloc, calls),
-        3 => fault_of_copies_in::<3>(alloc, calls),
-        4 => fault_of_copies_in::<4>(alloc, calls),
-        5 => fault_of_copies_in::<5>(alloc, calls),
-        8 => fault_of_copies_in::<8>(alloc, calls),
-        13 => fault_of_copies_in::<13>(alloc, calls),
-        16 => fault_of_copies_in::<16>(alloc, calls),
-        _ => Some(NO_RING),
-    }
+    by_capacity!(capacity, fault_of_copies_in, alloc, calls, 1 2 3 4 5 8 13 16)
 }
 
 fn fault_on_heap(alloc: Global, capacity: usize, calls: Calls) -> Option<Fault> {

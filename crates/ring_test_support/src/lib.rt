@@ -6,6 +6,7 @@ mod calls;
 pub mod commands;
 pub mod counted;
 pub mod drought;
+pub mod items;
 pub mod kinds;
 pub mod numbered;
 pub mod rings;

@@ -3,16 +3,23 @@
 use crate::steps::{End, Outcome};
 use ringbuffer::{DoubleEndedRing, RingBufferExt};
 
+/// Takes a step of a walk from an end.
+macro_rules! step_from {
+    ($end:expr, $walk:ident) => {
+        match $end {
+            End::Front => $walk.next(),
+            End::Back => $walk.next_back(),
+        }
+    };
+}
+
 pub(crate) fn read<R: DoubleEndedRing<i64>>(ring: &R, ends: &[End], items: &[i64]) -> Outcome {
     let (mut walk, mut left) = (ring.iter(), ring.len());
     for (i, end) in ends.iter().enumerate() {
         if walk.size_hint() != (left, Some(left)) || walk.len() != left {
             return Outcome::Counts(walk.len());
         }
-        let found = match end {
-            End::Front => walk.next(),
-            End::Back => walk.next_back(),
-        };
+        let found = step_from!(end, walk);
         if found != items.get(i) {
             return Outcome::Differs(i, found.copied());
         }
@@ -28,10 +35,7 @@ pub(crate) fn lent<R: DoubleEndedRing<i64>>(ring: &mut R, ends: &[End], items: &
         if walk.size_hint() != (left, Some(left)) {
             return Outcome::Counts(walk.size_hint().0);
         }
-        let found = match end {
-            End::Front => walk.next().copied(),
-            End::Back => walk.next_back().copied(),
-        };
+        let found = step_from!(end, walk).copied();
         if found != items.get(i).copied() {
             return Outcome::Differs(i, found);
         }
@@ -43,11 +47,7 @@ pub(crate) fn lent<R: DoubleEndedRing<i64>>(ring: &mut R, ends: &[End], items: &
 pub(crate) fn added<R: DoubleEndedRing<i64>>(ring: &mut R, additions: &[(End, i64)]) -> Outcome {
     let mut walk = ring.iter_mut();
     for (end, number) in additions {
-        let found = match end {
-            End::Front => walk.next(),
-            End::Back => walk.next_back(),
-        };
-        let Some(item) = found else {
+        let Some(item) = step_from!(end, walk) else {
             return Outcome::NoItem;
         };
         *item = item.wrapping_add(*number);
@@ -66,10 +66,7 @@ pub(crate) fn drained<R: DoubleEndedRing<i64>>(
         if walk.size_hint() != (left, Some(left)) || walk.len() != left {
             return Outcome::Counts(walk.len());
         }
-        let found = match end {
-            End::Front => walk.next(),
-            End::Back => walk.next_back(),
-        };
+        let found = step_from!(end, walk);
         if found != items.get(i).copied() {
             return Outcome::Differs(i, found);
         }

@@ -7,8 +7,9 @@ mod comparison;
 mod ranges;
 mod walks;
 
+use ring_test_support::items::{held, is_pushed};
 use ring_test_support::kinds::{Calls, EACH, first_fault_on};
-use ring_test_support::steps::{Step, first_fault};
+use ring_test_support::steps::{Outcome, Step, first_fault};
 use ringbuffer::{DoubleEndedRing, RingBuffer};
 use std::fmt::Debug;
 use std::process::Abort;
@@ -32,15 +33,10 @@ fn answers(rt: &(impl Abort + AllocGlobal), capacity: usize, steps: &[Step]) {
 
 /// Pushes the items in order. None is refused.
 fn push_all<R: RingBuffer<i64>>(rt: &impl Abort, ring: &mut R, items: &[i64]) {
-    for item in items {
-        assert!(rt; ring.push(*item).is_ok());
-    }
+    assert!(rt; is_pushed(ring, items));
 }
 
 /// Asserts that the ring holds these items and no other, in order.
 fn assert_holds<R: RingBuffer<i64>>(rt: &impl Abort, ring: &R, items: &[i64]) {
-    assert_equal(rt, ring.len(), items.len());
-    for (i, item) in items.iter().enumerate() {
-        assert_equal(rt, (i, ring.get(i).copied()), (i, Some(*item)));
-    }
+    assert_equal(rt, held(ring, items), Outcome::Agrees);
 }

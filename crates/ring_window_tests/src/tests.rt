@@ -260,15 +260,34 @@ fn matrix_of(sample: i64) -> Matrix {
     }
 }
 
+/// A call of a window.
+#[derive(Clone, Copy, Drop)]
+enum Call {
+    Push(i64),
+    Dequeue,
+    Clear,
+}
+
+/// Makes a call of a window of any kind, in which an item stands for a sample.
+macro_rules! call_window {
+    ($rt:expr, $window:expr, $call:expr, |$sample:ident| $item:expr) => {
+        match $call {
+            Call::Push($sample) => assert!($rt; $window.push($item).is_ok()),
+            Call::Dequeue => {
+                let _ = $window.dequeue();
+            }
+            Call::Clear => $window.clear(),
+        }
+    };
+}
+
+pub(crate) use call_window;
+
 /// A window of samples, whose answer a walk over them finds too.
 trait Sliding: Drop + Sized {
     type Answer: PartialEq + Debug + Drop;
 
-    fn push(&mut self, rt: &impl Abort, sample: i64);
-
-    fn dequeue(&mut self);
-
-    fn clear(&mut self);
+    fn call(&mut self, rt: &impl Abort, call: Call);
 
     fn answer(&self) -> Self::Answer;
 
@@ -287,21 +306,21 @@ trait Sliding: Drop + Sized {
         for step in 0..10_000u32 {
             let number = next_number(&mut state);
             if number % 512 == 0 {
-                self.clear();
+                self.call(rt, Call::Clear);
                 samples.clear();
             } else if number % 8 == 1 {
-                self.dequeue();
+                self.call(rt, Call::Dequeue);
                 let _ = samples.pop_front();
             } else {
                 // Few numbers, so that many are equal.
                 let sample = ((number / 512) % 16).cast_signed().wrapping_sub(8);
                 if samples.len() >= limit {
                     if !overwrites {
-                        self.dequeue();
+                        self.call(rt, Call::Dequeue);
                     }
                     let _ = samples.pop_front();
                 }
-                self.push(rt, sample);
+                self.call(rt, Call::Push(sample));
                 samples.push_back(sample).expect(rt, "memory");
             }
             let wanted = Self::by_walk(&samples);
@@ -313,16 +332,8 @@ trait Sliding: Drop + Sized {
 impl<R: RingBuffer<Candidate<i64>> + Drop> Sliding for WindowLeast<i64, Ascending, R> {
     type Answer = Option<i64>;
 
-    fn push(&mut self, rt: &impl Abort, sample: i64) {
-        assert!(rt; self.push(sample).is_ok());
-    }
-
-    fn dequeue(&mut self) {
-        let _ = self.dequeue();
-    }
-
-    fn clear(&mut self) {
-        self.clear();
+    fn call(&mut self, rt: &impl Abort, call: Call) {
+        call_window!(rt, self, call, |sample| sample);
     }
 
     fn answer(&self) -> Option<i64> {
@@ -337,16 +348,8 @@ impl<R: RingBuffer<Candidate<i64>> + Drop> Sliding for WindowLeast<i64, Ascendin
 impl<R: RingBuffer<Candidate<i64>> + Drop> Sliding for WindowLeast<i64, Descending, R> {
     type Answer = Option<i64>;
 
-    fn push(&mut self, rt: &impl Abort, sample: i64) {
-        assert!(rt; self.push(sample).is_ok());
-    }
-
-    fn dequeue(&mut self) {
-        let _ = self.dequeue();
-    }
-
-    fn clear(&mut self) {
-        self.clear();
+    fn call(&mut self, rt: &impl Abort, call: Call) {
+        call_window!(rt, self, call, |sample| sample);
     }
 
     fn answer(&self) -> Option<i64> {
@@ -361,16 +364,8 @@ impl<R: RingBuffer<Candidate<i64>> + Drop> Sliding for WindowLeast<i64, Descendi
 impl<R: RingBuffer<i64> + Drop> Sliding for WindowTally<i64, Sum, R> {
     type Answer = i128;
 
-    fn push(&mut self, rt: &impl Abort, sample: i64) {
-        assert!(rt; self.push(sample).is_ok());
-    }
-
-    fn dequeue(&mut self) {
-        let _ = self.dequeue();
-    }
-
-    fn clear(&mut self) {
-        self.clear();
+    fn call(&mut self, rt: &impl Abort, call: Call) {
+        call_window!(rt, self, call, |sample| sample);
     }
 
     fn answer(&self) -> i128 {
@@ -389,16 +384,8 @@ impl<R: RingBuffer<i64> + Drop> Sliding for WindowTally<i64, Sum, R> {
 impl<R: RingBuffer<Kept<Matrix>> + Drop> Sliding for WindowFold<Matrix, R> {
     type Answer = Matrix;
 
-    fn push(&mut self, rt: &impl Abort, sample: i64) {
-        assert!(rt; self.push(matrix_of(sample)).is_ok());
-    }
-
-    fn dequeue(&mut self) {
-        let _ = self.dequeue();
-    }
-
-    fn clear(&mut self) {
-        self.clear();
+    fn call(&mut self, rt: &impl Abort, call: Call) {
+        call_window!(rt, self, call, |sample| matrix_of(sample));
     }
 
     fn answer(&self) -> Matrix {

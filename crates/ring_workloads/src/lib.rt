@@ -43,16 +43,7 @@ pub extern "C" fn ring_workloads_array(
     match work {
         Work::Slide => return on_array_window(capacity, items),
         Work::Make => return make_arrays(capacity, items),
-        Work::Pipe
-        | Work::Stream
-        | Work::Least
-        | Work::LeastRising
-        | Work::LeastFalling
-        | Work::Product
-        | Work::PushOwned
-        | Work::PushDequeueOwned
-        | Work::RefillOwned
-        | Work::CopyInWide => return 0,
+        _ if work.is_for_heap_rings_alone() => return 0,
         _ => {}
     }
     match capacity {
@@ -96,30 +87,24 @@ pub extern "C" fn ring_workloads_heap(
     capacity: usize,
     items: usize,
 ) -> u64 {
-    match Work::numbered(work) {
-        Some(Work::Slide) if capacity > 0 => { on_heap_window(alloc, capacity, items).unwrap_or(0) }
-        Some(Work::Make) if capacity > 0 => make_heaps(alloc, capacity, items),
-        Some(Work::CopyInWide) if capacity > 0 => {
-            copy_in_wide(alloc, capacity, items).unwrap_or(0)
-        }
-        Some(work @ (Work::Pipe | Work::Stream)) if capacity > 0 => {
-            on_heap_pipe(alloc, work, capacity, items).unwrap_or(0)
-        }
-        Some(Work::Least) if capacity > 0 => {
-            on_heap_least(alloc, capacity, items, Series::RANDOM).unwrap_or(0)
-        }
-        Some(Work::LeastRising) if capacity > 0 => {
-            on_heap_least(alloc, capacity, items, Series::RISING).unwrap_or(0)
-        }
-        Some(Work::LeastFalling) if capacity > 0 => {
-            on_heap_least(alloc, capacity, items, Series::FALLING).unwrap_or(0)
-        }
-        Some(Work::Product) if capacity > 0 => {
-            on_heap_product(alloc, capacity, items).unwrap_or(0)
-        }
-        Some(work) if capacity > 0 => on_heap(alloc, work, capacity, items).unwrap_or(0),
-        _ => 0,
+    if capacity == 0 {
+        return 0;
     }
+    let Some(work) = Work::numbered(work) else {
+        return 0;
+    };
+    let found = match work {
+        Work::Slide => on_heap_window(alloc, capacity, items),
+        Work::Make => Ok(make_heaps(alloc, capacity, items)),
+        Work::CopyInWide => copy_in_wide(alloc, capacity, items),
+        Work::Pipe | Work::Stream => on_heap_pipe(alloc, work, capacity, items),
+        Work::Least => on_heap_least(alloc, capacity, items, Series::RANDOM),
+        Work::LeastRising => on_heap_least(alloc, capacity, items, Series::RISING),
+        Work::LeastFalling => on_heap_least(alloc, capacity, items, Series::FALLING),
+        Work::Product => on_heap_product(alloc, capacity, items),
+        _ => on_heap(alloc, work, capacity, items),
+    };
+    found.unwrap_or(0)
 }
 
 /// Work on a growable ring, which is kept to this capacity by hand.
@@ -135,18 +120,7 @@ pub extern "C" fn ring_workloads_growable(
             on_growable_window(alloc, capacity, items).unwrap_or(0)
         }
         Some(Work::Make) => make_growables(alloc, capacity, items),
-        Some(
-            Work::Pipe
-            | Work::Stream
-            | Work::Least
-            | Work::LeastRising
-            | Work::LeastFalling
-            | Work::Product
-            | Work::PushOwned
-            | Work::PushDequeueOwned
-            | Work::RefillOwned
-            | Work::CopyInWide,
-        ) => 0,
+        Some(work) if work.is_for_heap_rings_alone() => 0,
         Some(work) if capacity > 0 => on_growable(alloc, work, capacity, items).unwrap_or(0),
         _ => 0,
     }

@@ -8,7 +8,7 @@ use std::alloc::Global;
 
 /// Clones a ring, and returns `sum` with one item of the clone added.
 #[inline(never)]
-pub fn clone<R: Own + Drop>(ring: &R, sum: u64) -> u64 {
+pub fn clone<R: Own>(ring: &R, sum: u64) -> u64 {
     let Ok(copy) = ring.clone() else {
         return 0;
     };
@@ -34,7 +34,7 @@ pub fn equal<R: Own>(ring: &R, other: &R, sum: u64) -> u64 {
 
 /// Makes a ring of the items of a slice, and returns `sum` with one item of it added.
 #[inline(never)]
-pub fn of_slice<R: Own + Drop>(alloc: Global, ring: &R, items: &[u64], sum: u64) -> u64 {
+pub fn of_slice<R: Own>(alloc: Global, ring: &R, items: &[u64], sum: u64) -> u64 {
     let Ok(copy) = ring.of_slice(alloc, items) else {
         return 0;
     };

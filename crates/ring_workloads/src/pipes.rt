@@ -1,7 +1,7 @@
 //! The work on a pipe of bytes.
 ghost use Rattle.std.specs.Prelude.{◌<◌};
 
-use crate::work::Work;
+use crate::work::{Found, Work};
 use ringbuffer::AllocRingBuffer;
 use std::alloc::{AllocError, Global};
 use std::io::{Read, Write};
@@ -14,12 +14,7 @@ const START: usize = 1000;
 
 /// Relays blocks, as many bytes together as `items` says, through a pipe on the heap, by the ring's calls or by those of `std::io`.
 /// Returns the sum of the last byte of each block that came out.
-pub fn on_heap_pipe(
-    alloc: Global,
-    work: Work,
-    capacity: usize,
-    items: usize,
-) -> Result<u64, AllocError>
+pub fn on_heap_pipe(alloc: Global, work: Work, capacity: usize, items: usize) -> Found
     requires { 0 < capacity }
 {
     let mut pipe = half_full(alloc, capacity)?;

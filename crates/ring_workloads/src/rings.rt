@@ -7,14 +7,15 @@ use crate::own_calls::{
     sum_of, to_vec_copied, undo,
 };
 use crate::work::{
-    EXTENSION, Work, contains, extend, fill, get, push, push_dequeue, push_dequeue_owned, push_one,
-    push_one_within, push_owned, push_within, reextend, refill, refill_owned, to_vec, walk,
+    EXTENSION, Found, Work, contains, extend, fill, get, push, push_dequeue, push_dequeue_owned,
+    push_one, push_one_within, push_owned, push_within, reextend, refill, refill_owned, to_vec,
+    walk,
 };
 use ringbuffer::{AllocRingBuffer, GrowableAllocRingBuffer, RingBuffer};
-use std::alloc::{AllocError, Global};
+use std::alloc::Global;
 
 /// Work on a heap ring.
-pub fn on_heap(alloc: Global, work: Work, capacity: usize, items: usize) -> Result<u64, AllocError>
+pub fn on_heap(alloc: Global, work: Work, capacity: usize, items: usize) -> Found
     requires { 0 < capacity }
 {
     let mut ring = AllocRingBuffer::new(alloc, capacity)?;
@@ -49,12 +50,7 @@ fn on_owned(ring: AllocRingBuffer<u64>, work: Work, capacity: usize, items: usiz
 }
 
 /// Work on a growable ring.
-pub fn on_growable(
-    alloc: Global,
-    work: Work,
-    capacity: usize,
-    items: usize,
-) -> Result<u64, AllocError>
+pub fn on_growable(alloc: Global, work: Work, capacity: usize, items: usize) -> Found
     requires { 0 < capacity }
 {
     let mut ring = GrowableAllocRingBuffer::with_capacity(alloc, capacity)?;
@@ -78,7 +74,7 @@ pub fn on_growable(
 }
 
 /// Work on a ring with a limit.
-pub fn on_fixed<R: Own + Drop>(
+pub fn on_fixed<R: Own>(
     alloc: Global,
     ring: &mut R,
     work: Work,
@@ -105,14 +101,17 @@ pub fn on_fixed<R: Own + Drop>(
     outcome(ring)
 }
 
+/// Does a piece of work in each of so many rounds.
+macro_rules! in_each {
+    ($round:pat in $rounds:expr, $work:expr) => {
+        for $round in 0..$rounds {
+            $work;
+        }
+    };
+}
+
 /// The work that is the same on every type. The ring holds `capacity` items.
-fn on_full<R: Own + Drop>(
-    alloc: Global,
-    ring: &mut R,
-    work: Work,
-    capacity: usize,
-    items: usize,
-) -> u64
+fn on_full<R: Own>(alloc: Global, ring: &mut R, work: Work, capacity: usize, items: usize) -> u64
     requires { 0 < capacity }
 {
     let rounds = items / capacity;
@@ -122,83 +121,39 @@ fn on_full<R: Own + Drop>(
             ring.skip();
             sum = push_dequeue(ring, items);
         }
-        Work::Walk => {
-            for _ in 0..rounds {
-                sum = walk(ring, sum);
-            }
-        }
-        Work::Get => {
-            for _ in 0..rounds {
-                sum = get(ring, capacity, sum);
-            }
-        }
-        Work::Clone => {
-            for _ in 0..rounds {
-                sum = clone(ring, sum);
-            }
-        }
-        Work::Fill => {
-            for round in 0..rounds {
-                fill(ring, round as u64);
-            }
-        }
-        Work::Reextend => {
-            for _ in 0..rounds {
-                reextend(ring, capacity);
-            }
-        }
-        Work::Slices => {
-            for _ in 0..rounds {
-                sum = sum_of(ring, sum);
-            }
-        }
-        Work::ToVec => {
-            for _ in 0..rounds {
-                sum = to_vec(alloc, ring, sum);
-            }
-        }
-        Work::ToVecCopied => {
-            for _ in 0..rounds {
-                sum = to_vec_copied(alloc, ring, sum);
-            }
-        }
+        Work::Walk => in_each!(_ in rounds, sum = walk(ring, sum)),
+        Work::Get => in_each!(_ in rounds, sum = get(ring, capacity, sum)),
+        Work::Clone => in_each!(_ in rounds, sum = clone(ring, sum)),
+        Work::Fill => in_each!(round in rounds, fill(ring, round as u64)),
+        Work::Reextend => in_each!(_ in rounds, reextend(ring, capacity)),
+        Work::Slices => in_each!(_ in rounds, sum = sum_of(ring, sum)),
+        Work::ToVec => in_each!(_ in rounds, sum = to_vec(alloc, ring, sum)),
+        Work::ToVecCopied => in_each!(_ in rounds, sum = to_vec_copied(alloc, ring, sum)),
         Work::Equal => {
             let Ok(other) = ring.clone() else {
                 return 0;
             };
-            for _ in 0..rounds {
-                sum = equal(ring, &other, sum);
-            }
+            in_each!(_ in rounds, sum = equal(ring, &other, sum));
         }
         Work::Contains => {
             let newest = outcome(ring);
-            for _ in 0..rounds {
-                sum = contains(ring, newest, sum);
-            }
+            in_each!(_ in rounds, sum = contains(ring, newest, sum));
         }
         Work::FromSlice => {
             let Ok(source) = ring.to_vec(alloc) else {
                 return 0;
             };
-            for _ in 0..rounds {
-                sum = of_slice(alloc, ring, &source, sum);
-            }
+            in_each!(_ in rounds, sum = of_slice(alloc, ring, &source, sum));
         }
         Work::Undo => sum = undo(ring, items),
         Work::PushFront => push_first(ring, items),
-        Work::TryRefill => {
-            for round in 0..rounds {
-                refill_room(ring, capacity, round as u64);
-            }
-        }
+        Work::TryRefill => in_each!(round in rounds, refill_room(ring, capacity, round as u64)),
         Work::Exchange => sum = exchange(ring, capacity, items),
         Work::CopyIn => {
             let Ok(source) = ring.to_vec(alloc) else {
                 return 0;
             };
-            for _ in 0..rounds {
-                copy_in(ring, &source);
-            }
+            in_each!(_ in rounds, copy_in(ring, &source));
         }
         Work::MakeContiguous => {
             let Ok(source) = ring.to_vec(alloc) else {
@@ -211,11 +166,7 @@ fn on_full<R: Own + Drop>(
                 ));
             }
         }
-        _ => {
-            for round in 0..rounds {
-                refill(ring, capacity, round as u64);
-            }
-        }
+        _ => in_each!(round in rounds, refill(ring, capacity, round as u64)),
     }
     sum.wrapping_add(outcome(ring))
 }

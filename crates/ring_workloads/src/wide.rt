@@ -1,14 +1,15 @@
 //! The work on a ring of 64-byte items.
 ghost use Rattle.std.specs.Prelude.{◌<◌};
 
+use crate::work::Found;
 use ringbuffer::{AllocRingBuffer, RingBuffer};
-use std::alloc::{AllocError, Global};
+use std::alloc::Global;
 
 type Wide = [u64; 8];
 
 /// Puts a slice of as many items as the capacity into an empty heap ring, until `items` of them were put. Returns the
 /// first number of the last item.
-pub fn copy_in_wide(alloc: Global, capacity: usize, items: usize) -> Result<u64, AllocError>
+pub fn copy_in_wide(alloc: Global, capacity: usize, items: usize) -> Found
     requires { 0 < capacity }
 {
     let mut ring = AllocRingBuffer::new(alloc, capacity)?;

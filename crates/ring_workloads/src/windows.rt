@@ -2,8 +2,9 @@
 ghost use Rattle.std.specs.Prelude.{◌<◌};
 
 use crate::sliding::{Series, slide, slide_least, slide_product, slide_within};
+use crate::work::Found;
 use ringbuffer::{AllocRingBuffer, ConstGenericRingBuffer, GrowableAllocRingBuffer, RingBuffer};
-use std::alloc::{AllocError, Global};
+use std::alloc::Global;
 use window::{AllocWindowFold, AllocWindowMin, WindowSum};
 
 /// Work on a window over an array ring. The capacity is 7, 1000, 1024 or 65536.
@@ -19,26 +20,21 @@ pub fn on_array_window(capacity: usize, items: usize) -> u64 {
 }
 
 /// Work on a window over a heap ring.
-pub fn on_heap_window(alloc: Global, capacity: usize, items: usize) -> Result<u64, AllocError>
+pub fn on_heap_window(alloc: Global, capacity: usize, items: usize) -> Found
     requires { 0 < capacity }
 {
     Ok(on_fixed(AllocRingBuffer::new(alloc, capacity)?, capacity, items))
 }
 
 /// Work on a window over a growable ring, which is kept to this capacity by hand.
-pub fn on_growable_window(alloc: Global, capacity: usize, items: usize) -> Result<u64, AllocError> {
+pub fn on_growable_window(alloc: Global, capacity: usize, items: usize) -> Found {
     let mut window = WindowSum::new(GrowableAllocRingBuffer::with_capacity(alloc, capacity)?);
     let _ = slide(&mut window, capacity);
     Ok(low_half(slide_within(&mut window, capacity, items)))
 }
 
 /// Work on a window that knows its least sample, over a heap ring.
-pub fn on_heap_least(
-    alloc: Global,
-    capacity: usize,
-    items: usize,
-    series: Series,
-) -> Result<u64, AllocError>
+pub fn on_heap_least(alloc: Global, capacity: usize, items: usize, series: Series) -> Found
     requires { 0 < capacity }
 {
     let mut window = AllocWindowMin::on_heap(alloc, capacity)?;
@@ -47,7 +43,7 @@ pub fn on_heap_least(
 }
 
 /// Work on a window that knows the product of its matrices, over a heap ring.
-pub fn on_heap_product(alloc: Global, capacity: usize, items: usize) -> Result<u64, AllocError>
+pub fn on_heap_product(alloc: Global, capacity: usize, items: usize) -> Found
     requires { 0 < capacity }
 {
     let mut window = AllocWindowFold::on_heap(alloc, capacity)?;

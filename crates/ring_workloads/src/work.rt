@@ -4,7 +4,10 @@
 //! that only read go on from the sum of the round before, so that no round can be left out as a repetition.
 
 use ringbuffer::{RingBuffer, RingBufferIterator};
-use std::alloc::Global;
+use std::alloc::{AllocError, Global};
+
+/// What work found, as a number. An error says that memory was refused.
+pub type Found = Result<u64, AllocError>;
 
 /// The number of items of one extension.
 pub const EXTENSION: u64 = 4096;
@@ -122,6 +125,23 @@ impl Work {
             33 => Some(Work::CopyInWide),
             _ => None,
         }
+    }
+
+    /// Returns whether only the heap ring does this work.
+    pub fn is_for_heap_rings_alone(self) -> bool {
+        matches!(
+            self,
+            Work::Pipe
+                | Work::Stream
+                | Work::Least
+                | Work::LeastRising
+                | Work::LeastFalling
+                | Work::Product
+                | Work::PushOwned
+                | Work::PushDequeueOwned
+                | Work::RefillOwned
+                | Work::CopyInWide
+        )
     }
 }
 

@@ -2,8 +2,9 @@
 
 use super::{assert_equal, assert_holds, push_all};
 use ring_slots::RingSlots;
+use ring_test_support::items::held_times;
 use ring_test_support::steps::Step::{DequeueAll, Fill, FillDefault, Len, PushAll};
-use ring_test_support::steps::{Step, first_fault};
+use ring_test_support::steps::{Outcome, Step, first_fault};
 use ring_test_support::{on_each, on_fixed, on_growable};
 use ringbuffer::{
     AllocRingBuffer, DoubleEndedRing, FixedRing, GrowableAllocRingBuffer, RingBuffer,
@@ -68,10 +69,7 @@ fn a_growable_ring_is_filled_to_its_capacity(rt: HostRuntime) {
 
 /// Asserts that the ring holds `count` items, each of them this one.
 fn assert_full_of<R: RingBuffer<i64>>(rt: &impl Abort, ring: &R, count: usize, item: i64) {
-    assert_equal(rt, ring.len(), count);
-    for i in 0..count {
-        assert_equal(rt, ring.get(i).copied(), Some(item));
-    }
+    assert_equal(rt, held_times(ring, count, item), Outcome::Agrees);
 }
 
 #[test]

@@ -60,24 +60,29 @@ const TAKEN: &[Row] = &[
     (FIVE, Remove(usize::MAX, None), FIVE),
 ];
 
-/// What keeps or drops the items of one end, of a range, or of a filter.
+/// Rows of two calls: items, a number, and what each call with that number leaves.
+macro_rules! rows_of_two {
+    ($one:ident, $other:ident, $(($items:expr, $count:expr, $left:expr, $left_by_other:expr)),*) => {
+        &[$(($items, $one($count), $left), ($items, $other($count), $left_by_other)),*]
+    };
+}
+
+/// What keeps the items of one end.
+const KEPT_AT_AN_END: &[Row] = rows_of_two!(
+    Truncate,
+    KeepNewest,
+    (&[], 3, &[], &[]),
+    (&[7], 0, &[], &[]),
+    (&[7], 2, &[7], &[7]),
+    (FIVE, 0, &[], &[]),
+    (FIVE, 2, &[1, 2], &[4, 5]),
+    (FIVE, 4, &[1, 2, 3, 4], &[2, 3, 4, 5]),
+    (FIVE, 5, FIVE, FIVE),
+    (FIVE, usize::MAX, FIVE, FIVE)
+);
+
+/// What drops the items of a range, or of a filter.
 const KEPT: &[Row] = &[
-    (&[], Truncate(3), &[]),
-    (&[7], Truncate(0), &[]),
-    (&[7], Truncate(2), &[7]),
-    (FIVE, Truncate(0), &[]),
-    (FIVE, Truncate(2), &[1, 2]),
-    (FIVE, Truncate(4), &[1, 2, 3, 4]),
-    (FIVE, Truncate(5), FIVE),
-    (FIVE, Truncate(usize::MAX), FIVE),
-    (&[], KeepNewest(3), &[]),
-    (&[7], KeepNewest(0), &[]),
-    (&[7], KeepNewest(2), &[7]),
-    (FIVE, KeepNewest(0), &[]),
-    (FIVE, KeepNewest(2), &[4, 5]),
-    (FIVE, KeepNewest(4), &[2, 3, 4, 5]),
-    (FIVE, KeepNewest(5), FIVE),
-    (FIVE, KeepNewest(usize::MAX), FIVE),
     (&[], RemoveRange(0, 3), &[]),
     (&[7], RemoveRange(0, 1), &[]),
     (FIVE, RemoveRange(0, 2), &[3, 4, 5]),
@@ -98,21 +103,19 @@ const KEPT: &[Row] = &[
     (FIVE, RetainAlternate, &[1, 3, 5]),
 ];
 
-const TURNED: &[Row] = &[
-    (&[], RotateLeft(0), &[]),
-    (&[7], RotateLeft(1), &[7]),
-    (FIVE, RotateLeft(0), FIVE),
-    (FIVE, RotateLeft(1), &[2, 3, 4, 5, 1]),
-    (FIVE, RotateLeft(2), &[3, 4, 5, 1, 2]),
-    (FIVE, RotateLeft(4), &[5, 1, 2, 3, 4]),
-    (FIVE, RotateLeft(5), FIVE),
-    (&[], RotateRight(0), &[]),
-    (&[7], RotateRight(1), &[7]),
-    (FIVE, RotateRight(0), FIVE),
-    (FIVE, RotateRight(1), &[5, 1, 2, 3, 4]),
-    (FIVE, RotateRight(2), &[4, 5, 1, 2, 3]),
-    (FIVE, RotateRight(4), &[2, 3, 4, 5, 1]),
-    (FIVE, RotateRight(5), FIVE),
+const TURNED: &[Row] = rows_of_two!(
+    RotateLeft,
+    RotateRight,
+    (&[], 0, &[], &[]),
+    (&[7], 1, &[7], &[7]),
+    (FIVE, 0, FIVE, FIVE),
+    (FIVE, 1, &[2, 3, 4, 5, 1], &[5, 1, 2, 3, 4]),
+    (FIVE, 2, &[3, 4, 5, 1, 2], &[4, 5, 1, 2, 3]),
+    (FIVE, 4, &[5, 1, 2, 3, 4], &[2, 3, 4, 5, 1]),
+    (FIVE, 5, FIVE, FIVE)
+);
+
+const SWAPPED: &[Row] = &[
     (&[7], Swap(0, 0), &[7]),
     (&[1, 2], Swap(0, 1), &[2, 1]),
     (FIVE, Swap(3, 3), FIVE),
@@ -125,7 +128,7 @@ const TURNED: &[Row] = &[
 fn items_are_put_taken_and_turned_at_any_index(rt: HostRuntime) {
     assert_rows(&rt, FIXED, 5, FULL);
     assert_rows(&rt, &[Kind::Growable], 5, WITHOUT_LIMIT);
-    for rows in [PUT, TAKEN, KEPT, TURNED] {
+    for rows in [PUT, TAKEN, KEPT_AT_AN_END, KEPT, TURNED, SWAPPED] {
         assert_rows(&rt, EACH, 5, rows);
         assert_rows(&rt, EACH, 8, rows);
     }

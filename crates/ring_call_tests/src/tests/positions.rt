@@ -83,29 +83,15 @@ const EXTREMES: &[(&[i64], i64, i64, i64)] = &[
     (&[7], 7, 7, 7),
 ];
 
+/// A push of each item in turn, and a read of the newest item after it.
+macro_rules! pushed_and_read {
+    ($($item:literal)*) => {
+        &[$(PushAll(&[$item]), GetSigned(-1, Some($item))),*]
+    };
+}
+
 /// Reads the newest item after each of ten pushes.
-const NEWEST: &[Step] = &[
-    PushAll(&[0]),
-    GetSigned(-1, Some(0)),
-    PushAll(&[1]),
-    GetSigned(-1, Some(1)),
-    PushAll(&[2]),
-    GetSigned(-1, Some(2)),
-    PushAll(&[3]),
-    GetSigned(-1, Some(3)),
-    PushAll(&[4]),
-    GetSigned(-1, Some(4)),
-    PushAll(&[5]),
-    GetSigned(-1, Some(5)),
-    PushAll(&[6]),
-    GetSigned(-1, Some(6)),
-    PushAll(&[7]),
-    GetSigned(-1, Some(7)),
-    PushAll(&[8]),
-    GetSigned(-1, Some(8)),
-    PushAll(&[9]),
-    GetSigned(-1, Some(9)),
-];
+const NEWEST: &[Step] = pushed_and_read!(0 1 2 3 4 5 6 7 8 9);
 
 #[test]
 fn positions_wrap_by_the_length(rt: HostRuntime) {
@@ -217,33 +203,43 @@ trait Indexed: DoubleEndedRing<i64> {
     fn write(&mut self, index: usize, item: i64);
 }
 
+/// Copies the item at an index out of a ring of either kind.
+macro_rules! item_at {
+    ($ring:expr, $index:expr) => {
+        if $ring.is_empty() {
+            None
+        } else {
+            Some($ring[$index])
+        }
+    };
+}
+
+/// Writes an item at an index of a ring of either kind.
+macro_rules! write_at {
+    ($ring:expr, $index:expr, $item:expr) => {
+        if !$ring.is_empty() {
+            $ring[$index] = $item;
+        }
+    };
+}
+
 impl<S: RingSlots<i64>> Indexed for FixedRing<i64, S> {
     fn item(&self, index: usize) -> Option<i64> {
-        if self.is_empty() {
-            return None;
-        }
-        Some(self[index])
+        item_at!(self, index)
     }
 
     fn write(&mut self, index: usize, item: i64) {
-        if !self.is_empty() {
-            self[index] = item;
-        }
+        write_at!(self, index, item);
     }
 }
 
 impl Indexed for GrowableAllocRingBuffer<i64> {
     fn item(&self, index: usize) -> Option<i64> {
-        if self.is_empty() {
-            return None;
-        }
-        Some(self[index])
+        item_at!(self, index)
     }
 
     fn write(&mut self, index: usize, item: i64) {
-        if !self.is_empty() {
-            self[index] = item;
-        }
+        write_at!(self, index, item);
     }
 }
 

@@ -55,14 +55,7 @@ const FIXED_OF_TWO: &[(&str, &[Step])] = &[
         "length stops at the capacity",
         &[
             Len(0),
-            PushAll(&[1]),
-            Len(1),
-            PushAll(&[2]),
-            Len(2),
-            PushAll(&[3]),
-            Len(2),
-            PushAll(&[4]),
-            Len(2),
+            PushToLen(&[1, 2, 2, 2]),
             Clear,
             PushToLen(&[1, 2, 2, 2]),
         ],
@@ -149,18 +142,7 @@ const GROWABLE: &[(&str, &[Step])] = &[
             DequeueAll(&[1, 2, 3]),
         ],
     ),
-    (
-        "length grows",
-        &[
-            Len(0),
-            PushAll(&[0]),
-            Len(1),
-            PushAll(&[1]),
-            Len(2),
-            PushAll(&[2]),
-            Len(3),
-        ],
-    ),
+    ("length grows", &[Len(0), PushToLen(&[1, 2, 3])]),
     (
         "nothing is overwritten",
         &[
@@ -191,10 +173,7 @@ fn a_growable_ring_overwrites_nothing(rt: HostRuntime) {
 
 /// Calls of a ring that has room for what is pushed.
 const ROOMY: &[(&str, &[Step])] = &[
-    (
-        "length counts the pushes",
-        &[Len(0), PushAll(&[1]), Len(1), PushAll(&[2]), Len(2)],
-    ),
+    ("length counts the pushes", &[Len(0), PushToLen(&[1, 2])]),
     (
         "a cleared ring is empty",
         &[

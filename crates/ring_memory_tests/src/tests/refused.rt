@@ -9,6 +9,8 @@ use super::{
 use ring_slots::RingSlots;
 use ring_test_support::counted::{Counted, Supply};
 use ring_test_support::drought::{Drought, MOST_STEPS, is_in_turn, spared};
+use ring_test_support::items::held_times;
+use ring_test_support::steps::Outcome;
 use ring_test_support::{
     on_each, on_each_of_any, on_growable_of_any, on_heap_of_any, refused_in_turn,
 };
@@ -230,14 +232,6 @@ fn a_refused_clone_or_memory_ends_a_fill(rt: HostRuntime) {
     on_each_of_any!(&rt, 3, assert_filled_in_a_drought, &supply, false);
     on_each_of_any!(&rt, 3, assert_filled_in_a_drought, &supply, true);
     assert_filled_in_a_drought(&rt, OwnRing::new(rt.alloc()), &supply, true);
-}
-
-/// Asserts that the ring holds one item so often.
-fn assert_holds_all<R: RingBuffer<i64>>(rt: &impl Abort, ring: &R, times: usize, item: i64) {
-    assert_equal(rt, ring.len(), times);
-    for i in 0..times {
-        assert_equal(rt, ring.get(i).copied(), Some(item));
-    }
 }
 
 #[test]
@@ -756,11 +750,11 @@ trait FilledWithNone: RingBuffer<i64> + Drop {
         let capacity = self.capacity();
         let drought = drought(rt, 0);
         assert!(rt; self.fill_default().is_ok());
-        assert_holds_all(rt, &self, capacity, 0);
+        assert_equal(rt, held_times(&self, capacity, 0), Outcome::Agrees);
         assert!(rt; self.fill(7).is_ok());
-        assert_holds_all(rt, &self, capacity, 7);
+        assert_equal(rt, held_times(&self, capacity, 7), Outcome::Agrees);
         assert!(rt; self.fill_with(|| 8).is_ok());
-        assert_holds_all(rt, &self, capacity, 8);
+        assert_equal(rt, held_times(&self, capacity, 8), Outcome::Agrees);
         drop(drought);
     }
 }

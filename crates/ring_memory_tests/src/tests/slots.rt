@@ -4,36 +4,33 @@ use super::{assert_drops, assert_equal, drought, next, supply};
 use ring_slots::{ArraySlots, CopySlots, HeapSlots, RingSlots};
 use std::alloc::AllocError;
 
+/// Puts an item into each of two empty slots, writes one of them, and takes both.
+macro_rules! assert_holds_two {
+    ($rt:expr, $slots:ident) => {
+        $slots.put(1, "b");
+        $slots.put(0, "a");
+        assert_equal($rt, *$slots.get(1), "b");
+        *$slots.get_mut(1) = "c";
+        assert_equal($rt, *$slots.get(0), "a");
+        assert_equal($rt, $slots.take(1), "c");
+        assert_equal($rt, $slots.take(0), "a");
+    };
+}
+
 #[test]
 fn slots_hold_items_without_more_memory(rt: HostRuntime) -> Result<(), AllocError> {
     let mut heap = HeapSlots::new(rt.alloc(), 2)?;
     let _drought = drought(&rt, 0);
     let mut slots = ArraySlots::<&str, 2>::new();
-    slots.put(1, "b");
-    slots.put(0, "a");
-    assert_equal(&rt, *slots.get(1), "b");
-    *slots.get_mut(1) = "c";
-    assert_equal(&rt, slots.take(1), "c");
-    assert_equal(&rt, slots.take(0), "a");
+    assert_holds_two!(&rt, slots);
     slots.put(1, "d");
     assert_equal(&rt, slots.take(1), "d");
     let mut plain = CopySlots::<&str, 2>::new("-");
-    plain.put(1, "b");
-    plain.put(0, "a");
-    assert_equal(&rt, *plain.get(1), "b");
-    *plain.get_mut(1) = "c";
-    assert_equal(&rt, *plain.get(0), "a");
-    assert_equal(&rt, plain.take(1), "c");
-    assert_equal(&rt, plain.take(0), "a");
+    assert_holds_two!(&rt, plain);
     plain.put_copies(0, &["d", "e"]);
     assert_equal(&rt, plain.copied().take(1), "e");
     assert_equal(&rt, plain.take(1), "e");
-    heap.put(1, "b");
-    heap.put(0, "a");
-    assert_equal(&rt, *heap.get(1), "b");
-    *heap.get_mut(1) = "c";
-    assert_equal(&rt, heap.take(1), "c");
-    assert_equal(&rt, heap.take(0), "a");
+    assert_holds_two!(&rt, heap);
     heap.put(1, "d");
     assert_equal(&rt, heap.take(1), "d");
     heap.free();

@@ -13,6 +13,12 @@ use ringbuffer::{
 use std::alloc::AllocError;
 use std::io::{self, BufRead, Read, Write};
 
+/// The array rings that are made of texts.
+type Letters = ConstGenericRingBuffer<char, 5>;
+
+/// The rings of plain items that are made of texts.
+type PlainLetters = CopyRingBuffer<char, 5>;
+
 /// A ring of bytes with calls of its own.
 pub trait PlayedBytes: PlayedCopies<u8> + BufRead + Write {
     fn play_bytes<M: Maker<u8> + Maker<char>>(&mut self, player: &mut Player<M>) -> Done;
@@ -95,6 +101,32 @@ fn text<M: Maker<char>>(player: &mut Player<M>) -> Result<String, AllocError> {
     Ok(text)
 }
 
+// Makers of rings of characters that take a text, in memory that they are given or with none. Of an empty text no ring is made.
+macro_rules! play_text {
+    ($type:ident, $player:expr) => {
+        play_text!(made $player, text, $type::from_text(&text), $type::from_string(text))
+    };
+    ($type:ident, $player:expr, $alloc:expr) => {
+        play_text!(
+            made $player, text,
+            $type::from_text($alloc, &text)?,
+            $type::from_string($alloc, text)?
+        )
+    };
+    (made $player:expr, $text:ident, $of_text:expr, $of_string:expr) => {{
+        let $text = text($player)?;
+        if $text.is_empty() {
+            return Ok(());
+        }
+        let made = if $player.flip() {
+            $of_text
+        } else {
+            $of_string
+        };
+        try_out(made, $player)
+    }};
+}
+
 /// Draws three bytes.
 fn three<M: Maker<u8>>(player: &mut Player<M>) -> [u8; 3] {
     [player.item(), player.item(), player.item()]
@@ -128,18 +160,7 @@ impl<const CAP: usize> PlayedBytes for ConstGenericRingBuffer<u8, CAP> {
     fn play_bytes<M: Maker<u8> + Maker<char>>(&mut self, player: &mut Player<M>) -> Done {
         match player.up_to(11) {
             1 => *self = keep_last(self.clone()?, player)?,
-            0 => {
-                let text = text(player)?;
-                if text.is_empty() {
-                    return Ok(());
-                }
-                let made = if player.flip() {
-                    ConstGenericRingBuffer::<char, 5>::from_text(&text)
-                } else {
-                    ConstGenericRingBuffer::<char, 5>::from_string(text)
-                };
-                return try_out(made, player);
-            }
+            0 => return play_text!(Letters, player),
             2 => return play_array_of_three(player),
             _ => return play_stream(self, player),
         }
@@ -162,18 +183,7 @@ impl<const CAP: usize> PlayedBytes for CopyRingBuffer<u8, CAP> {
     fn play_bytes<M: Maker<u8> + Maker<char>>(&mut self, player: &mut Player<M>) -> Done {
         match player.up_to(11) {
             1 => *self = keep_last(self.copied(), player)?,
-            0 => {
-                let text = text(player)?;
-                if text.is_empty() {
-                    return Ok(());
-                }
-                let made = if player.flip() {
-                    CopyRingBuffer::<char, 5>::from_text(&text)
-                } else {
-                    CopyRingBuffer::<char, 5>::from_string(text)
-                };
-                return try_out(made, player);
-            }
+            0 => return play_text!(PlainLetters, player),
             2 => return play_plain_of_three(player),
             _ => return play_stream(self, player),
         }
@@ -185,18 +195,7 @@ impl PlayedBytes for AllocRingBuffer<u8> {
     fn play_bytes<M: Maker<u8> + Maker<char>>(&mut self, player: &mut Player<M>) -> Done {
         match player.up_to(11) {
             1 => *self = keep_last(self.clone()?, player)?,
-            0 => {
-                let text = text(player)?;
-                if text.is_empty() {
-                    return Ok(());
-                }
-                let made = if player.flip() {
-                    AllocRingBuffer::from_text(player.alloc, &text)?
-                } else {
-                    AllocRingBuffer::from_string(player.alloc, text)?
-                };
-                return try_out(made, player);
-            }
+            0 => return play_text!(AllocRingBuffer, player, player.alloc),
             2 => return play_three!(AllocRingBuffer, player),
             _ => return play_stream(self, player),
         }
@@ -207,19 +206,9 @@ impl PlayedBytes for AllocRingBuffer<u8> {
 impl PlayedBytes for GrowableAllocRingBuffer<u8> {
     fn play_bytes<M: Maker<u8> + Maker<char>>(&mut self, player: &mut Player<M>) -> Done {
         match player.up_to(11) {
-            0 => {}
-            2 => return play_three!(GrowableAllocRingBuffer, player),
-            _ => return play_stream(self, player),
+            0 => play_text!(GrowableAllocRingBuffer, player, player.alloc),
+            2 => play_three!(GrowableAllocRingBuffer, player),
+            _ => play_stream(self, player),
         }
-        let text = text(player)?;
-        if text.is_empty() {
-            return Ok(());
-        }
-        let made = if player.flip() {
-            GrowableAllocRingBuffer::from_text(player.alloc, &text)?
-        } else {
-            GrowableAllocRingBuffer::from_string(player.alloc, text)?
-        };
-        try_out(made, player)
     }
 }

@@ -73,11 +73,18 @@ fn a_source_may_give_more_than_it_promises(rt: HostRuntime) -> Result<(), AllocE
     Ok(())
 }
 
+/// Calls a method on a large ring of each type that has a limit: with the runtime and its capacity.
+macro_rules! on_large {
+    ($rt:expr, $test:ident) => {
+        on_heap!($rt, 70_001, $test, 70_001);
+        on_array!($rt, 2001, $test, 2001);
+        on_copies!($rt, 2001, $test, 2001);
+    };
+}
+
 #[test]
 fn fixed_rings_keep_the_last_of_many_items(rt: HostRuntime) {
-    on_heap!(&rt, 70_001, assert_keeps_last, 70_001);
-    on_array!(&rt, 2001, assert_keeps_last, 2001);
-    on_copies!(&rt, 2001, assert_keeps_last, 2001);
+    on_large!(&rt, assert_keeps_last);
 }
 
 #[test]
@@ -100,9 +107,7 @@ fn slices_longer_than_a_fixed_ring_are_taken(rt: HostRuntime) -> Result<(), Allo
 
 #[test]
 fn many_bytes_are_written_at_once(rt: HostRuntime) {
-    on_heap!(&rt, 70_001, assert_written, 70_001);
-    on_array!(&rt, 2001, assert_written, 2001);
-    on_copies!(&rt, 2001, assert_written, 2001);
+    on_large!(&rt, assert_written);
     on_growable!(&rt, 0, assert_written, 100_000);
 }
 

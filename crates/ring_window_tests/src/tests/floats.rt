@@ -2,7 +2,7 @@
 
 ghost use Rattle.std.specs.Prelude.{◌<◌};
 
-use super::{Sliding, assert_equal};
+use super::{Call, Sliding, assert_equal, call_window};
 use ring_slots::RingSlots;
 use ring_test_support::{on_array, on_growable, on_heap};
 use ringbuffer::{
@@ -164,16 +164,8 @@ impl OfSummands for GrowableAllocRingBuffer<Summand> {}
 impl<R: RingBuffer<Summand> + Drop> Sliding for WindowFloatSum<R> {
     type Answer = f64;
 
-    fn push(&mut self, rt: &impl Abort, sample: i64) {
-        assert!(rt; self.push(nearest_i64_to_f64(sample)).is_ok());
-    }
-
-    fn dequeue(&mut self) {
-        let _ = self.dequeue();
-    }
-
-    fn clear(&mut self) {
-        self.clear();
+    fn call(&mut self, rt: &impl Abort, call: Call) {
+        call_window!(rt, self, call, |sample| nearest_i64_to_f64(sample));
     }
 
     fn answer(&self) -> f64 {

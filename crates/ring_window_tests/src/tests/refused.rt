@@ -13,23 +13,44 @@ fn roomy<T: Drop>(rt: &(impl Abort + AllocGlobal)) -> GrowableAllocRingBuffer<T>
     GrowableAllocRingBuffer::with_capacity(rt.alloc(), 4).expect(rt, "memory")
 }
 
+/// Pushes two items onto a window, others as far as there is room, and one that is refused memory. It comes back, and is
+/// pushed again once the two have left. The window holds the others, and answers what is said after each.
+macro_rules! assert_refused {
+    (
+        $rt:expr, $new:expr, $held:ty, |$window:ident| $answer:expr,
+        [$first:expr, $second:expr, $others:expr], $refused:expr,
+        [$full:expr, $after_first:expr, $after_second:expr, $last:expr]
+    ) => {
+        let ring = roomy::<$held>($rt);
+        let room = ring.capacity();
+        let mut $window = $new(ring);
+        let pushed = ($window.push($first), $window.push($second));
+        assert_equal($rt, pushed, (Ok(None), Ok(None)));
+        for _ in 2..room {
+            assert_equal($rt, $window.push($others), Ok(None));
+        }
+        let drought = Drought::total($rt.alloc()).expect($rt, "memory");
+        let refused = $window.push($refused);
+        drop(drought);
+        assert_equal($rt, refused, Err($refused));
+        assert_equal($rt, ($window.len(), $answer), (room, $full));
+        assert_equal($rt, ($window.dequeue(), $answer), (Some($first), $after_first));
+        assert_equal($rt, ($window.dequeue(), $answer), (Some($second), $after_second));
+        assert_equal($rt, ($window.push($refused), $answer), (Ok(None), $last));
+    };
+}
+
 #[test]
 fn sum_after_a_refused_push(rt: HostRuntime) {
-    let ring = roomy(&rt);
-    let room = ring.capacity();
-    let mut window = WindowSum::new(ring);
-    assert_equal(&rt, (window.push(5), window.push(-7)), (Ok(None), Ok(None)));
-    for _ in 2..room {
-        assert_equal(&rt, window.push(0), Ok(None));
-    }
-    let drought = Drought::total(rt.alloc()).expect(&rt, "memory");
-    let refused = window.push(8);
-    drop(drought);
-    assert_equal(&rt, refused, Err(8));
-    assert_equal(&rt, (window.len(), window.sum()), (room, -2));
-    assert_equal(&rt, (window.dequeue(), window.sum()), (Some(5), -7));
-    assert_equal(&rt, (window.dequeue(), window.sum()), (Some(-7), 0));
-    assert_equal(&rt, (window.push(8), window.sum()), (Ok(None), 8));
+    assert_refused!(
+        &rt,
+        WindowSum::new,
+        i64,
+        |window| window.sum(),
+        [5, -7, 0],
+        8,
+        [-2, -7, 0, 8]
+    );
 }
 
 #[test]
@@ -44,90 +65,40 @@ fn sum_after_a_refused_first_push(rt: HostRuntime) {
 
 #[test]
 fn fold_after_a_refused_push(rt: HostRuntime) {
-    let ring = roomy::<Kept<Gcd>>(&rt);
-    let room = ring.capacity();
-    let mut window = WindowFold::new(ring);
-    assert_equal(
+    assert_refused!(
         &rt,
-        (window.push(Gcd(12)), window.push(Gcd(18))),
-        (Ok(None), Ok(None)),
-    );
-    for _ in 2..room {
-        assert_equal(&rt, window.push(Gcd(20)), Ok(None));
-    }
-    let drought = Drought::total(rt.alloc()).expect(&rt, "memory");
-    let refused = window.push(Gcd(7));
-    drop(drought);
-    assert_equal(&rt, refused, Err(Gcd(7)));
-    assert_equal(&rt, (window.len(), window.fold()), (room, Gcd(2)));
-    assert_equal(
-        &rt,
-        (window.dequeue(), window.fold()),
-        (Some(Gcd(12)), Gcd(2)),
-    );
-    assert_equal(
-        &rt,
-        (window.dequeue(), window.fold()),
-        (Some(Gcd(18)), Gcd(20)),
-    );
-    assert_equal(
-        &rt,
-        (window.push(Gcd(7)), window.fold()),
-        (Ok(None), Gcd(1)),
+        WindowFold::new,
+        Kept<Gcd>,
+        |window| window.fold(),
+        [Gcd(12), Gcd(18), Gcd(20)],
+        Gcd(7),
+        [Gcd(2), Gcd(2), Gcd(20), Gcd(1)]
     );
 }
 
 #[test]
 fn float_sum_after_a_refused_push(rt: HostRuntime) {
-    let ring = roomy::<Summand>(&rt);
-    let room = ring.capacity();
-    let mut window = WindowFloatSum::new(ring);
-    assert_equal(
+    assert_refused!(
         &rt,
-        (window.push(0.5), window.push(-7.0)),
-        (Ok(None), Ok(None)),
+        WindowFloatSum::new,
+        Summand,
+        |window| window.sum(),
+        [0.5, -7.0, 0.0],
+        8.0,
+        [-6.5, -7.0, 0.0, 8.0]
     );
-    for _ in 2..room {
-        assert_equal(&rt, window.push(0.0), Ok(None));
-    }
-    let drought = Drought::total(rt.alloc()).expect(&rt, "memory");
-    let refused = window.push(8.0);
-    drop(drought);
-    assert_equal(&rt, refused, Err(8.0));
-    assert_equal(&rt, (window.len(), window.sum()), (room, -6.5));
-    assert_equal(&rt, (window.dequeue(), window.sum()), (Some(0.5), -7.0));
-    assert_equal(&rt, (window.dequeue(), window.sum()), (Some(-7.0), 0.0));
-    assert_equal(&rt, (window.push(8.0), window.sum()), (Ok(None), 8.0));
 }
 
 #[test]
 fn least_after_a_refused_push(rt: HostRuntime) {
-    let ring = roomy::<Candidate<i64>>(&rt);
-    let room = ring.capacity();
-    let mut window = WindowMin::new(ring);
-    assert_equal(&rt, (window.push(5), window.push(-7)), (Ok(None), Ok(None)));
-    for _ in 2..room {
-        assert_equal(&rt, window.push(9), Ok(None));
-    }
-    let drought = Drought::total(rt.alloc()).expect(&rt, "memory");
-    let refused = window.push(-8);
-    drop(drought);
-    assert_equal(&rt, refused, Err(-8));
-    assert_equal(&rt, (window.len(), window.min().copied()), (room, Some(-7)));
-    assert_equal(
+    assert_refused!(
         &rt,
-        (window.dequeue(), window.min().copied()),
-        (Some(5), Some(-7)),
-    );
-    assert_equal(
-        &rt,
-        (window.dequeue(), window.min().copied()),
-        (Some(-7), Some(9)),
-    );
-    assert_equal(
-        &rt,
-        (window.push(-8), window.min().copied()),
-        (Ok(None), Some(-8)),
+        WindowMin::new,
+        Candidate<i64>,
+        |window| window.min().copied(),
+        [5, -7, 9],
+        -8,
+        [Some(-7), Some(-7), Some(9), Some(-8)]
     );
 }
 
