@@ -90,8 +90,8 @@ impl<T: Drop, S: RingSlots<T>> FixedRing<T, S> {
         requires { index < length self.now.items }
         ensures { slice_get self.now.items index ≡ Some result.now }
     {
-        let place = self.slots.place_branchless(self.span.start, index);
-        self.slots.get(place)
+        self.slots
+            .get(self.slots.place_branchless(self.span.start, index))
     }
 
     /// Does what `at` does, for an index counted from the end, whose place takes fewer steps by a branch.
@@ -100,8 +100,7 @@ impl<T: Drop, S: RingSlots<T>> FixedRing<T, S> {
         requires { index < length self.now.items }
         ensures { slice_get self.now.items index ≡ Some result.now }
     {
-        let place = self.slots.place(self.span.start, index);
-        self.slots.get(place)
+        self.slots.get(self.slots.place(self.span.start, index))
     }
 
     /// Returns the first item, if there is one. It lies at the start, so no place is counted round.
