@@ -43,34 +43,21 @@ const ROWS: &[(usize, usize)] = &[
     (300, 300),
 ];
 
-/// How the items of a ring lie: it began with room for `capacity` items and as many pushes and dequeues as `start` says, and
-/// then took in `held` items.
-#[derive(Clone, Copy, Drop)]
-struct Layout {
-    capacity: usize,
-    start: usize,
-    held: usize,
-}
-
-impl Layout {
-    /// Returns the same layout, begun at another slot.
-    fn begun_at(self, start: usize) -> Layout {
-        Layout { start, ..self }
-    }
-}
-
-/// Returns a ring of the items with the numbers from 0 on.
+/// Returns a ring of the items with the numbers from 0 on, which began with room for `capacity` items and as many pushes
+/// and dequeues as `start` says.
 fn ring_of<T: Numbered>(
     rt: &impl Abort,
     alloc: Global,
-    layout: Layout,
+    capacity: usize,
+    start: usize,
+    held: usize,
 ) -> Result<GrowableAllocRingBuffer<T>, AllocError> {
-    let mut ring = GrowableAllocRingBuffer::with_capacity(alloc, layout.capacity)?;
-    for _ in 0..layout.start {
+    let mut ring = GrowableAllocRingBuffer::with_capacity(alloc, capacity)?;
+    for _ in 0..start {
         assert_equal(rt, ring.push(T::numbered(0)), Ok(None));
         assert_equal(rt, ring.dequeue(), Some(T::numbered(0)));
     }
-    for number in 0..layout.held {
+    for number in 0..held {
         assert_equal(rt, ring.push(T::numbered(number)), Ok(None));
     }
     Ok(ring)
@@ -90,32 +77,33 @@ fn assert_numbers<T: Numbered>(
     }
 }
 
-/// Brings `count` items to rings, by a slice and by a source, and takes as many out of one.
+/// Brings `count` items to rings of `held`, by a slice and by a source, and takes as many out of one.
 fn assert_blocks<T: Numbered>(
     rt: &impl Abort,
     alloc: Global,
-    layout: Layout,
+    capacity: usize,
+    start: usize,
+    held: usize,
     count: usize,
 ) -> Result<(), AllocError> {
-    let held = layout.held;
     let all = held.saturating_add(count);
     let items = block::<T>(alloc, held, count)?;
 
-    let mut by_slice = ring_of(rt, alloc, layout)?;
+    let mut by_slice = ring_of(rt, alloc, capacity, start, held)?;
     by_slice.extend_from_slice(items.as_slice())?;
     assert_numbers(rt, &by_slice, 0, all);
-    let grown = grown_of(rt, alloc, layout, items.as_slice(), true)?;
+    let grown = grown_of(rt, alloc, capacity, start, held, items.as_slice(), true)?;
     assert_equal(rt, by_slice.as_slices(), grown.as_slices());
     assert_equal(rt, by_slice.capacity(), grown.capacity());
 
-    let mut by_source = ring_of(rt, alloc, layout)?;
+    let mut by_source = ring_of(rt, alloc, capacity, start, held)?;
     by_source.extend(items.iter().copied())?;
     assert_numbers(rt, &by_source, 0, all);
-    let grown = grown_of(rt, alloc, layout, items.as_slice(), false)?;
+    let grown = grown_of(rt, alloc, capacity, start, held, items.as_slice(), false)?;
     assert_equal(rt, by_source.as_slices(), grown.as_slices());
     assert_equal(rt, by_source.capacity(), grown.capacity());
 
-    let mut ring = ring_of(rt, alloc, layout)?;
+    let mut ring = ring_of(rt, alloc, capacity, start, held)?;
     let mut output = block::<T>(alloc, all, count)?;
     let taken = count.min(held);
     assert_equal(rt, ring.dequeue_into(output.as_mut_slice()), taken);
@@ -131,10 +119,12 @@ fn assert_blocks<T: Numbered>(
 fn popped_of<T: Numbered>(
     rt: &impl Abort,
     alloc: Global,
-    layout: Layout,
+    capacity: usize,
+    start: usize,
+    held: usize,
     count: usize,
 ) -> Result<GrowableAllocRingBuffer<T>, AllocError> {
-    let mut ring = ring_of(rt, alloc, layout)?;
+    let mut ring = ring_of(rt, alloc, capacity, start, held)?;
     let deque = ring.as_mut();
     let taken = count.min(deque.len());
     deque.drain(..taken);
@@ -164,12 +154,14 @@ fn assert_lie_alike<T: Numbered>(
 fn grown_of<T: Numbered>(
     rt: &impl Abort,
     alloc: Global,
-    layout: Layout,
+    capacity: usize,
+    start: usize,
+    held: usize,
     items: &[T],
     at_once: bool,
 ) -> Result<GrowableAllocRingBuffer<T>, AllocError> {
-    let mut ring = ring_of(rt, alloc, layout)?;
-    if items.len() >= 16 && items.len() >= layout.held {
+    let mut ring = ring_of(rt, alloc, capacity, start, held)?;
+    if items.len() >= 16 && items.len() >= held {
         let mut vec = ring.into_deque().into_vec();
         vec.extend_from_slice(items)?;
         return GrowableAllocRingBuffer::from_vec(alloc, vec);
@@ -184,20 +176,15 @@ fn grown_of<T: Numbered>(
     Ok(ring)
 }
 
-/// Returns layouts of `held` items, which begin in the first slot, in the middle, seven slots before the end, which they go
+/// Returns where the items of a ring begin: in the first slot, in the middle, seven slots before the end, which they go
 /// round, and as many before it as `count` says, or one fewer.
-fn layouts(capacity: usize, held: usize, count: usize) -> [Layout; 5] {
-    let first = Layout {
-        capacity,
-        start: 0,
-        held,
-    };
+fn starts(capacity: usize, count: usize) -> [usize; 5] {
     [
-        first,
-        first.begun_at(capacity / 2),
-        first.begun_at(capacity.saturating_sub(7)),
-        first.begun_at(capacity.saturating_sub(count)),
-        first.begun_at(capacity.saturating_sub(count.saturating_sub(1))),
+        0,
+        capacity / 2,
+        capacity.saturating_sub(7),
+        capacity.saturating_sub(count),
+        capacity.saturating_sub(count.saturating_sub(1)),
     ]
 }
 
@@ -206,13 +193,13 @@ fn layouts(capacity: usize, held: usize, count: usize) -> [Layout; 5] {
 fn assert_all_blocks<T: Numbered>(rt: &impl Abort, alloc: Global) -> Result<(), AllocError> {
     for (held, count) in ROWS {
         for capacity in [*held, held.saturating_add(*count)] {
-            for layout in layouts(capacity, *held, *count) {
-                assert_blocks::<T>(rt, alloc, layout, *count)?;
+            for start in starts(capacity, *count) {
+                assert_blocks::<T>(rt, alloc, capacity, start, *held, *count)?;
 
-                let mut ring = ring_of::<T>(rt, alloc, layout)?;
+                let mut ring = ring_of::<T>(rt, alloc, capacity, start, *held)?;
                 let mut output = block::<T>(alloc, 0, *count)?;
                 ring.dequeue_into(output.as_mut_slice());
-                let popped = popped_of(rt, alloc, layout, *count)?;
+                let popped = popped_of(rt, alloc, capacity, start, *held, *count)?;
                 assert_lie_alike(rt, alloc, ring, popped)?;
             }
         }
@@ -224,14 +211,16 @@ fn assert_all_blocks<T: Numbered>(rt: &impl Abort, alloc: Global) -> Result<(), 
 fn assert_removes<T: Numbered>(
     rt: &impl Abort,
     alloc: Global,
-    layout: Layout,
+    capacity: usize,
+    start: usize,
+    held: usize,
     from: usize,
     count: usize,
 ) -> Result<(), AllocError> {
-    let mut ring = ring_of::<T>(rt, alloc, layout)?;
-    let mut drained = ring_of::<T>(rt, alloc, layout)?;
-    let from = from.min(layout.held);
-    let to = from.saturating_add(count).min(layout.held);
+    let mut ring = ring_of::<T>(rt, alloc, capacity, start, held)?;
+    let mut drained = ring_of::<T>(rt, alloc, capacity, start, held)?;
+    let from = from.min(held);
+    let to = from.saturating_add(count).min(held);
     ring.remove_range(from..to);
     let deque = drained.as_mut();
     assert!(rt; to <= deque.len());
@@ -244,13 +233,13 @@ fn assert_removes<T: Numbered>(
 fn assert_all_removals<T: Numbered>(rt: &impl Abort, alloc: Global) -> Result<(), AllocError> {
     for (held, count) in ROWS {
         let last = held.saturating_sub(*count);
-        for layout in layouts(*held, *held, *count) {
+        for start in starts(*held, *count) {
             for from in [0, 1, last / 2, last.saturating_sub(1), last] {
-                assert_removes::<T>(rt, alloc, layout, from, *count)?;
+                assert_removes::<T>(rt, alloc, *held, start, *held, from, *count)?;
             }
-            let mut ring = ring_of::<T>(rt, alloc, layout)?;
+            let mut ring = ring_of::<T>(rt, alloc, *held, start, *held)?;
             ring.keep_newest(last);
-            let popped = popped_of(rt, alloc, layout, *count)?;
+            let popped = popped_of(rt, alloc, *held, start, *held, *count)?;
             assert_lie_alike(rt, alloc, ring, popped)?;
         }
     }
@@ -269,10 +258,10 @@ fn blocks_leave_the_middle(rt: HostRuntime) -> Result<(), AllocError> {
 fn consumed_bytes_go_as_popped_ones(rt: HostRuntime) -> Result<(), AllocError> {
     for (held, count) in ROWS {
         for capacity in [*held, held.saturating_add(*count)] {
-            for layout in layouts(capacity, *held, *count) {
-                let mut ring = ring_of::<u8>(&rt, rt.alloc(), layout)?;
+            for start in starts(capacity, *count) {
+                let mut ring = ring_of::<u8>(&rt, rt.alloc(), capacity, start, *held)?;
                 ring.consume(*count);
-                let popped = popped_of(&rt, rt.alloc(), layout, *count)?;
+                let popped = popped_of(&rt, rt.alloc(), capacity, start, *held, *count)?;
                 assert_lie_alike(&rt, rt.alloc(), ring, popped)?;
             }
         }

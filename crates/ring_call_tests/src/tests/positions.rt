@@ -203,43 +203,33 @@ trait Indexed: DoubleEndedRing<i64> {
     fn write(&mut self, index: usize, item: i64);
 }
 
-/// Copies the item at an index out of a ring of either kind.
-macro_rules! item_at {
-    ($ring:expr, $index:expr) => {
-        if $ring.is_empty() {
-            None
-        } else {
-            Some($ring[$index])
-        }
-    };
-}
-
-/// Writes an item at an index of a ring of either kind.
-macro_rules! write_at {
-    ($ring:expr, $index:expr, $item:expr) => {
-        if !$ring.is_empty() {
-            $ring[$index] = $item;
-        }
-    };
-}
-
 impl<S: RingSlots<i64>> Indexed for FixedRing<i64, S> {
     fn item(&self, index: usize) -> Option<i64> {
-        item_at!(self, index)
+        if self.is_empty() {
+            return None;
+        }
+        Some(self[index])
     }
 
     fn write(&mut self, index: usize, item: i64) {
-        write_at!(self, index, item);
+        if !self.is_empty() {
+            self[index] = item;
+        }
     }
 }
 
 impl Indexed for GrowableAllocRingBuffer<i64> {
     fn item(&self, index: usize) -> Option<i64> {
-        item_at!(self, index)
+        if self.is_empty() {
+            return None;
+        }
+        Some(self[index])
     }
 
     fn write(&mut self, index: usize, item: i64) {
-        write_at!(self, index, item);
+        if !self.is_empty() {
+            self[index] = item;
+        }
     }
 }
 
