@@ -19,6 +19,8 @@ mod runs;
 mod searches;
 mod selection;
 mod slices;
+mod slots;
+mod sources;
 mod sums;
 mod taking;
 mod uses;

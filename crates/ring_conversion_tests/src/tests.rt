@@ -4,6 +4,7 @@ ghost use Rattle.std.specs.Prelude.{◌<◌};
 
 mod clones;
 mod conversions;
+mod made;
 mod rows;
 mod sources;
 mod texts;

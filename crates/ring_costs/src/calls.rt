@@ -99,10 +99,8 @@ fn push_pop_back<T: Item, R: Measured<T>>(ring: &mut R, times: u32) -> u64 {
 fn push_front<T: Item, R: Measured<T>>(ring: &mut R, times: u32) -> u64 {
     let mut sum = 0u64;
     for number in 0..times {
-        sum ^= found(
-            ring.push_front(T::numbered(u64::from(number)))
-                .unwrap_or(None),
-        );
+        let old = ring.push_front(T::numbered(u64::from(number)));
+        sum ^= found(old.unwrap_or(None));
     }
     sum
 }

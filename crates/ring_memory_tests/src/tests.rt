@@ -9,6 +9,7 @@ mod memory;
 mod own;
 mod refused;
 mod slots;
+mod starved;
 
 use ring_test_support::counted::{Counted, Supply};
 use ring_test_support::drought::Drought;

@@ -3,7 +3,9 @@
 //! A test is a list of calls with their answers, or a method of a trait that the ring types implement, which a macro of
 //! `ring_test_support` calls on a new ring of each type.
 
+mod borrowed;
 mod comparison;
+mod in_part;
 mod ranges;
 mod walks;
 

@@ -2,7 +2,7 @@
 ghost use Rattle.std.specs.Prelude.{◌≡◌};
 
 use crate::script::count_numbers;
-use ringbuffer::{AllocRingBuffer, ConstGenericRingBuffer, GrowableAllocRingBuffer, RingBuffer};
+use ringbuffer::{AllocRingBuffer, CopyRingBuffer, GrowableAllocRingBuffer, RingBuffer};
 
 /// A ring that takes a line's numbers one at a time, and can make room for many at once.
 pub trait MakesRoom: RingBuffer<i64> {
@@ -16,7 +16,7 @@ pub trait MakesRoom: RingBuffer<i64> {
 }
 
 /// It never asks for memory.
-impl<const CAP: usize> MakesRoom for ConstGenericRingBuffer<i64, CAP> {
+impl<const CAP: usize> MakesRoom for CopyRingBuffer<i64, CAP> {
     #[inline]
     fn has_no_room(&self) -> bool {
         false

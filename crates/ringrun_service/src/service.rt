@@ -22,8 +22,7 @@ use crate::replies;
 use crate::room::{MakesRoom, make_room};
 use crate::script::{Line, Script, split_number};
 use ringbuffer::{
-    AllocRingBuffer, ConstGenericRingBuffer, GrowableAllocRingBuffer, Reply, RingBuffer, apply,
-    runs_join,
+    AllocRingBuffer, CopyRingBuffer, GrowableAllocRingBuffer, Reply, RingBuffer, apply, runs_join,
 };
 use std::alloc::Global;
 use std::io;
@@ -104,12 +103,12 @@ fn text_for<I: Read>(alloc: Global, words: &[String], input: &mut I) -> Result<V
     let Arguments { kind, capacity } = Arguments::parse(words)?;
     match kind {
         Kind::Array => match capacity {
-            1 => run_input(&mut ConstGenericRingBuffer::<i64, 1>::new(), alloc, input),
-            2 => run_input(&mut ConstGenericRingBuffer::<i64, 2>::new(), alloc, input),
-            3 => run_input(&mut ConstGenericRingBuffer::<i64, 3>::new(), alloc, input),
-            4 => run_input(&mut ConstGenericRingBuffer::<i64, 4>::new(), alloc, input),
-            8 => run_input(&mut ConstGenericRingBuffer::<i64, 8>::new(), alloc, input),
-            10 => run_input(&mut ConstGenericRingBuffer::<i64, 10>::new(), alloc, input),
+            1 => run_input(&mut CopyRingBuffer::<i64, 1>::new(0), alloc, input),
+            2 => run_input(&mut CopyRingBuffer::<i64, 2>::new(0), alloc, input),
+            3 => run_input(&mut CopyRingBuffer::<i64, 3>::new(0), alloc, input),
+            4 => run_input(&mut CopyRingBuffer::<i64, 4>::new(0), alloc, input),
+            8 => run_input(&mut CopyRingBuffer::<i64, 8>::new(0), alloc, input),
+            10 => run_input(&mut CopyRingBuffer::<i64, 10>::new(0), alloc, input),
             _ => Err(Fault::BadArguments),
         },
         Kind::Heap => {

@@ -1,9 +1,10 @@
 -- How a queue changes as an item leaves and one comes.
 use Rattle.std.proofs.Common.{◌≡◌, ◌≢◌, ◌⊎◌, ℕ, zero, suc, ◌+◌, ◌-◌, ◌<◌, ◌≤◌, List, [], ◌∷◌, ◌++◌, length, take, drop, All, None, Some, inl, inr, refl, ap, sym, ◌∙◌, add-one, arith, length-append, length-drop, slice_get, slice_set, Bor, Option}
-use Rattle.std.proofs.lemmas.List.{drop-set-lt, set_comm, length-map, length-set, map-append, drop-append-le, drop-set-add, drop_all, set-append_left, take-append-le, take_all}
+use Rattle.std.proofs.lemmas.List.{drop-set-lt, get_or-set_same, set-get_or, set_comm, length-map, length-set, map-append, drop-append-le, drop-set-add, drop_all, set-append_left, take-append-le, take_all}
 use Rattle.std.proofs.lemmas.List.Elements.{All-cons, All-head, All-nil, All-push, All-tail, All-weaker}
-use Rattle.std.proofs.lemmas.Option.{slice_get_within, slice_get-map}
-use Rattle.std.proofs.Math.Seq.{set-append_seam}
+use Rattle.std.proofs.lemmas.Option.{get_or_from_slice_get, slice_get_within, slice_get-get_or, slice_get-map}
+use Rattle.std.proofs.lemmas.Cmp.{upto}
+use Rattle.std.proofs.Math.Seq.{drop-cons, set-append_seam}
 use Rattle.std.specs.Option.{option_copied, option_map}
 use Rattle.std.specs.Cmp.{IsTotalOrder}
 use Rattle.std.specs.declared.cmp.Ordering.{Ordering}
@@ -14,7 +15,7 @@ use Rattle.window.specs.Least.{AtMost, IsBelow, IsFirstLeast, IsLeastFrom}
 use Rattle.window.specs.declared.monotonic_queue.Candidate.{Candidate}
 use Rattle.window.proofs.Mapped.{drop_written, map-set}
 use Rattle.window.proofs.Pushed.{newest_read, read_is}
-use Rattle.window.proofs.Orders.{AtMost-below, AtMost-same, AtMost-trans, IsBelow-trans}
+use Rattle.window.proofs.Orders.{AtMost-below, AtMost-same, IsBelow-trans}
 
 -- By induction on the list: what holds of all items holds of that at a place.
 pub All-at : {T : Type 0} (P : T → Type 0) (rs : List (Candidate T)) (i : ℕ) (r : Candidate T) → slice_get rs i ≡ Some r → All P (items_on rs) → P r.item
@@ -24,9 +25,9 @@ All-at P (q ∷ rs) (suc i) r at all = All-at P rs i r at (All-tail P q.item (it
 
 -- A written place is read, if it is one.
 pub set_read : {A : Type 0} (xs : List A) (i : ℕ) (x y : A) → slice_get xs i ≡ Some x → slice_get (slice_set xs i y) i ≡ Some y
-set_read [] i x y at = absurd (let none : None ≡ Some x = at in cc)
-set_read (z ∷ xs) zero x y at = refl
-set_read (z ∷ xs) (suc i) x y at = set_read xs i x y at
+set_read xs i x y at =
+    let within : i < length xs = slice_get_within xs i x at in
+    slice_get-get_or (slice_set xs i y) i y (rw (length-set xs i y) within) ∙ ap Some (get_or-set_same xs i y y within)
 
 -- Another is as it was.
 pub set_other : {A : Type 0} (xs : List A) (i j : ℕ) (y : A) → j ≢ i → slice_get (slice_set xs i y) j ≡ slice_get xs j
@@ -38,15 +39,11 @@ set_other (z ∷ xs) (suc i) (suc j) y other = set_other xs i j y (omega arith)
 
 -- From a place on, the list is what stands there and the rest.
 pub drop_from : {A : Type 0} (xs : List A) (i : ℕ) (x : A) → slice_get xs i ≡ Some x → drop i xs ≡ x ∷ drop (suc i) xs
-drop_from [] i x at = absurd (let none : None ≡ Some x = at in cc)
-drop_from (z ∷ xs) zero x at = let same : z ≡ x = let both : Some z ≡ Some x = at in cc in rw same refl
-drop_from (z ∷ xs) (suc i) x at = drop_from xs i x at
+drop_from xs i x at = drop-cons xs i x (slice_get_within xs i x at) ∙ ap (λ y. y ∷ drop (suc i) xs) (get_or_from_slice_get xs i x x at)
 
 -- A written item that is what stood there changes nothing.
 pub set_same : {A : Type 0} (xs : List A) (i : ℕ) (x : A) → slice_get xs i ≡ Some x → slice_set xs i x ≡ xs
-set_same [] i x at = refl
-set_same (z ∷ xs) zero x at = let same : z ≡ x = let both : Some z ≡ Some x = at in cc in rw same refl
-set_same (z ∷ xs) (suc i) x at = ap (λ ys. z ∷ ys) (set_same xs i x at)
+set_same xs i x at = ap (slice_set xs i) (sym (get_or_from_slice_get xs i x x at)) ∙ set-get_or xs i x
 
 -- Where the newest has the links of one that none has ranked, its link behind is all that is to be written.
 pub newest_linked : {T : Type 0} (all rs : List (Candidate T)) (q r : Candidate T) (n far : ℕ) (mid after : List (Candidate T)) → all ≡ rs ++ q ∷ [] → n ≡ length all → q.behind ≡ 1 → q.ahead ≡ 0 → slice_get all (n - 1) ≡ Some r → slice_get mid (n - 1) ≡ Some r
@@ -200,7 +197,7 @@ module _ {T : Type 0} {cmp : T → T → Ordering} (o : IsTotalOrder cmp) where
             let past : drop (suc e) (slice_set rs i r' ++ n ∷ []) ≡ slice_set (drop (suc e) rs) ih.p r' ++ n ∷ [] =
             drop-append-le (suc e) (slice_set rs i r') (n ∷ []) (omega (arith, within, set_long)) ∙ ap (λ ys. ys ++ n ∷ []) (drop-set-add (suc e) rs ih.p r') in
             let all : items_on (slice_set rs i r' ++ n ∷ []) ≡ items_on rs ++ n.item ∷ [] = map-append item_on (slice_set rs i r') (n ∷ []) ∙ ap (λ ys. ys ++ n.item ∷ []) (map-set item_on rs i ih.last r' there refl) in
-            let over_r : AtMost cmp r.item n.item = AtMost-trans o r.item ih.last.item n.item (All-at (AtMost cmp r.item) rs i ih.last there least.at_most) (rw is over) in (
+            let over_r : AtMost cmp r.item n.item = upto o r.item ih.last.item n.item (All-at (AtMost cmp r.item) rs i ih.last there least.at_most) (rw is over) in (
               r,
               slice_get-append_left e (slice_set rs i r') (n ∷ []) (omega (arith, within, set_long)) ∙ set_other rs i e r' (omega arith) ∙ at,
               behind,
@@ -266,31 +263,24 @@ module _ {T : Type 0} {cmp : T → T → Ordering} (o : IsTotalOrder cmp) where
 
   -- Other counts serve as well where they are as far apart.
   abbrev recounted : {all : List (Candidate T)} {first left compared most : ℕ} (so : Reaches cmp all first left compared most) (compared' most' : ℕ) → compared' + length so.places ≤ most' → Reaches cmp all first left compared' most'
-  recounted so compared' most' counted = record {
-    rs = so.rs;
-    r = so.r;
-    all_is = so.all_is;
-    k = so.k;
-    left_is = so.left_is;
-    places = so.places;
-    more = so.more;
-    is_popped = so.is_popped;
-    first_is = so.first_is;
-    counted = counted;
-  }
+  recounted so compared' most' counted = record so { counted = counted }
 
   -- A greater number serves as well.
   pub recounted_to : {rs : List (Candidate T)} {first compared most most' : ℕ} → HoldsMonotonicQueue cmp rs first compared most → most ≤ most' → HoldsMonotonicQueue cmp rs first compared most'
-  recounted_to is more = record { places = is.places; more = is.more; is_queue = is.is_queue; first_is = is.first_is; counted = omega (arith, is.counted, more) }
+  recounted_to is more = record is { counted = omega (arith, is.counted, more) }
 
-  -- What the last place tells of those that are left, once its item was compared with the newest.
+  -- What the item at the last place tells of those that are left, once it was compared with the newest.
+  pub record Turn (all : List (Candidate T)) (first left compared most : ℕ) (x y : Candidate T) : Type 0 where
+    pub stops : AtMost cmp x.item y.item → Stops cmp all first left (compared + 1) (most + 1)
+    pub ends_at : left ≤ x.behind → IsBelow cmp y.item x.item → Stops cmp all first 0 (compared + 1) (most + 1)
+    pub goes : x.behind < left → IsBelow cmp y.item x.item → (0 < x.behind) × Reaches cmp all first (left - x.behind) (compared + 1) most
+
+  -- Which items these are.
   pub record Seen (all : List (Candidate T)) (first left n compared most : ℕ) (so : Reaches cmp all first left compared most) : Type 0 where
     pub last : Candidate T
     pub read : slice_get all (left - 1) ≡ Some last
     pub read_newest : slice_get all (n - 1) ≡ Some so.r
-    pub stops : AtMost cmp last.item so.r.item → Stops cmp all first left (compared + 1) (most + 1)
-    pub ends_at : left ≤ last.behind → IsBelow cmp so.r.item last.item → Stops cmp all first 0 (compared + 1) (most + 1)
-    pub goes : last.behind < left → IsBelow cmp so.r.item last.item → (0 < last.behind) × Reaches cmp all first (left - last.behind) (compared + 1) most
+    pub tells : Turn all first left compared most last so.r
 
   below_top : (x : T) (k more : ℕ) (ds : List ℕ) (rs : List (Candidate T)) → IsPopped cmp x k more ds rs → k ≤ length rs
   below_top x k more [] rs c = omega (arith, c.0)
@@ -303,10 +293,6 @@ module _ {T : Type 0} {cmp : T → T → Ordering} (o : IsTotalOrder cmp) where
   below_some x k more d ds rs c =
       let (r, at, behind, leads, least, rest) = c in
       omega (arith, below_top x k 0 ds (drop (suc d) rs) rest, length-drop (suc d) rs, slice_get_within rs d r at)
-
-  not_empty : (pre : List ℕ) (d : ℕ) → pre ++ d ∷ [] ≡ [] → ⊥
-  not_empty [] d e = let none : d ∷ [] ≡ [] = e in cc
-  not_empty (x ∷ pre) d e = let none : x ∷ (pre ++ d ∷ []) ≡ [] = e in cc
 
   pub seen : (all : List (Candidate T)) (first left n compared most : ℕ) (so : Reaches cmp all first left compared most) → n ≡ length all → 0 < left → Seen all first left n compared most so
   seen all first left n compared most so n_is more_left = elim (ends so.places) [ inl none ↦ absurd (all_popped none) | inr e ↦ named e.0 e.1 e.2 ] where
@@ -324,30 +310,21 @@ module _ {T : Type 0} {cmp : T → T → Ordering} (o : IsTotalOrder cmp) where
         let it = the_last so.r.item so.k so.more pre d so.rs c in
         let at_p : left - 1 ≡ it.p = omega (arith, it.from_end, so.left_is) in
         let in_front : it.p < length so.rs = omega (arith, it.from_end) in
-        let first_is : first ≡ next (pre ++ d ∷ []) = so.first_is (λ none. not_empty pre d (sym is ∙ none)) ∙ ap next is in
+        let first_is : first ≡ next (pre ++ d ∷ []) = so.first_is (λ none. omega (arith, ap length (sym is ∙ none), length-append pre (d ∷ []))) ∙ ap next is in
         let newest : n - 1 ≡ length so.rs = omega (arith, long) in
         record {
           last = it.last;
           read = rw (at_p, so.all_is) (slice_get-append_left it.p so.rs (so.r ∷ []) in_front ∙ it.at);
           read_newest = rw newest (rw so.all_is (slice_get-at so.rs so.r []));
-          stops = λ h. (recounted so (compared + 1) (most + 1) (omega (arith, so.counted)), inr (it.p, it.last, it.from_end, it.at, h));
-          ends_at = λ here h. alone pre d it.last.behind it.says here (it.popped h);
-          goes = λ less h. passes pre d is first_is it.last it.says less (it.popped h);
+          tells = record {
+            stops = λ h. (recounted so (compared + 1) (most + 1) (omega (arith, so.counted)), inr (it.p, it.last, it.from_end, it.at, h));
+            ends_at = λ here h. alone pre d it.last.behind it.says here (it.popped h);
+            goes = λ less h. passes pre d is first_is it.last it.says less (it.popped h);
+          };
         } where
           alone : (pre : List ℕ) (d behind : ℕ) → behind ≡ suc d + slack so.more pre → left ≤ behind → IsPopped cmp so.r.item (so.k + suc d) so.more pre so.rs → Stops cmp all first 0 (compared + 1) (most + 1)
           alone [] d behind says here popped = (
-            record {
-              rs = so.rs;
-              r = so.r;
-              all_is = so.all_is;
-              k = so.k + suc d;
-              left_is = omega (arith, popped.0);
-              places = [];
-              more = so.more;
-              is_popped = popped;
-              first_is = λ some. absurd (some refl);
-              counted = omega (arith, so.counted);
-            },
+            record so { k = so.k + suc d; left_is = omega (arith, popped.0); places = []; is_popped = popped; first_is = λ some. absurd (some refl); counted = omega (arith, so.counted) },
             inl refl,
           )
           alone (e ∷ pre) d behind says here popped = absurd (omega (arith, says, here, so.left_is, below_some so.r.item (so.k + suc d) so.more e pre so.rs popped))
@@ -358,38 +335,28 @@ module _ {T : Type 0} {cmp : T → T → Ordering} (o : IsTotalOrder cmp) where
           passes (e ∷ pre) d is first_is last says less popped =
               let fits = below_top so.r.item (so.k + suc d) so.more (e ∷ pre) so.rs popped in (
                 omega (arith, says),
-                record {
-                  rs = so.rs;
-                  r = so.r;
-                  all_is = so.all_is;
+                record so {
                   k = so.k + suc d;
                   left_is = omega (arith, fits, says, so.left_is);
                   places = e ∷ pre;
-                  more = so.more;
                   is_popped = popped;
                   first_is = λ some. first_is;
                   counted = omega (arith, so.counted, ap length is, length-append (e ∷ pre) (d ∷ []));
                 },
               )
 
-  -- A turn of the walk knows the last place and the newest by what it reads there.
-  pub record Turn (all : List (Candidate T)) (first left compared most : ℕ) (x y : Candidate T) : Type 0 where
-    pub stops : AtMost cmp x.item y.item → Stops cmp all first left (compared + 1) (most + 1)
-    pub ends_at : left ≤ x.behind → IsBelow cmp y.item x.item → Stops cmp all first 0 (compared + 1) (most + 1)
-    pub goes : x.behind < left → IsBelow cmp y.item x.item → (0 < x.behind) × Reaches cmp all first (left - x.behind) (compared + 1) most
-
-  pub turn : (all : List (Candidate T)) (first left n compared most : ℕ) (so : Reaches cmp all first left compared most) → n ≡ length all → 0 < left
-      → (o p : Option (Bor (Candidate T))) (x y : Bor (Candidate T)) → option_copied o ≡ slice_get all (index_at (length all) (left - 1)) → o ≡ Some x → option_copied p ≡ slice_get all (index_at (length all) (n - 1)) → p ≡ Some y
-      → Turn all first left compared most x.now y.now
-  turn all first left n compared most so n_is more_left o p x y copied is copied' is' =
+  -- A turn of the walk knows both by what it reads there.
+  pub turn : {all : List (Candidate T)} {first left n compared most : ℕ} (so : Reaches cmp all first left compared most) → n ≡ length all → 0 < left → {o p : Option (Bor (Candidate T))} {x y : Bor (Candidate T)}
+      → option_copied o ≡ slice_get all (index_at (length all) (left - 1)) → o ≡ Some x → option_copied p ≡ slice_get all (index_at (length all) (n - 1)) → p ≡ Some y → Turn all first left compared most x.now y.now
+  turn {all} {first} {left} {n} {compared} {most} so n_is more_left {o} {p} {x} {y} copied is copied' is' =
       let s = seen all first left n compared most so n_is more_left in
-      rw (read_is all _ o x s.last copied is s.read, read_is all _ p y so.r copied' is' s.read_newest) (record { stops = s.stops; ends_at = s.ends_at; goes = s.goes })
+      rw (read_is all _ o x s.last copied is s.read, read_is all _ p y so.r copied' is' s.read_newest) s.tells
 
   -- Where the newest is the least, it is the whole queue.
-  pub joins_alone : (all : List (Candidate T)) (first left n compared most : ℕ) → n ≡ length all → Stops cmp all first left compared most → left ≡ 0
+  pub joins_alone : {all : List (Candidate T)} {first left n compared most : ℕ} → n ≡ length all → Stops cmp all first left compared most → left ≡ 0
       → (r : Candidate T) × (slice_get all (n - 1) ≡ Some r) × HoldsMonotonicQueue cmp (slice_set all (n - 1) (record r { behind = n - left; ahead = 0 })) n compared (most + 1)
       × (items_on (slice_set all (n - 1) (record r { behind = n - left; ahead = 0 })) ≡ items_on all)
-  joins_alone all first left n compared most n_is (so, stop) whole =
+  joins_alone {all} {first} {left} {n} {compared} {most} n_is (so, stop) whole =
       let long : n ≡ length so.rs + 1 = n_is ∙ ap length so.all_is ∙ length-append so.rs (so.r ∷ []) in
       let newest : n - 1 ≡ length so.rs = omega (arith, long) in
       let q : Candidate T = record so.r { behind = n - left; ahead = 0 } in
@@ -407,13 +374,17 @@ module _ {T : Type 0} {cmp : T → T → Ordering} (o : IsTotalOrder cmp) where
         rw written (map-append item_on so.rs (q ∷ []) ∙ sym (ap items_on so.all_is ∙ map-append item_on so.rs (so.r ∷ []))),
       )
 
-  -- Else it comes after the last that is still named.
-  pub joins_after : (all : List (Candidate T)) (first left n compared most : ℕ) → n ≡ length all → Stops cmp all first left compared most → (left ≡ 0 → ⊥)
-      → (r last : Candidate T) × (slice_get all (n - 1) ≡ Some r) × (left < n)
+  -- The newest is linked with the last that is still named, and both are read where they stand.
+  abbrev pub Joins : (all : List (Candidate T)) (first left n compared most : ℕ) → Type 0
+  Joins all first left n compared most =
+      (r last : Candidate T) × (slice_get all (n - 1) ≡ Some r) × (left < n)
       × (slice_get (slice_set all (n - 1) (record r { behind = n - left; ahead = 0 })) (left - 1) ≡ Some last)
       × HoldsMonotonicQueue cmp (slice_set (slice_set all (n - 1) (record r { behind = n - left; ahead = 0 })) (left - 1) (record last { ahead = n - left })) first compared (most + 1)
       × (items_on (slice_set (slice_set all (n - 1) (record r { behind = n - left; ahead = 0 })) (left - 1) (record last { ahead = n - left })) ≡ items_on all)
-  joins_after all first left n compared most n_is (so, stop) not_whole = elim (ends so.places) [ inl none ↦ absurd (all_popped none) | inr e ↦ named e.0 e.1 e.2 stop ] where
+
+  -- Else it comes after the last that is still named.
+  pub joins_after : {all : List (Candidate T)} {first left n compared most : ℕ} → n ≡ length all → Stops cmp all first left compared most → (left ≡ 0 → ⊥) → Joins all first left n compared most
+  joins_after {all} {first} {left} {n} {compared} {most} n_is (so, stop) not_whole = elim (ends so.places) [ inl none ↦ absurd (all_popped none) | inr e ↦ named e.0 e.1 e.2 stop ] where
     long : n ≡ length so.rs + 1
     long = n_is ∙ ap length so.all_is ∙ length-append so.rs (so.r ∷ [])
 
@@ -422,11 +393,7 @@ module _ {T : Type 0} {cmp : T → T → Ordering} (o : IsTotalOrder cmp) where
         let c : IsPopped cmp so.r.item so.k so.more [] so.rs = rw none at so.is_popped in
         not_whole (omega (arith, c.0, long, so.left_is))
 
-    named : (pre : List ℕ) (d : ℕ) → so.places ≡ pre ++ d ∷ [] → (so.places ≡ []) ⊎ ((p : ℕ) × (last : Candidate T) × (p + 1 + so.k ≡ length so.rs) × (slice_get so.rs p ≡ Some last) × AtMost cmp last.item so.r.item)
-        → (r last : Candidate T) × (slice_get all (n - 1) ≡ Some r) × (left < n)
-        × (slice_get (slice_set all (n - 1) (record r { behind = n - left; ahead = 0 })) (left - 1) ≡ Some last)
-        × HoldsMonotonicQueue cmp (slice_set (slice_set all (n - 1) (record r { behind = n - left; ahead = 0 })) (left - 1) (record last { ahead = n - left })) first compared (most + 1)
-        × (items_on (slice_set (slice_set all (n - 1) (record r { behind = n - left; ahead = 0 })) (left - 1) (record last { ahead = n - left })) ≡ items_on all)
+    named : (pre : List ℕ) (d : ℕ) → so.places ≡ pre ++ d ∷ [] → (so.places ≡ []) ⊎ ((p : ℕ) × (last : Candidate T) × (p + 1 + so.k ≡ length so.rs) × (slice_get so.rs p ≡ Some last) × AtMost cmp last.item so.r.item) → Joins all first left n compared most
     named pre d is (inl none) = absurd (all_popped none)
     named pre d is (inr (p, last, from_end, at, over)) =
         let c : IsPopped cmp so.r.item so.k so.more (pre ++ d ∷ []) so.rs = rw is at so.is_popped in
@@ -498,7 +465,7 @@ module _ {T : Type 0} {cmp : T → T → Ordering} (o : IsTotalOrder cmp) where
             let (r, there, behind, ahead, least, rest) = queue in
             let e : at + first ≡ at + 1 + d = omega (arith, first_is) in
             let read : slice_get all (at + first) ≡ Some r = rw e (sym (slice_get-drop (at + 1) d all) ∙ there) in
-            All-weaker (AtMost cmp r.item) (AtMost cmp q.item) (λ z. AtMost-trans o q.item r.item z (over r (omega (arith, first_is)) read)) (items_on (drop (at + 1) all)) least.at_most
+            All-weaker (AtMost cmp r.item) (AtMost cmp q.item) (λ z. upto o q.item r.item z (over r (omega (arith, first_is)) read)) (items_on (drop (at + 1) all)) least.at_most
 
   -- Behind an item that is above the first ranked after it, the first stays, one further behind.
   pub ranked_behind : (all : List (Candidate T)) (at first compared compared' most most' : ℕ) (q y : Candidate T) → slice_get all at ≡ Some q → IsRanked cmp (drop (at + 1) all) first compared most

@@ -11,9 +11,6 @@ module _ {T : Type 0} {cmp : T → T → Ordering} (o : IsTotalOrder cmp) where
   pub AtMost-same : (x : T) → AtMost cmp x x
   AtMost-same x = ap is_gt (tied_itself o x)
 
-  pub AtMost-trans : (x y z : T) → AtMost cmp x y → AtMost cmp y z → AtMost cmp x z
-  AtMost-trans x y z p q = upto o x y z p q
-
   -- What is below another is not above it.
   pub AtMost-below : (x y : T) → IsBelow cmp x y → AtMost cmp x y
   AtMost-below x y below = go (cmp x y) refl where

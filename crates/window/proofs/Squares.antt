@@ -10,11 +10,8 @@ use Rattle.window.specs.SumLaws.{total-cons}
 use Rattle.window.specs.Sums.{total}
 use Rattle.window.specs.Moments.{AreMomentsOf, square, sum_of_squares}
 
-abs-small : (x : ℤ) → FitsSigned w32 x → unsigned_abs x ≤ 2147483648
-abs-small x fits = omega (arith, ints, fits)
-
 square-small : (x : ℤ) → FitsSigned w32 x → square x ≤ 4611686018427387904
-square-small x fits = mul-le-mul (abs-small x fits) (abs-small x fits)
+square-small x fits = let small : unsigned_abs x ≤ 2147483648 = omega (arith, ints, fits) in mul-le-mul small small
 
 -- By induction: the last number's square is one summand.
 pub squares_push : (xs : List ℤ) (x : ℤ) → sum_of_squares (xs ++ x ∷ []) ≡ sum_of_squares xs + square x

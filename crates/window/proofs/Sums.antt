@@ -17,15 +17,12 @@ total-bounds (x ∷ xs) all =
     let fits : FitsSigned w64 x = All-head (FitsSigned w64) x xs all in
     (omega (arith, ints, total-cons x xs, low, high, fits), omega (arith, ints, total-cons x xs, low, high, fits))
 
--- At most 2^64 numbers of 64 bits sum up to no less than -2^127 and to less than 2^127.
-total-fits : (xs : List ℤ) → All (FitsSigned w64) xs → length xs ≤ 2 ^ 64 → FitsSigned w128 (total xs)
-total-fits xs all few =
-    let (low, high) = total-bounds xs all in
-    omega (arith, ints, low, high)
-
--- The sum of some samples takes no more than an i128.
+-- At most 2^64 samples of 64 bits sum up to no less than -2^127 and to less than 2^127.
 pub IsSumOf-fits : {xs : List ℤ} {sum : ℤ} → IsSumOf xs sum → length xs ≤ 2 ^ 64 → FitsSigned w128 sum
-IsSumOf-fits {xs} is few = rw is.summed (total-fits xs is.in_range few)
+IsSumOf-fits {xs} is few =
+    let (low, high) = total-bounds xs is.in_range in
+    let fits : FitsSigned w128 (total xs) = omega (arith, ints, low, high) in
+    rw is.summed fits
 
 -- One more sample adds itself.
 pub IsSumOf-append : {xs : List ℤ} {sum x more : ℤ} → IsSumOf xs sum → FitsSigned w64 x → more ≡ sum +ℤ x → IsSumOf (xs ++ x ∷ []) more

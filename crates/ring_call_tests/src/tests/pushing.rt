@@ -1,25 +1,19 @@
-//! Pushing, taking, sizes and slots.
-
-ghost use Rattle.std.specs.Prelude.{◌-◌, ◌<◌};
-ghost use Rattle.std.specs.Iterator.{at_most};
+//! Pushing and taking.
 
 use super::{answers, assert_steps, push_all};
 use ring_slots::RingSlots;
 use ring_test_support::kinds::{EACH, FIXED, Kind};
 use ring_test_support::steps::Step;
 use ring_test_support::steps::Step::{
-    Back, Capacity, Clear, Dequeue, DequeueAll, Enqueue, Extend, Fill, Front, GetSigned, Holds,
-    IsEmpty, IsFull, Len, Push, PushAll, PushToLen, Skip, Slots,
+    Back, Clear, Dequeue, DequeueAll, Enqueue, Extend, Front, GetSigned, Holds, IsEmpty, IsFull,
+    Len, Push, PushAll, PushToLen, Skip, Slots,
 };
-use ring_test_support::{on_each, on_fixed, on_heap};
-use ringbuffer::{
-    AllocRingBuffer, ConstGenericRingBuffer, DoubleEndedRing, FixedRing, GrowableAllocRingBuffer,
-    RingBuffer,
-};
+use ring_test_support::{on_each, on_fixed};
+use ringbuffer::{DoubleEndedRing, FixedRing, GrowableAllocRingBuffer, RingBuffer};
 use std::process::Abort;
 
 /// Calls of a ring of two that overwrites an item.
-const OVERWRITES_THE_FIRST: &[Step] = &[
+pub const OVERWRITES_THE_FIRST: &[Step] = &[
     PushAll(&[5]),
     Back(Some(5)),
     PushAll(&[42]),
@@ -233,116 +227,6 @@ fn items_go_in_and_out_in_order(rt: HostRuntime) {
     answers(&rt, EACH, 2, "an empty ring is skipped", SKIPS_NOTHING);
 }
 
-/// The capacity that is asked for on the heap, and the slots that are made.
-const SLOTS: &[(usize, usize)] = &[
-    (1, 1),
-    (2, 2),
-    (3, 4),
-    (4, 4),
-    (5, 8),
-    (8, 8),
-    (9, 16),
-    (1000, 1024),
-];
-
-#[test]
-fn a_new_ring_is_empty_and_has_its_capacity(rt: HostRuntime) {
-    let new = &[Capacity(8), Len(0)];
-    answers(&rt, FIXED, 8, "new", new);
-    let mut array = ConstGenericRingBuffer::<i64, 8>::default();
-    assert_steps(&rt, &mut array, new);
-    let mut heap = AllocRingBuffer::with_capacity(rt.alloc(), 8).expect(&rt, "memory");
-    assert_steps(&rt, &mut heap, new);
-    let mut heap = AllocRingBuffer::with_capacity(rt.alloc(), 2).expect(&rt, "memory");
-    assert_steps(&rt, &mut heap, OVERWRITES_THE_FIRST);
-    for (exponent, capacity) in [(0, 1), (2, 4), (10, 1024)] {
-        let heap = AllocRingBuffer::with_capacity_power_of_2(rt.alloc(), exponent);
-        let mut heap = heap.expect(&rt, "memory");
-        assert_steps(&rt, &mut heap, &[Capacity(capacity), Len(0)]);
-    }
-    for (capacity, slots) in SLOTS {
-        let steps = &[Slots(*slots), Capacity(*capacity)];
-        answers(&rt, &[Kind::Heap], *capacity, "slots", steps);
-    }
-}
-
-/// Calls of a heap ring of five, in eight slots.
-const IN_EIGHT_SLOTS: &[&[Step]] = &[
-    &[
-        Slots(8),
-        PushAll(&[0, 1, 2, 3, 4, 5, 6]),
-        IsFull(true),
-        Holds(&[2, 3, 4, 5, 6]),
-        Slots(8),
-    ],
-    &[
-        Slots(8),
-        PushAll(&[0, 1, 2, 3, 4, 5, 6]),
-        Fill(4),
-        Holds(&[4, 4, 4, 4, 4]),
-        IsFull(true),
-        Capacity(5),
-        Slots(8),
-    ],
-];
-
-/// Calls of a heap ring of three, in four slots.
-const IN_FOUR_SLOTS: &[&[Step]] = &[
-    &[
-        Slots(4),
-        PushAll(&[1, 2, 3]),
-        IsFull(true),
-        Holds(&[1, 2, 3]),
-        Slots(4),
-    ],
-    &[
-        Slots(4),
-        PushAll(&[1, 2, 3, 4]),
-        IsFull(true),
-        Holds(&[2, 3, 4]),
-        Slots(4),
-    ],
-];
-
-/// Calls of a ring of one slot.
-const IN_ONE_SLOT: &[&[Step]] = &[
-    &[Slots(1), PushAll(&[1, 2]), Holds(&[2]), Slots(1)],
-    &[
-        Slots(1),
-        PushAll(&[0, 1, 2, 3, 4, 5, 6, 7, 8, 9]),
-        Holds(&[9]),
-        Slots(1),
-    ],
-];
-
-#[test]
-fn spare_slots_hold_no_items(rt: HostRuntime) {
-    for steps in IN_ONE_SLOT {
-        answers(&rt, FIXED, 1, "one slot", steps);
-    }
-    for steps in IN_FOUR_SLOTS {
-        answers(&rt, &[Kind::Heap], 3, "four slots", steps);
-    }
-    for steps in IN_EIGHT_SLOTS {
-        answers(&rt, &[Kind::Heap], 5, "eight slots", steps);
-    }
-    let steps = &[
-        Slots(50),
-        Capacity(50),
-        PushAll(&[5]),
-        Holds(&[5]),
-        Slots(50),
-    ];
-    answers(
-        &rt,
-        &[Kind::Array],
-        50,
-        "as many slots as its capacity",
-        steps,
-    );
-    on_heap!(&rt, 3, keeps_the_last_three);
-}
-
 const LAST_TEN: &[Step] = &[
     IsFull(true),
     DequeueAll(&[990, 991, 992, 993, 994, 995, 996, 997, 998, 999]),
@@ -368,35 +252,8 @@ fn items_come_and_go_for_long(rt: HostRuntime) {
     on_each!(&rt, 8, comes_and_goes);
 }
 
-/// A source of one's own: the numbers from `next` up to `end`.
-#[derive(Drop)]
-struct Numbers {
-    next: u32,
-    end: u32,
-}
-
-impl Iterator for Numbers {
-    type Item = i64;
-
-    ghost remaining = { λ s. at_most (s.end - s.next) };
-
-    fn next(&mut self) -> Option<i64> {
-        if self.next >= self.end {
-            return None;
-        }
-        let item = i64::from(self.next);
-        self.next += 1;
-        Some(item)
-    }
-}
-
-#[test]
-fn an_extension_takes_any_source_that_ends(rt: HostRuntime) {
-    on_fixed!(&rt, 2, takes_ten_thousand_numbers);
-}
-
 /// A ring that is pushed onto.
-trait Pushed: DoubleEndedRing<i64> + Drop {
+pub trait Pushed: DoubleEndedRing<i64> + Drop {
     /// Overwrites the first of three items, and asks for a vector of the others.
     fn gives_its_items_as_a_vector(mut self, rt: &(impl Abort + AllocGlobal)) {
         assert_steps(rt, &mut self, OVERWRITES_THE_FIRST);
@@ -426,15 +283,6 @@ trait Pushed: DoubleEndedRing<i64> + Drop {
         for _ in 0..100_000 {
             assert_steps(rt, &mut self, COMES_AND_GOES);
         }
-    }
-
-    fn takes_ten_thousand_numbers(mut self, rt: &impl Abort) {
-        let numbers = Numbers {
-            next: 0,
-            end: 10_000,
-        };
-        assert!(rt; self.extend(numbers).is_ok());
-        assert_steps(rt, &mut self, &[Holds(&[9998, 9999])]);
     }
 }
 

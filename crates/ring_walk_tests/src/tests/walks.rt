@@ -1,19 +1,17 @@
 //! Walks over the items: reading, writing and taking; lists of the items.
 
-use super::{answers, assert_equal, assert_steps, push_all};
+use super::{assert_equal, assert_steps, push_all};
 use Pass::{Beyond, From};
 use ring_slots::RingSlots;
 use ring_test_support::steps::End::{self, Back, Front};
 use ring_test_support::steps::Step::{
-    self, Adds, Begin, Clear, Contains, Drains, Holds, Len, Lends, PushAll, Reads, Skip,
+    self, Adds, Clear, Drains, Holds, Lends, PushAll, Reads, Skip,
 };
-use ring_test_support::{on_each, on_each_of_any, on_fixed, on_growable};
+use ring_test_support::{on_each, on_fixed, on_growable};
 use ringbuffer::{
     DoubleEndedRing, FixedRing, GrowableAllocRingBuffer, RingBuffer, RingBufferExt,
     RingBufferIntoIterator,
 };
-use std::alloc::AllocError;
-use std::fmt::Debug;
 use std::process::Abort;
 
 /// Items, the ends that a walk takes its steps from, and what these find.
@@ -102,37 +100,6 @@ fn walks_pass_over_items_and_go_side_by_side(rt: HostRuntime) {
     on_each!(&rt, 8, assert_reads_twice);
 }
 
-/// Pushes three items, which a walk reads as their equals. The oldest is then written over the newest.
-fn assert_borrows<T: Copy + PartialEq + Debug + Drop, R: RingBuffer<T> + Drop>(
-    rt: &impl Abort,
-    mut ring: R,
-    items: &[T],
-    equal: &[T],
-) {
-    for item in items {
-        assert!(rt; ring.push(*item).is_ok());
-    }
-    let mut walk = ring.iter();
-    for item in equal {
-        assert_equal(rt, walk.next(), Some(item));
-    }
-    let oldest = ring.dequeue().expect(rt, "an item");
-    *ring.back_mut().expect(rt, "a newest item") = oldest;
-    assert_equal(rt, ring.get(0), equal.get(1));
-    assert_equal(rt, ring.get(1), equal.get(0));
-}
-
-#[test]
-fn items_may_be_borrowed(rt: HostRuntime) -> Result<(), AllocError> {
-    let text = String::from_str(rt.alloc(), "abc")?;
-    let letters = [&text[0..1], &text[1..2], &text[2..3]];
-    on_each_of_any!(&rt, 8, assert_borrows, &letters, &["a", "b", "c"]);
-    let numbers = [1, 2, 3];
-    let items = [&numbers[0], &numbers[1], &numbers[2]];
-    on_each_of_any!(&rt, 3, assert_borrows, &items, &[&1, &2, &3]);
-    Ok(())
-}
-
 /// Lists all items.
 fn assert_lists<R: RingBuffer<i64>>(rt: &(impl Abort + AllocGlobal), ring: &R, items: &[i64]) {
     let listed = ring.to_vec(rt.alloc()).expect(rt, "memory");
@@ -158,58 +125,6 @@ fn an_overwritten_item_is_not_seen(rt: HostRuntime) {
     on_each!(&rt, 8, assert_seen, &[1, 2, 3], ALL_THREE);
 }
 
-const ONE_TO_FOUR: Step = PushAll(&[1, 2, 3, 4]);
-
-/// Walks over a ring of four, round the end of its slots, that are dropped before the end.
-const IN_PART: &[&[Step]] = &[
-    &[
-        Begin(3),
-        ONE_TO_FOUR,
-        Adds(&[(Front, 10), (Back, 20)]),
-        Holds(&[11, 2, 3, 24]),
-    ],
-    &[
-        Begin(3),
-        ONE_TO_FOUR,
-        Adds(&[(Front, 4)]),
-        Holds(&[5, 2, 3, 4]),
-    ],
-    &[
-        Begin(3),
-        ONE_TO_FOUR,
-        Drains(&[], &[]),
-        Holds(&[1, 2, 3, 4]),
-        Drains(&[Front, Front], &[1, 2]),
-        Holds(&[3, 4]),
-        Drains(&[Front], &[3]),
-        Holds(&[4]),
-    ],
-    &[
-        Begin(3),
-        ONE_TO_FOUR,
-        Drains(&[Front, Front, Front], &[1, 2, 3]),
-        Holds(&[4]),
-    ],
-    &[
-        Begin(3),
-        ONE_TO_FOUR,
-        Drains(&[Back], &[4]),
-        Holds(&[1, 2, 3]),
-    ],
-    &[
-        Begin(3),
-        ONE_TO_FOUR,
-        Drains(&[Front, Back], &[1, 4]),
-        Holds(&[2, 3]),
-    ],
-    &[
-        Begin(3),
-        ONE_TO_FOUR,
-        Drains(&[Back, Back, Front], &[4, 3, 1]),
-        Holds(&[2]),
-    ],
-];
-
 /// Adds to an item. Returns what it was.
 fn add(item: &mut i64, more: i64) -> i64 {
     let was = *item;
@@ -221,33 +136,6 @@ fn add(item: &mut i64, more: i64) -> i64 {
 fn a_cursor_lends_both_ends(rt: HostRuntime) {
     on_each!(&rt, 4, assert_lends_both_ends);
     on_each!(&rt, 8, assert_lends_both_ends);
-}
-
-/// Drains a ring of sixteen that holds eight.
-const DRAINED: &[Step] = &[
-    PushAll(&[0, 1, 2, 3, 4, 5, 6, 7]),
-    Len(8),
-    Drains(
-        &[Front, Front, Front, Front, Front, Front, Front, Front],
-        &[0, 1, 2, 3, 4, 5, 6, 7],
-    ),
-    Len(0),
-];
-
-const CONTAINED: &[Step] = &[
-    PushAll(&[1, 2]),
-    Contains(1, true),
-    Contains(2, true),
-    Contains(3, false),
-];
-
-#[test]
-fn a_dropped_walk_leaves_the_rest(rt: HostRuntime) {
-    for steps in IN_PART {
-        answers(&rt, 4, steps);
-    }
-    answers(&rt, 16, DRAINED);
-    answers(&rt, 8, CONTAINED);
 }
 
 /// Goes from 1 to 3 by loops over the ring, by reference and by value.

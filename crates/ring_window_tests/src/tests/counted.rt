@@ -1,6 +1,6 @@
 //! How often windows combine two values and compare two items. The values and the order count it themselves.
 
-use super::next_number;
+use super::random_calls::next_number;
 use ringbuffer::{ConstGenericRingBuffer, GrowableAllocRingBuffer, RingBuffer};
 use std::cell::Cell;
 use std::process::Abort;

@@ -2,7 +2,8 @@
 
 ghost use Rattle.std.specs.Prelude.{◌<◌};
 
-use super::{Call, Sliding, assert_equal, call_window};
+use super::assert_equal;
+use super::random_calls::{Call, Sliding, call_window};
 use ring_slots::RingSlots;
 use ring_test_support::{on_array, on_growable, on_heap};
 use ringbuffer::{

@@ -13,20 +13,17 @@ loop-left-init g c =
 
 pub returns-then-not-is_above-clause-stops : goal.returns-then-not-is_above-clause-stops
 returns-then-not-is_above-clause-stops g c =
-    let t = turn g.met.O.Order.total (g.R.RingBuffer.contents c.args.ring.now) c.args.first c.loop-left.left c.len-len.result _ _ c.loop-left.invariant.reaches c.len-len.ensures.value c.loop-left-test.true
-    _ _ c.unwrap-candidate.result c.unwrap-newest.result c.get-in-loop-left.ensures.value c.unwrap-candidate.ensures c.get.ensures.value c.unwrap-newest.ensures in
+    let t = turn g.met.O.Order.total c.loop-left.invariant.reaches c.len-len.ensures.value c.loop-left-test.true c.get-in-loop-left.ensures.value c.unwrap-candidate.ensures c.get.ensures.value c.unwrap-newest.ensures in
     rw c.is_above.ensures.compared (t.stops (sym c.is_above.ensures.value ∙ c.if-not-is_above.true))
 
 pub returns-then-candidate-left-clause-stops : goal.returns-then-candidate-left-clause-stops
 returns-then-candidate-left-clause-stops g c =
-    let t = turn g.met.O.Order.total (g.R.RingBuffer.contents c.args.ring.now) c.args.first c.loop-left.left c.len-len.result _ _ c.loop-left.invariant.reaches c.len-len.ensures.value c.loop-left-test.true
-    _ _ c.unwrap-candidate.result c.unwrap-newest.result c.get-in-loop-left.ensures.value c.unwrap-candidate.ensures c.get.ensures.value c.unwrap-newest.ensures in
+    let t = turn g.met.O.Order.total c.loop-left.invariant.reaches c.len-len.ensures.value c.loop-left-test.true c.get-in-loop-left.ensures.value c.unwrap-candidate.ensures c.get.ensures.value c.unwrap-newest.ensures in
     rw c.is_above.ensures.compared (t.ends_at c.if-candidate-left.true (sym c.is_above.ensures.value ∙ c.if-not-is_above.false))
 
 pub loop-left-preserved : goal.loop-left-preserved
 loop-left-preserved g c =
-    let t = turn g.met.O.Order.total (g.R.RingBuffer.contents c.args.ring.now) c.args.first c.loop-left.left c.len-len.result _ _ c.loop-left.invariant.reaches c.len-len.ensures.value c.loop-left-test.true
-    _ _ c.unwrap-candidate.result c.unwrap-newest.result c.get-in-loop-left.ensures.value c.unwrap-candidate.ensures c.get.ensures.value c.unwrap-newest.ensures in
+    let t = turn g.met.O.Order.total c.loop-left.invariant.reaches c.len-len.ensures.value c.loop-left-test.true c.get-in-loop-left.ensures.value c.unwrap-candidate.ensures c.get.ensures.value c.unwrap-newest.ensures in
     let (some, next) = t.goes (omega (arith, c.if-candidate-left.false)) (sym c.is_above.ensures.value ∙ c.if-not-is_above.false) in
     record {
       reaches = rw c.is_above.ensures.compared next;
@@ -36,8 +33,7 @@ loop-left-preserved g c =
 
 pub loop-left-smaller : goal.loop-left-smaller
 loop-left-smaller g c =
-    let t = turn g.met.O.Order.total (g.R.RingBuffer.contents c.args.ring.now) c.args.first c.loop-left.left c.len-len.result _ _ c.loop-left.invariant.reaches c.len-len.ensures.value c.loop-left-test.true
-    _ _ c.unwrap-candidate.result c.unwrap-newest.result c.get-in-loop-left.ensures.value c.unwrap-candidate.ensures c.get.ensures.value c.unwrap-newest.ensures in
+    let t = turn g.met.O.Order.total c.loop-left.invariant.reaches c.len-len.ensures.value c.loop-left-test.true c.get-in-loop-left.ensures.value c.unwrap-candidate.ensures c.get.ensures.value c.unwrap-newest.ensures in
     let (some, next) = t.goes (omega (arith, c.if-candidate-left.false)) (sym c.is_above.ensures.value ∙ c.if-not-is_above.false) in
     omega (arith, some, c.if-candidate-left.false)
 

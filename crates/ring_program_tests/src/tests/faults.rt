@@ -1,0 +1,132 @@
+//! Bad arguments, and reading and writing that fail or go on in pieces.
+
+use super::streams::{Refusal, Sink, Source};
+use super::{
+    ANSWER_WITH_ROOM, FAILED, FIRST_LINE_IS_NONE, NO_MEMORY, Outcome, SCRIPT, USAGE, assert_ended,
+    assert_ended_unread, fails, prints, run, run_on_three, serve_words, sink, strings,
+};
+use std::io::ErrorKind;
+use std::process::Abort;
+
+#[test]
+fn refuses_arguments_before_it_reads(rt: HostRuntime) {
+    let cases: [&[&str]; 3] = [&["array", "5"], &["heap", "0"], &["heap"]];
+    for arguments in cases {
+        let input = Source::failing_between((b"", SCRIPT), ErrorKind::BrokenPipe);
+        let outcome = run(&rt, arguments, input, sink(&rt));
+        assert_ended_unread(&rt, arguments, &outcome, fails(2, USAGE));
+    }
+}
+
+#[test]
+fn makes_the_ring_before_it_reads(rt: HostRuntime) {
+    for arguments in [
+        ["heap", "9223372036854775809"],
+        ["grow", "18446744073709551615"],
+    ] {
+        let input = Source::failing_between((b"", SCRIPT), ErrorKind::BrokenPipe);
+        let outcome = run(&rt, &arguments, input, sink(&rt));
+        assert_ended_unread(&rt, &arguments, &outcome, fails(3, NO_MEMORY));
+    }
+}
+
+#[test]
+fn reads_what_comes_in_pieces(rt: HostRuntime) {
+    let outcome = run_on_three(&rt, Source::in_pieces(SCRIPT, 1), sink(&rt));
+    assert_ended(&rt, "in pieces", &outcome, prints(ANSWER_WITH_ROOM));
+    let outcome = run_on_three(&rt, Source::ending_once(SCRIPT), sink(&rt));
+    assert_ended(&rt, "ending once", &outcome, prints(ANSWER_WITH_ROOM));
+    for k in 0..=SCRIPT.len() {
+        let input = Source::failing_between(SCRIPT.split_at(k), ErrorKind::Interrupted);
+        let outcome = run_on_three(&rt, input, sink(&rt));
+        assert_ended(&rt, k, &outcome, prints(ANSWER_WITH_ROOM));
+    }
+}
+
+#[test]
+fn says_where_reading_failed(rt: HostRuntime) {
+    for k in 0..=SCRIPT.len() {
+        let input = Source::failing_between(SCRIPT.split_at(k), ErrorKind::BrokenPipe);
+        let outcome = run_on_three(&rt, input, sink(&rt));
+        assert_ended(&rt, k, &outcome, fails(4, FAILED));
+    }
+}
+
+/// Runs with an output that takes at most `most` bytes a call, and refuses one call. A flush counts as a call.
+fn run_refused(
+    rt: &(impl Abort + AllocGlobal),
+    most: usize,
+    call: usize,
+    refusal: Refusal,
+) -> Outcome {
+    let output = Sink::in_pieces(rt.alloc(), most).expect(rt, "memory");
+    run_on_three(rt, Source::of(SCRIPT), output.refusing(call, refusal))
+}
+
+#[test]
+fn says_where_writing_failed(rt: HostRuntime) {
+    let broken = Refusal::Fails(ErrorKind::BrokenPipe);
+    // how many of the run's calls are refused before one isn't: its writes, and its flush where that can fail
+    let cases = [
+        (usize::MAX, broken, 2),
+        (usize::MAX, Refusal::TakesNothing, 1),
+        (1, broken, ANSWER_WITH_ROOM.len().saturating_add(1)),
+        (1, Refusal::TakesNothing, ANSWER_WITH_ROOM.len()),
+    ];
+    for (most, refusal, calls) in cases {
+        for call in 1..=calls {
+            let outcome = run_refused(&rt, most, call, refusal);
+            assert!(rt;
+                ANSWER_WITH_ROOM.starts_with(outcome.output.unflushed().expect(&rt, "a text"))
+            );
+            assert_ended(&rt, (most, call), &outcome, fails(4, FAILED));
+        }
+        let outcome = run_refused(&rt, most, calls.saturating_add(1), refusal);
+        assert_ended(&rt, (most, calls), &outcome, prints(ANSWER_WITH_ROOM));
+    }
+}
+
+#[test]
+fn writes_on_after_an_interruption(rt: HostRuntime) {
+    let interruption = Refusal::Fails(ErrorKind::Interrupted);
+    for call in 1..=ANSWER_WITH_ROOM.len() {
+        let outcome = run_refused(&rt, 1, call, interruption);
+        assert_ended(&rt, call, &outcome, prints(ANSWER_WITH_ROOM));
+    }
+}
+
+#[test]
+fn keeps_the_status_where_no_error_is_taken(rt: HostRuntime) {
+    let failing = Some(ErrorKind::BrokenPipe);
+    let cases: [(&str, &[u8], Option<ErrorKind>, u8); 3] = [
+        ("2", b"push x", None, 1),
+        ("5", SCRIPT, None, 2),
+        ("2", SCRIPT, failing, 4),
+    ];
+    for (capacity, script, fault, want) in cases {
+        for refusal in [Refusal::Fails(ErrorKind::BrokenPipe), Refusal::TakesNothing] {
+            let words = strings(&rt, &["array", capacity]);
+            let input = match fault {
+                Some(kind) => Source::failing_between((b"", script), kind),
+                None => Source::of(script),
+            };
+            let errors = sink(&rt).refusing(1, refusal);
+            let outcome = serve_words(rt.alloc(), words.as_slice(), input, sink(&rt), errors);
+            let output = outcome.output.text().expect(&rt, "a text");
+            assert_eq!(rt; (outcome.status, output), (want, ""));
+        }
+    }
+}
+
+#[test]
+fn writes_the_whole_line_of_an_error(rt: HostRuntime) {
+    let interruption = Refusal::Fails(ErrorKind::Interrupted);
+    for call in 1..=FIRST_LINE_IS_NONE.len() {
+        let words = strings(&rt, &["array", "2"]);
+        let errors = Sink::in_pieces(rt.alloc(), 1).expect(&rt, "memory");
+        let errors = errors.refusing(call, interruption);
+        let input = Source::of(b"push x");
+        let outcome = serve_words(rt.alloc(), words.as_slice(), input, sink(&rt), errors);
+        assert_ended(&rt, call, &outcome, fails(1, FIRST_LINE_IS_NONE));
+    }
+}
