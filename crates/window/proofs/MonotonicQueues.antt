@@ -115,10 +115,6 @@ module _ {T : Type 0} {cmp : T → T → Ordering} (o : IsTotalOrder cmp) where
     at_most = All-cons (AtMost cmp x) y xs (AtMost-below o x y below) is.at_most;
   }
 
-  -- What stands at the place of one that is named is within the list.
-  named_within : (rs : List (Candidate T)) (d : ℕ) (r : Candidate T) → slice_get rs d ≡ Some r → d ≤ length (items_on rs)
-  named_within rs d r at = rw (length-map {A = Candidate T}) (omega (arith, slice_get_within rs d r at))
-
   -- a queue that none has popped_all yet
   begins : (x : T) (more : ℕ) (ds : List ℕ) (rs : List (Candidate T)) → IsMonotonicQueue cmp more ds rs → IsPopped cmp x 0 more ds rs
   begins x more [] rs is = rw is (refl, All-nil (IsBelow cmp x))
@@ -174,7 +170,7 @@ module _ {T : Type 0} {cmp : T → T → Ordering} (o : IsTotalOrder cmp) where
               slice_get-append_left d (slice_set rs d r') (n ∷ []) (omega (arith, within, set_long)) ∙ set_read rs d r r' at,
               behind,
               refl,
-              rw all (least_push r.item n.item d (items_on rs) (named_within rs d r at) least (rw is over)),
+              rw all (least_push r.item n.item d (items_on rs) (rw (length-map {A = Candidate T}) (omega (arith, within))) least (rw is over)),
               rw past (top k (drop (suc d) rs) n long (rw is above) behind_n ahead_n),
             );
       }
@@ -202,7 +198,7 @@ module _ {T : Type 0} {cmp : T → T → Ordering} (o : IsTotalOrder cmp) where
               slice_get-append_left e (slice_set rs i r') (n ∷ []) (omega (arith, within, set_long)) ∙ set_other rs i e r' (omega arith) ∙ at,
               behind,
               leads_next r pre d k leads,
-              rw all (least_push r.item n.item e (items_on rs) (named_within rs e r at) least over_r),
+              rw all (least_push r.item n.item e (items_on rs) (rw (length-map {A = Candidate T}) (omega (arith, within))) least over_r),
               rw past (ih.stopped n is behind_n ahead_n over),
             );
       }
@@ -263,11 +259,11 @@ module _ {T : Type 0} {cmp : T → T → Ordering} (o : IsTotalOrder cmp) where
 
   -- Other counts serve as well where they are as far apart.
   abbrev recounted : {all : List (Candidate T)} {first left compared most : ℕ} (so : Reaches cmp all first left compared most) (compared' most' : ℕ) → compared' + length so.places ≤ most' → Reaches cmp all first left compared' most'
-  recounted so compared' most' counted = record so { counted = counted }
+  recounted so compared' most' counted = record { rs = so.rs; r = so.r; all_is = so.all_is; k = so.k; left_is = so.left_is; places = so.places; more = so.more; is_popped = so.is_popped; first_is = so.first_is; counted = counted }
 
   -- A greater number serves as well.
   pub recounted_to : {rs : List (Candidate T)} {first compared most most' : ℕ} → HoldsMonotonicQueue cmp rs first compared most → most ≤ most' → HoldsMonotonicQueue cmp rs first compared most'
-  recounted_to is more = record is { counted = omega (arith, is.counted, more) }
+  recounted_to is more = record { places = is.places; more = is.more; is_queue = is.is_queue; first_is = is.first_is; counted = omega (arith, is.counted, more) }
 
   -- What the item at the last place tells of those that are left, once it was compared with the newest.
   pub record Turn (all : List (Candidate T)) (first left compared most : ℕ) (x y : Candidate T) : Type 0 where
@@ -324,7 +320,7 @@ module _ {T : Type 0} {cmp : T → T → Ordering} (o : IsTotalOrder cmp) where
         } where
           alone : (pre : List ℕ) (d behind : ℕ) → behind ≡ suc d + slack so.more pre → left ≤ behind → IsPopped cmp so.r.item (so.k + suc d) so.more pre so.rs → Stops cmp all first 0 (compared + 1) (most + 1)
           alone [] d behind says here popped = (
-            record so { k = so.k + suc d; left_is = omega (arith, popped.0); places = []; is_popped = popped; first_is = λ some. absurd (some refl); counted = omega (arith, so.counted) },
+            record { rs = so.rs; r = so.r; all_is = so.all_is; k = so.k + suc d; left_is = omega (arith, popped.0); places = []; more = so.more; is_popped = popped; first_is = λ some. absurd (some refl); counted = omega (arith, so.counted) },
             inl refl,
           )
           alone (e ∷ pre) d behind says here popped = absurd (omega (arith, says, here, so.left_is, below_some so.r.item (so.k + suc d) so.more e pre so.rs popped))
@@ -335,10 +331,11 @@ module _ {T : Type 0} {cmp : T → T → Ordering} (o : IsTotalOrder cmp) where
           passes (e ∷ pre) d is first_is last says less popped =
               let fits = below_top so.r.item (so.k + suc d) so.more (e ∷ pre) so.rs popped in (
                 omega (arith, says),
-                record so {
+                record {
+                  rs = so.rs; r = so.r; all_is = so.all_is;
                   k = so.k + suc d;
                   left_is = omega (arith, fits, says, so.left_is);
-                  places = e ∷ pre;
+                  places = e ∷ pre; more = so.more;
                   is_popped = popped;
                   first_is = λ some. first_is;
                   counted = omega (arith, so.counted, ap length is, length-append (e ∷ pre) (d ∷ []));
