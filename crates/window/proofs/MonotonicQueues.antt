@@ -332,10 +332,13 @@ module _ {T : Type 0} {cmp : T → T → Ordering} (o : IsTotalOrder cmp) where
               let fits = below_top so.r.item (so.k + suc d) so.more (e ∷ pre) so.rs popped in (
                 omega (arith, says),
                 record {
-                  rs = so.rs; r = so.r; all_is = so.all_is;
+                  rs = so.rs;
+                  r = so.r;
+                  all_is = so.all_is;
                   k = so.k + suc d;
                   left_is = omega (arith, fits, says, so.left_is);
-                  places = e ∷ pre; more = so.more;
+                  places = e ∷ pre;
+                  more = so.more;
                   is_popped = popped;
                   first_is = λ some. first_is;
                   counted = omega (arith, so.counted, ap length is, length-append (e ∷ pre) (d ∷ []));
