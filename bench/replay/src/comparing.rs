@@ -1,9 +1,10 @@
 //! Calls that compare rings, hash them, and print them. A `Vec` answers those that the crate lacks, and what it prints.
 
+use crate::copies::Plain;
 use crate::items::Item;
 use crate::picking::raise;
 use crate::player::Player;
-use crate::rings::{Plain, Played};
+use crate::rings::Played;
 use ringbuffer::RingBuffer;
 use std::cmp::Ordering;
 use std::hash::{DefaultHasher, Hash, Hasher};

@@ -5,6 +5,7 @@ mod bytes;
 mod calls;
 mod commands;
 mod comparing;
+mod copies;
 mod items;
 mod makers;
 mod model;

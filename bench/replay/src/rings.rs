@@ -3,20 +3,14 @@
 
 use crate::calls::fill;
 use crate::comparing;
+use crate::copies::{Plain, play_copies};
 use crate::items::Item;
 use crate::makers;
 use crate::model::Model;
 use crate::player::Player;
 use ringbuffer::{AllocRingBuffer, ConstGenericRingBuffer, GrowableAllocRingBuffer, RingBuffer};
 use std::collections::VecDeque;
-use std::fmt::Debug;
-use std::hash::Hash;
 use std::mem::size_of;
-
-/// What items are that are copied, compared, hashed and printed too.
-pub trait Plain: Copy + Default + Ord + Hash + Debug {}
-
-impl<T: Copy + Default + Ord + Hash + Debug> Plain for T {}
 
 /// A ring of the crate, or one beside it.
 pub trait Played<'a, T: Item<'a>>: RingBuffer<T> + Clone {
@@ -298,39 +292,5 @@ fn play_slices<'a, T: Item<'a>, R: Played<'a, T>>(ring: &mut R, player: &mut Pla
     } else {
         player.note_each(ring.iter());
         player.write(ring.lend_signed(-1));
-    }
-}
-
-fn play_copies<'a, T, R>(ring: &mut R, player: &mut Player<'a>)
-where
-    T: Item<'a> + Plain,
-    R: Played<'a, T> + PartialEq,
-{
-    let (mut items, item): (Vec<T>, T) = (player.items(), player.item());
-    let count = items.len().min(ring.len());
-    match player.up_to(5) {
-        0 => ring.extend(items),
-        1 => {
-            items.iter_mut().zip(ring.iter()).for_each(|(place, item)| *place = *item);
-            player.note(count as u64);
-            player.note_each(&items);
-        }
-        2 => {
-            items.iter_mut().zip(ring.drain()).for_each(|(place, item)| *place = item);
-            player.note(count as u64);
-            player.note_each(&items);
-        }
-        3 => player.note(ring.contains(&item) as u64),
-        4 => {
-            let mut twin = ring.clone();
-            player.write(twin.lend_signed(-1));
-            player.note((twin == *ring) as u64);
-            player.note(twin.iter().lt(ring.iter()) as u64);
-        }
-        _ => {
-            let len = ring.len();
-            ring.fill_with_defaults();
-            ring.as_deque(|items| items.truncate(len));
-        }
     }
 }

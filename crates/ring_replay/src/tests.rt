@@ -7,6 +7,7 @@ mod bytes;
 mod calls;
 mod commands;
 mod comparing;
+mod copies;
 mod digests;
 mod items;
 mod makers;

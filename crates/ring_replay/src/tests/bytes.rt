@@ -2,10 +2,10 @@
 
 ghost use Rattle.std.specs.Prelude.{IsSome};
 
+use super::copies::PlayedCopies;
 use super::items::Maker;
 use super::makers::try_out;
 use super::player::{Done, Player};
-use super::rings::PlayedCopies;
 use ringbuffer::{
     AllocRingBuffer, ConstGenericRingBuffer, CopyRingBuffer, GrowableAllocRingBuffer, LastBytes,
     RingBuffer,

@@ -1,9 +1,9 @@
 //! Calls that compare rings, hash them, and print them.
 
+use super::copies::Plain;
 use super::items::Maker;
 use super::picking::raise;
 use super::player::{Done, Player};
-use super::rings::Plain;
 use ringbuffer::{RingBuffer, binary_search};
 use std::cmp::Ordering;
 use std::fmt::Debug;

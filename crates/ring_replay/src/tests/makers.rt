@@ -1,8 +1,8 @@
 //! Rings that are made of other collections, and of each other.
 
+use super::copies::Plain;
 use super::items::Maker;
 use super::player::{Done, Player};
-use super::rings::Plain;
 use ringbuffer::{
     AllocRingBuffer, ConstGenericRingBuffer, CopyRingBuffer, GrowableAllocRingBuffer, RingBuffer,
 };

@@ -1,19 +1,17 @@
 //! The calls that each ring type has of its own.
 
 use super::calls::fill;
-use super::comparing;
-use super::items::{Maker, Wide};
+use super::copies::Plain;
+use super::items::Maker;
 use super::makers::Made;
 use super::player::{Done, Player};
 use ring_slots::RingSlots;
 use ringbuffer::{
     AllocRingBuffer, ConstGenericRingBuffer, CopyRingBuffer, DoubleEndedRing, FixedRing,
-    GrowableAllocRingBuffer, RingBuffer, TakesCopies, move_all,
+    GrowableAllocRingBuffer, RingBuffer, move_all,
 };
 use std::alloc::AllocError;
 use std::collections::VecDeque;
-use std::fmt::Debug;
-use std::hash::Hash;
 
 /// A ring with calls of its own.
 pub trait Played<T: Clone + Drop>: DoubleEndedRing<T> + Clone + Made<T> + Drop {
@@ -21,22 +19,6 @@ pub trait Played<T: Clone + Drop>: DoubleEndedRing<T> + Clone + Made<T> + Drop {
 
     /// Adds items by std's `Extend`.
     fn extend_by_std(&mut self, items: Vec<T>) -> Done;
-}
-
-/// What items are that are copied, compared, hashed and printed too.
-pub trait Plain: Copy + Clone + Default + Ord + Hash + Debug + Drop {}
-
-impl Plain for u64 {}
-
-impl Plain for u8 {}
-
-impl Plain for () {}
-
-impl Plain for Wide {}
-
-/// A ring with calls of its own that copy items, or compare them.
-pub trait PlayedCopies<T: Plain>: Played<T> {
-    fn play_copies<M: Maker<T>>(&mut self, player: &mut Player<M>) -> Done;
 }
 
 // Calls that all types have.
@@ -141,48 +123,6 @@ macro_rules! play_clone_into {
     }};
 }
 
-// Calls that copy items, or compare them.
-macro_rules! play_copies {
-    ($ring:expr, $player:expr, $items:ident, $extended:expr) => {{
-        let (mut $items, item) = ($player.items()?, $player.item());
-        match $player.up_to(5) {
-            0 => $extended,
-            1 => {
-                $player.note($ring.copy_to_slice(&mut $items) as u64);
-                $player.note_each(&$items);
-            }
-            2 => {
-                $player.note($ring.dequeue_into(&mut $items) as u64);
-                $player.note_each(&$items);
-            }
-            3 => $player.note($ring.contains(&item) as u64),
-            4 => {
-                let mut twin = $ring.clone()?;
-                $player.write(twin.back_mut());
-                $player.note((twin == *$ring) as u64);
-                $player.note((twin < *$ring) as u64);
-            }
-            _ => {
-                let len = $ring.len();
-                $ring.fill_default()?;
-                $ring.truncate(len);
-            }
-        }
-        Ok(())
-    }};
-}
-
-/// Calls of fixed rings that copy items, or compare them.
-fn play_fixed_copies<T: Plain, M: Maker<T>, S: TakesCopies<T>>(
-    ring: &mut FixedRing<T, S>,
-    player: &mut Player<M>,
-) -> Done
-where
-    FixedRing<T, S>: Clone,
-{
-    play_copies!(ring, player, items, ring.extend_from_slice(&items))
-}
-
 /// Calls of rings in an array, but for copies onto another ring.
 fn play_array<T: Clone + Drop, M: Maker<T>, S: RingSlots<T>>(
     call: usize,
@@ -196,22 +136,6 @@ where
         0..=6 => return play_fixed_ends(ring, player),
         7..=13 => play_middle(ring, player),
         _ => return fill(ring, player),
-    }
-    Ok(())
-}
-
-/// Calls of rings in an array that copy items, or compare them.
-fn play_array_copies<T: Plain, M: Maker<T>, S: TakesCopies<T>>(
-    ring: &mut FixedRing<T, S>,
-    player: &mut Player<M>,
-) -> Done
-where
-    FixedRing<T, S>: Clone,
-{
-    match player.up_to(3) {
-        0..=1 => return play_fixed_copies(ring, player),
-        2 => player.note_each(&ring.to_vec_copied(player.alloc)?),
-        _ => return comparing::play(ring, player),
     }
     Ok(())
 }
@@ -237,12 +161,6 @@ impl<T: Clone + Drop, const CAP: usize> Played<T> for ConstGenericRingBuffer<T, 
     }
 }
 
-impl<T: Plain, const CAP: usize> PlayedCopies<T> for ConstGenericRingBuffer<T, CAP> {
-    fn play_copies<M: Maker<T>>(&mut self, player: &mut Player<M>) -> Done {
-        play_array_copies(self, player)
-    }
-}
-
 /// The calls are those of array rings, so that the answers are.
 impl<T: Plain, const CAP: usize> Played<T> for CopyRingBuffer<T, CAP> {
     fn play_own<M: Maker<T>>(&mut self, player: &mut Player<M>) -> Done {
@@ -262,12 +180,6 @@ impl<T: Plain, const CAP: usize> Played<T> for CopyRingBuffer<T, CAP> {
 
     fn extend_by_std(&mut self, items: Vec<T>) -> Done {
         Extend::extend(self, items)
-    }
-}
-
-impl<T: Plain, const CAP: usize> PlayedCopies<T> for CopyRingBuffer<T, CAP> {
-    fn play_copies<M: Maker<T>>(&mut self, player: &mut Player<M>) -> Done {
-        play_array_copies(self, player)
     }
 }
 
@@ -295,22 +207,6 @@ impl<T: Clone + Drop> Played<T> for AllocRingBuffer<T> {
     }
 }
 
-impl<T: Plain> PlayedCopies<T> for AllocRingBuffer<T> {
-    fn play_copies<M: Maker<T>>(&mut self, player: &mut Player<M>) -> Done {
-        match player.up_to(8) {
-            0..=3 => return play_fixed_copies(self, player),
-            4..=6 => comparing::play(self, player)?,
-            7 => player.note_each(&self.to_vec_copied(player.alloc)?),
-            _ => {
-                let mut twin = self.clone()?;
-                twin.set_capacity(player.up_to(299) + 1)?;
-                comparing::compare(&twin, self, player);
-            }
-        }
-        Ok(())
-    }
-}
-
 /// Calls at the ends of growable rings, by an index, and of their clones.
 fn play_growable_ends<T: Clone + Drop, M: Maker<T>>(
     ring: &mut GrowableAllocRingBuffer<T>,
@@ -318,14 +214,6 @@ fn play_growable_ends<T: Clone + Drop, M: Maker<T>>(
 ) -> Done {
     play_ends!(ring, player);
     Ok(())
-}
-
-/// Calls of growable rings that copy items, or compare them.
-fn play_growable_copies<T: Plain, M: Maker<T>>(
-    ring: &mut GrowableAllocRingBuffer<T>,
-    player: &mut Player<M>,
-) -> Done {
-    play_copies!(ring, player, items, ring.extend_from_slice(&items)?)
 }
 
 impl<T: Clone + Drop> Played<T> for GrowableAllocRingBuffer<T> {
@@ -346,22 +234,5 @@ impl<T: Clone + Drop> Played<T> for GrowableAllocRingBuffer<T> {
 
     fn extend_by_std(&mut self, items: Vec<T>) -> Done {
         Extend::extend(self, items)
-    }
-}
-
-impl<T: Plain> PlayedCopies<T> for GrowableAllocRingBuffer<T> {
-    fn play_copies<M: Maker<T>>(&mut self, player: &mut Player<M>) -> Done {
-        match player.up_to(8) {
-            0..=3 => return play_growable_copies(self, player),
-            4..=6 => comparing::play(self, player)?,
-            7 => player.note_each(&self.to_vec_copied(player.alloc)?),
-            _ => {
-                let deque = self.clone()?.into_deque();
-                player.note_item(deque.back());
-                player.note_item(self.as_ref().get(1));
-                player.write(self.as_mut().front_mut());
-            }
-        }
-        Ok(())
     }
 }

@@ -3,10 +3,11 @@
 
 use super::bytes::PlayedBytes;
 use super::calls;
+use super::copies::{Plain, PlayedCopies};
 use super::digests::{BLOCKS, DIGESTS};
 use super::items::{Maker, Values};
 use super::player::Player;
-use super::rings::{Plain, Played, PlayedCopies};
+use super::rings::Played;
 use ringbuffer::{
     AllocRingBuffer, ConstGenericRingBuffer, CopyRingBuffer, GrowableAllocRingBuffer,
 };
