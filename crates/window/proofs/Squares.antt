@@ -6,6 +6,7 @@ use Rattle.std.proofs.Math.Nat.{mul-le-mul}
 use Rattle.std.proofs.lemmas.Int.{ints}
 use Rattle.std.proofs.lemmas.List.Elements.{All-head, All-push, All-tail}
 use Rattle.std.proofs.lemmas.List.Sums.{fold_push}
+use Rattle.window.proofs.Sums.{total-bounds}
 use Rattle.window.specs.SumLaws.{total-cons}
 use Rattle.window.specs.Sums.{total}
 use Rattle.window.specs.Moments.{AreMomentsOf, square, sum_of_squares}
@@ -22,13 +23,8 @@ squares-bound : (xs : List ℤ) → All (FitsSigned w32) xs → sum_of_squares x
 squares-bound [] all = omega arith
 squares-bound (x ∷ xs) all = omega (arith, squares-bound xs (All-tail (FitsSigned w32) x xs all), square-small x (All-head (FitsSigned w32) x xs all))
 
-sum-bounds : (xs : List ℤ) → All (FitsSigned w32) xs
-    → (neg_ℤ (pos (2147483648 * length xs)) ≤ℤ total xs) × (total xs ≤ℤ pos (2147483648 * length xs))
-sum-bounds [] all = (omega (arith, ints), omega (arith, ints))
-sum-bounds (x ∷ xs) all =
-    let (low, high) = sum-bounds xs (All-tail (FitsSigned w32) x xs all) in
-    let fits : FitsSigned w32 x = All-head (FitsSigned w32) x xs all in
-    (omega (arith, ints, total-cons x xs, low, high, fits), omega (arith, ints, total-cons x xs, low, high, fits))
+sum-bounds : (xs : List ℤ) → All (FitsSigned w32) xs → (neg_ℤ (pos (length xs * 2147483648)) ≤ℤ total xs) × (total xs ≤ℤ pos (length xs * 2147483647))
+sum-bounds = total-bounds (FitsSigned w32) 2147483648 2147483647 (λ x fits. (omega (arith, ints, fits), omega (arith, ints, fits)))
 
 -- Both sums fit.
 pub moments_fit : {xs : List ℤ} {sum : ℤ} {squares : ℕ} → AreMomentsOf xs sum squares → length xs ≤ 2 ^ 64 → FitsSigned w128 sum × (squares < 2 ^ 128)

@@ -33,29 +33,23 @@ join_boxes-assoc x y z =
     let top = int_max-assoc x.top y.top z.top in
     rw (left, bottom, right, top) refl
 
-pub least_laws : MonoidLaws {M = Least} (λ _. Unit {0}) (record { 0 = None }) (λ x y. record { 0 = joined int_min x.0 y.0 })
-least_laws = record {
+-- optional values in a record of their own join as they do
+joined_laws : {A M : Type 0} (join : A → A → A) → ((x y z : A) → join (join x y) z ≡ join x (join y z))
+    → (record_of : Option A → M) (value : M → Option A) → ((m : M) → record_of (value m) ≡ m) → ((o : Option A) → value (record_of o) ≡ o)
+    → MonoidLaws {M = M} (λ _. Unit {0}) (record_of None) (λ m n. record_of (joined join (value m) (value n)))
+joined_laws join join-assoc record_of value back forth = record {
   valid_neutral = tt;
   valid_op = λ x y _ _. tt;
-  left_identity = λ x _. refl;
-  right_identity = λ x _. ap (λ v. record { 0 = v }) (joined-right int_min x.0);
-  assoc = λ x y z _ _ _. ap (λ v. record { 0 = v }) (joined-assoc int_min int_min-assoc x.0 y.0 z.0);
+  left_identity = λ x _. rw forth (back x);
+  right_identity = λ x _. rw (forth, joined-right join (value x)) (back x);
+  assoc = λ x y z _ _ _. rw (forth, forth) (ap record_of (joined-assoc join join-assoc (value x) (value y) (value z)));
 }
+
+pub least_laws : MonoidLaws {M = Least} (λ _. Unit {0}) (record { 0 = None }) (λ x y. record { 0 = joined int_min x.0 y.0 })
+least_laws = joined_laws int_min int_min-assoc (λ o. record { 0 = o }) (λ m. m.0) (λ m. refl) (λ o. refl)
 
 pub greatest_laws : MonoidLaws {M = Greatest} (λ _. Unit {0}) (record { 0 = None }) (λ x y. record { 0 = joined int_max x.0 y.0 })
-greatest_laws = record {
-  valid_neutral = tt;
-  valid_op = λ x y _ _. tt;
-  left_identity = λ x _. refl;
-  right_identity = λ x _. ap (λ v. record { 0 = v }) (joined-right int_max x.0);
-  assoc = λ x y z _ _ _. ap (λ v. record { 0 = v }) (joined-assoc int_max int_max-assoc x.0 y.0 z.0);
-}
+greatest_laws = joined_laws int_max int_max-assoc (λ o. record { 0 = o }) (λ m. m.0) (λ m. refl) (λ o. refl)
 
 pub box_laws : MonoidLaws {M = BoundingBox} (λ _. Unit {0}) (record { 0 = None }) (λ x y. record { 0 = joined join_boxes x.0 y.0 })
-box_laws = record {
-  valid_neutral = tt;
-  valid_op = λ x y _ _. tt;
-  left_identity = λ x _. refl;
-  right_identity = λ x _. ap (λ v. record { 0 = v }) (joined-right join_boxes x.0);
-  assoc = λ x y z _ _ _. ap (λ v. record { 0 = v }) (joined-assoc join_boxes join_boxes-assoc x.0 y.0 z.0);
-}
+box_laws = joined_laws join_boxes join_boxes-assoc (λ o. record { 0 = o }) (λ m. m.0) (λ m. refl) (λ o. refl)
