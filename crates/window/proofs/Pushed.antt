@@ -1,6 +1,6 @@
 -- What a push leaves of a window's items before the pushed one, and what a walk reads.
 use Rattle.std.proofs.Common.{◌≡◌, ℕ, zero, suc, ◌+◌, ◌-◌, ◌<◌, ◌≤◌, List, [], ◌∷◌, ◌++◌, length, take, drop, Option, None, Some, option_to_list, slice_get, refl, ap, sym, ◌∙◌, arith, length-append}
-use Rattle.std.proofs.lemmas.List.{drop-append-le}
+use Rattle.std.proofs.lemmas.Grind.{common_steps}
 use Rattle.std.proofs.lemmas.Option.{slice_get_within}
 use Rattle.std.proofs.Math.Nat.{mod-eq_of_lt}
 use Rattle.std.specs.Borrow.{Bor}
@@ -16,8 +16,7 @@ stay (Some n) xs = drop (length xs + 1 - n) xs
 -- A push leaves those and the pushed item,
 pub stay_pushed : {A : Type 0} (limit : Option ℕ) (xs : List A) (x : A) → IsWithin xs limit → keep_last limit (xs ++ x ∷ []) ≡ stay limit xs ++ x ∷ []
 unfolding stay
-stay_pushed None xs x within = refl
-stay_pushed (Some n) xs x within = rw (length-append xs (x ∷ [])) (drop-append-le (length xs + 1 - n) xs (x ∷ []) (omega arith))
+stay_pushed limit xs x within = grind (arith, common_steps)
 
 -- and what it hands back stood before them.
 pub stay_behind : {A : Type 0} (limit : Option ℕ) (xs : List A) → IsWithin xs limit → option_to_list (overwritten limit xs) ++ stay limit xs ≡ xs

@@ -1,5 +1,5 @@
 -- What a push leaves where items that are too old give way.
-use Rattle.std.proofs.Common.{◌≡◌, ℕ, zero, suc, ◌+◌, ◌-◌, ◌<◌, ◌≤◌, Bool, true, false, List, [], ◌∷◌, ◌++◌, length, take, drop, slice_get, Option, None, Some, IfSome, refl, ap, sym, ◌∙◌, arith, nat_lt, length-append, length-drop}
+use Rattle.std.proofs.Common.{◌≡◌, ℕ, zero, suc, ◌+◌, ◌-◌, ◌<◌, ◌≤◌, true, false, List, [], ◌∷◌, ◌++◌, length, take, drop, slice_get, Option, None, Some, IfSome, refl, ap, arith, nat_lt, length-append, length-drop}
 use Rattle.std.specs.List.{prefix_len}
 use Rattle.ringbuffer.specs.Contents.{IsWithin, keep_last, overwritten}
 use Rattle.ringbuffer.proofs.Limits.{keep_last_within}
@@ -10,10 +10,8 @@ use Rattle.window.specs.declared.time_window.Stamped.{Stamped}
 -- By induction on the items: one behind them that isn't too old stays.
 without_older_push : {T : Type 0} (time : ℕ) (xs : List (Stamped T)) (x : Stamped T) → nat_lt x.stamp time ≡ false → without_older time (xs ++ x ∷ []) ≡ without_older time xs ++ x ∷ []
 without_older_push time [] x stays = without_older-stays time x [] stays
-without_older_push {T} time (y ∷ ys) x stays = by (nat_lt y.stamp time) refl (without_older_push time ys x stays) where
-  by : (b : Bool) → nat_lt y.stamp time ≡ b → without_older time (ys ++ x ∷ []) ≡ without_older time ys ++ x ∷ [] → without_older time (y ∷ ys ++ x ∷ []) ≡ without_older time (y ∷ ys) ++ x ∷ []
-  by true old rest = without_older-old time y (ys ++ x ∷ []) old ∙ rest ∙ ap (λ zs. zs ++ x ∷ []) (sym (without_older-old time y ys old))
-  by false young rest = without_older-stays time y (ys ++ x ∷ []) young ∙ ap (λ zs. zs ++ x ∷ []) (sym (without_older-stays time y ys young))
+without_older_push time (y ∷ ys) x stays =
+    grind (arith, without_older_push time ys x stays, without_older-old time y ys, without_older-stays time y ys, without_older-old time y (ys ++ x ∷ []), without_older-stays time y (ys ++ x ∷ []))
 
 -- A list keeps all before a pushed item where there is room for it.
 without_older_room : {T : Type 0} (n time : ℕ) (xs : List (Stamped T)) (x : Stamped T) → length (without_older time xs) < n → keep_last (Some n) (without_older time xs ++ x ∷ []) ≡ without_older time xs ++ x ∷ []
