@@ -1,9 +1,10 @@
 -- How a queue changes as an item leaves and one comes.
 use Rattle.std.proofs.Common.{◌≡◌, ◌≢◌, ◌⊎◌, ℕ, zero, suc, ◌+◌, ◌-◌, ◌<◌, ◌≤◌, List, [], ◌∷◌, ◌++◌, length, take, drop, All, None, Some, inl, inr, refl, ap, sym, ◌∙◌, add-one, arith, length-append, length-drop, slice_get, slice_set, Bor, Option}
-use Rattle.std.proofs.lemmas.List.{drop-set-lt, get_or-set_same, set-get_or, set_comm, length-map, length-set, map-append, drop-append-le, drop-set-add, drop_all, set-append_left, take-append-le, take_all}
+use Rattle.std.proofs.lemmas.List.{drop-set-lt, set_comm, length-map, length-set, map-append, drop-append-le, drop-set-add, drop_all, set-append_left, take-append-le, take_all}
 use Rattle.std.proofs.lemmas.List.Elements.{All-cons, All-head, All-nil, All-push, All-tail, All-weaker}
-use Rattle.std.proofs.lemmas.Option.{get_or_from_slice_get, slice_get_within, slice_get-get_or, slice_get-map}
+use Rattle.std.proofs.lemmas.Option.{slice_get_cases, get_or_from_slice_get, slice_get_within, slice_get-map}
 use Rattle.std.proofs.lemmas.Cmp.{upto}
+use Rattle.std.proofs.lemmas.Grind.{common_steps}
 use Rattle.std.proofs.Math.Seq.{drop-cons, set-append_seam}
 use Rattle.std.specs.Option.{option_copied, option_map}
 use Rattle.std.specs.Cmp.{IsTotalOrder}
@@ -25,17 +26,11 @@ All-at P (q ∷ rs) (suc i) r at all = All-at P rs i r at (All-tail P q.item (it
 
 -- A written place is read, if it is one.
 pub set_read : {A : Type 0} (xs : List A) (i : ℕ) (x y : A) → slice_get xs i ≡ Some x → slice_get (slice_set xs i y) i ≡ Some y
-set_read xs i x y at =
-    let within : i < length xs = slice_get_within xs i x at in
-    slice_get-get_or (slice_set xs i y) i y (rw (length-set xs i y) within) ∙ ap Some (get_or-set_same xs i y y within)
+set_read xs i x y at = grind (arith, common_steps, slice_get_cases)
 
 -- Another is as it was.
 pub set_other : {A : Type 0} (xs : List A) (i j : ℕ) (y : A) → j ≢ i → slice_get (slice_set xs i y) j ≡ slice_get xs j
-set_other [] i j y other = refl
-set_other (z ∷ xs) zero zero y other = absurd (other refl)
-set_other (z ∷ xs) zero (suc j) y other = refl
-set_other (z ∷ xs) (suc i) zero y other = refl
-set_other (z ∷ xs) (suc i) (suc j) y other = set_other xs i j y (omega arith)
+set_other xs i j y other = grind (arith, common_steps, slice_get_cases)
 
 -- From a place on, the list is what stands there and the rest.
 pub drop_from : {A : Type 0} (xs : List A) (i : ℕ) (x : A) → slice_get xs i ≡ Some x → drop i xs ≡ x ∷ drop (suc i) xs
@@ -43,7 +38,7 @@ drop_from xs i x at = drop-cons xs i x (slice_get_within xs i x at) ∙ ap (λ y
 
 -- A written item that is what stood there changes nothing.
 pub set_same : {A : Type 0} (xs : List A) (i : ℕ) (x : A) → slice_get xs i ≡ Some x → slice_set xs i x ≡ xs
-set_same xs i x at = ap (slice_set xs i) (sym (get_or_from_slice_get xs i x x at)) ∙ set-get_or xs i x
+set_same xs i x at = grind (arith, common_steps, slice_get_cases)
 
 -- Where the newest has the links of one that none has ranked, its link behind is all that is to be written.
 pub newest_linked : {T : Type 0} (all rs : List (Candidate T)) (q r : Candidate T) (n far : ℕ) (mid after : List (Candidate T)) → all ≡ rs ++ q ∷ [] → n ≡ length all → q.behind ≡ 1 → q.ahead ≡ 0 → slice_get all (n - 1) ≡ Some r → slice_get mid (n - 1) ≡ Some r
