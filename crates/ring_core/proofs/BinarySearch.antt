@@ -1,11 +1,11 @@
 -- What a search among the items of a ring has found out.
-use Rattle.ring_core.proofs.Words.{◌≡◌, ℕ, ◌+◌, ◌<◌, ◌≤◌, Bool, true, false, List, [], ◌∷◌, length, slice_get, Some, refl, sym, ap, ◌∙◌, arith, false≢true, slice_get_within, get_or_from_slice_get}
+use Rattle.ring_core.proofs.Words.{◌≡◌, ℕ, ◌+◌, ◌<◌, ◌≤◌, Bool, true, false, List, [], ◌∷◌, length, slice_get, Some, sym, ◌∙◌, arith, false≢true, slice_get_within, get_or_from_slice_get}
 use denote.Param.Members.{Called, Mut}
 use Rattle.std.specs.Fn.{AlwaysReturns}
 use Rattle.std.specs.List.{AllWithin, HoldsAt}
 use Rattle.std.specs.List.Sorted.{IsNonDecreasingBy, IsPartitionPoint, IsPartitionedBy}
 use Rattle.std.specs.Ordering.{is_eq, is_lt, ordering_index}
-use Rattle.std.proofs.Common.{Ordering, Less, Equal, Greater}
+use Rattle.std.proofs.Common.{Ordering, Less, Greater}
 
 -- a call answers, and so will those after it
 pub answers_next : {F X R : Type 0} (g : Mut F X R) (P : X → R → Type 0) (f : F) (a : X) (r : R) (f' : F) → Called g f a r f' → AlwaysReturns g P f
@@ -13,8 +13,7 @@ pub answers_next : {F X R : Type 0} (g : Mut F X R) (P : X → R → Type 0) (f 
 answers_next g P f a r f' call always = ((always.at (a ∷ []) r f' call).0, record { at = λ more. (always.at (a ∷ more) r f' call).1 })
 
 false_unless : (b : Bool) → (b ≡ true → ⊥) → b ≡ false
-false_unless true never = absurd (never refl)
-false_unless false never = refl
+false_unless b never = grind arith
 
 module _ {A : Type 0} where
   -- the item read at a place is the one there
@@ -46,21 +45,13 @@ module _ {A : Type 0} where
     }
 
 less_only : (a : Ordering) → is_lt a ≡ true → a ≡ Less
-less_only Less lt = refl
-less_only Equal lt = absurd (false≢true lt)
-less_only Greater lt = absurd (false≢true lt)
+less_only a lt = grind arith
 
 less_too : (a b : Ordering) → ordering_index a ≤ ordering_index b → is_lt b ≡ true → is_lt a ≡ true
-less_too Less b rises lt = refl
-less_too Equal b rises lt = let e = less_only b lt in absurd (omega (arith, ap ordering_index e))
-less_too Greater b rises lt = let e = less_only b lt in absurd (omega (arith, ap ordering_index e))
+less_too a b rises lt = grind arith
 
 greater_too : (a b : Ordering) → ordering_index a ≤ ordering_index b → is_lt a ≡ false → is_eq a ≡ false → b ≡ Greater
-greater_too Less b rises lt eq = absurd (false≢true (sym lt))
-greater_too Equal b rises lt eq = absurd (false≢true (sym eq))
-greater_too Greater Less rises lt eq = absurd (omega arith)
-greater_too Greater Equal rises lt eq = absurd (omega arith)
-greater_too Greater Greater rises lt eq = refl
+greater_too a b rises lt eq = grind arith
 
 -- i is the place of the first item that is not less than the one searched for, where the items rise
 module _ {A : Type 0} (order : A → Ordering) (xs : List A) (i : ℕ)

@@ -1,7 +1,8 @@
 -- What a run means by item numbers is what it means by lists: after k steps the contents are the items so far from the
 -- first held number on.
-use Rattle.ring_core.proofs.Words.{◌≡◌, ℕ, zero, suc, ◌+◌, ◌-◌, ◌*◌, ◌≤◌, ◌==◌, ◌&&◌, max, true, false, nat_lt, if◌then◌else◌, List, [], ◌∷◌, ◌++◌, length, take, drop, map, slice_get, Option, Some, None, refl, inl, inr, sym, ap, ◌∙◌, add-one, add-zero, zero-add, append-nil, append_assoc, arith, length-append, length-drop, enumerate_from, filter_map, range_with_len, cases_lt, le-ltb, lt-ltb, nat_tests, flat_map-append, slice_get_cases, slice_get_past, drop-append_seam, drop-cons, drop-append-le, drop-drop, drop_all, drop_min, length-map, length_push, take-append-drop, take_all, take_at, Command, Push, Extend, Dequeue, Skip, Clear, ChangesSlots, IsWithin, keep_last, overwritten, after_all, after_one, puts, replies_to, reply_to, ChangesFewSlots, Step, pushes, takes, clears, all_items, contents_after, number, oldest, overwrites, overwritten_after, pushed, replies_of, reply_after, steps, steps_of}
-use Rattle.ring_core.proofs.Items.{slice_get-append_left, slice_get-drop, slice_get-take}
+use Rattle.ring_core.proofs.Words.{◌≡◌, ℕ, zero, suc, ◌+◌, ◌-◌, ◌*◌, ◌≤◌, ◌&&◌, max, nat_lt, if◌then◌else◌, List, [], ◌∷◌, ◌++◌, length, take, drop, map, slice_get, Option, Some, None, refl, sym, ap, ◌∙◌, add-one, add-zero, zero-add, append-nil, append_assoc, arith, length-append, length-drop, enumerate_from, filter_map, range_with_len, nat_tests, flat_map-append, slice_get_cases, drop-append_seam, drop-append-le, drop-drop, drop_all, drop_min, length-map, length_push, take-append-drop, take_all, take_at, Command, Push, Extend, Dequeue, Skip, Clear, ChangesSlots, IsWithin, keep_last, overwritten, after_all, after_one, puts, replies_to, reply_to, ChangesFewSlots, Step, pushes, takes, clears, all_items, contents_after, number, oldest, overwrites, overwritten_after, pushed, replies_of, reply_after, steps, steps_of}
+use Rattle.std.proofs.lemmas.Grind.{common_steps}
+use Rattle.ring_core.proofs.Items.{slice_get-drop}
 use Rattle.ring_core.proofs.Limits.{keep_last-keep_last, keep_last_within}
 use Rattle.ring_core.proofs.RunParts.{after_all-append}
 use Rattle.ring_core.proofs.HeldRange.{IsRoom, IsWithin-drop, IsRange-held, first, first_next, head-first, held_numbers-between, pushed-append, pushed-take_more, pushed_by, removed-first, between}
@@ -9,10 +10,7 @@ use Rattle.ring_core.proofs.HeldRange.{IsRoom, IsWithin-drop, IsRange-held, firs
 -- The items from number f on, by induction on their count.
 items-from : {A : Type 0} (xs : List A) (f m : ℕ) → length xs ≡ f + m → filter_map (slice_get xs) (range_with_len f m) ≡ drop f xs
 items-from xs f zero count = sym (drop_all f xs (omega arith))
-items-from xs f (suc m) count = elim (slice_get_cases xs f).1 [
-  | inl (x, within, is, at) ↦ rw (is, items-from xs (f + 1) m (omega arith), add-one) (sym (rw at at (drop-cons xs f x within)))
-  | inr past ↦ (let beyond : length xs ≤ f = past.0 in absurd (omega arith))
-]
+items-from xs f (suc m) count = grind (arith, common_steps, slice_get_cases, items-from xs (f + 1) m (omega arith))
 
 -- ---- the items from the first held number on
 
@@ -35,25 +33,12 @@ drop-next limit f n xs clears count order room = rw append-nil (drop_all n xs (o
 
 -- The first of the held items is the one with the least held number, also among all the items.
 first-held : {T : Type 0} (f n : ℕ) (xs ys : List T) → length xs ≡ n → (if nat_lt f n then slice_get (xs ++ ys) f else None) ≡ slice_get (drop f xs) 0
-first-held f n xs ys count = rw (slice_get-drop, add-zero) (elim (cases_lt f n) [
-  | inl held ↦ rw (lt-ltb f n held) (slice_get-append_left f xs ys (omega arith))
-  | inr none ↦ rw (le-ltb f n none) (sym (slice_get_past xs f (omega arith)))
-])
+first-held f n xs ys count = grind (arith, common_steps, nat_tests, slice_get_cases)
 
 -- With a limit the next push overwrites the first of the held numbers, exactly where they are as many as the limit.
 overwritten-held : {T : Type 0} (c f n : ℕ) (xs ys : List T) → length xs ≡ n → f ≤ n → IsRoom (Some c) f n
     → (if between f n (n - c) && overwrites (Some c) n (n - c) then slice_get (xs ++ ys) (n - c) else None) ≡ overwritten (Some c) (drop f xs)
-overwritten-held c f n xs ys count order room = elim (cases_lt (n - f) c) [
-  | inl fewer ↦
-      let test : (between f n (n - c) && (n - c + c == n)) ≡ false = grind (arith, nat_tests) in
-      let room : length (drop f xs) + 1 - c ≡ 0 = rw (length-drop, count) (omega arith) in
-      rw (test, room) refl
-  | inr full ↦
-      let first : n - c ≡ f = omega (arith, room.1) in
-      let test : (between f n f && (f + c == n)) ≡ true = grind (arith, nat_tests, room.0, room.1) in
-      let one : length (drop f xs) + 1 - c ≡ 1 = rw (length-drop, count) (omega (arith, room.1)) in
-      rw (first, test, one, slice_get-take 1 0 (drop f xs) (omega arith), slice_get-drop, add-zero) (slice_get-append_left f xs ys (omega (arith, room.0)))
-]
+overwritten-held c f n xs ys count order room = grind (arith, common_steps, nat_tests, slice_get_cases)
 
 -- By induction on the items.
 pushed-pushes : {T : Type 0} (xs : List T) → pushed (map pushes xs) ≡ xs
@@ -62,11 +47,7 @@ pushed-pushes (x ∷ xs) = ap (λ ys. x ∷ ys) (pushed-pushes xs)
 
 -- The steps of a command push its items.
 pub pushed-steps_of : {T : Type 0} (c : Command T) → pushed (steps_of c) ≡ puts c
-pushed-steps_of (Push x) = refl
-pushed-steps_of (Extend items) = pushed-pushes items.items
-pushed-steps_of Dequeue = refl
-pushed-steps_of Skip = refl
-pushed-steps_of Clear = refl
+pushed-steps_of c = grind (arith, pushed-pushes)
 
 -- All items are those so far and those of the later steps.
 items_so_far : {T : Type 0} (start : List T) (ss : List (Step T)) (k : ℕ) → all_items start ss ≡ all_items start (take k ss) ++ pushed (drop k ss)

@@ -19,8 +19,7 @@ keep_last-newest (Some n) over xs ys within =
 
 -- Nothing may always be passed over.
 pub none_over : {A : Type 0} (limit : Option ℕ) (items : List A) → IsOver limit items 0
-none_over None items = refl
-none_over (Some n) items = omega arith
+none_over limit items = grind arith
 
 -- Clones that each equal their item, of all items that aren't passed over, are as good as the items.
 pub equal_clones_pushed : {A E : Type 0} (IsClone : A → A → Type 0) (limit : Option ℕ) (items old new : List A) (r : Result (Unit {0}) E)

@@ -1,7 +1,7 @@
 -- A loop over commands: what holds at each turn, what one more command makes of it, and what follows at its end.
-use Rattle.ring_core.proofs.Words.{◌≡◌, ℕ, ◌+◌, ◌*◌, ◌<◌, ◌≤◌, List, [], ◌∷◌, ◌++◌, length, set, slice_get, take, Option, Some, IsSome, refl, ap, sym, ◌∙◌, append-nil, append_assoc, length-append, arith, flat_map-append, drop_all, length_push, take_at, Command, Refused, Reply, ChangesSlots, IsWithin, IsRefused, StopsAt, after_all, after_one, places, puts, replies_to, reply_to, ChangesFewSlots, all_items, contents_after, pushed, replies_of, steps, steps_of}
+use Rattle.ring_core.proofs.Words.{◌≡◌, ℕ, ◌+◌, ◌*◌, ◌<◌, ◌≤◌, List, [], ◌∷◌, ◌++◌, length, slice_get, take, Option, Some, IsSome, refl, ap, sym, ◌∙◌, append-nil, append_assoc, length-append, arith, flat_map-append, drop_all, length_push, take_at, Command, Refused, Reply, ChangesSlots, IsWithin, IsRefused, StopsAt, after_all, after_one, puts, replies_to, reply_to, ChangesFewSlots, all_items, contents_after, pushed, replies_of, steps, steps_of}
 use Rattle.ring_core.proofs.Items.{slice_get-at}
-use Rattle.ring_core.proofs.RunParts.{LeavesPart-refused, after_all-append, length-replies_to, places-more, replies_to-append}
+use Rattle.ring_core.proofs.RunParts.{LeavesPart-refused, after_all-append, replies_to-append}
 use Rattle.ring_core.proofs.HeldRange.{pushed-append}
 use Rattle.ring_core.proofs.BothMeanings.{ChangesFewSlots-run, ChangesFewSlots-twice, contents_after-all, pushed-steps_of, replies_of-all}
 
@@ -71,20 +71,6 @@ module _ {T : Type 0} {limit : Option ℕ} {start : List T} {all done todo : Lis
   HasDone-next c rest h first =
       let sum : length all ≡ length done + length (c ∷ rest) = rw (← h.parts, first) (length-append done (c ∷ rest)) in
       omega (arith, h.count)
-
-  -- While a command is to do, fewer are answered than there are.
-  pub length-replies_so_far : (c : Command T) (rest : List (Command T)) → HasDone limit start all done todo at limit' now before after → todo ≡ c ∷ rest
-      → length (replies_to limit start done) < length all
-  length-replies_so_far c rest h first = omega (arith, HasDone-next c rest h first, h.count, length-replies_to limit start done)
-
-  -- Its reply goes into the place with its number.
-  pub places-turn : (c : Command T) (rest : List (Command T)) (replies next : List (Option (Reply T))) (r : Reply T) → HasDone limit start all done todo at limit' now before after → todo ≡ c ∷ rest
-      → replies ≡ places (length all) (replies_to limit start done) → r ≡ reply_to limit' now c → next ≡ set replies at (Some r)
-      → next ≡ places (length all) (replies_to limit start (done ++ c ∷ []))
-  places-turn c rest replies next r h first answered is written =
-      let so_far = replies_to limit start done in
-      let answers : at ≡ length so_far = h.count ∙ sym (length-replies_to limit start done) in
-      rw (replies_to-turn c r h is, written, answered, answers) (places-more (length all) so_far r (length-replies_so_far c rest h first))
 
   -- The commands that are done are the first ones.
   pub HasDone-first : HasDone limit start all done todo at limit' now before after → take at all ≡ done

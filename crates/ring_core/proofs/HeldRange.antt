@@ -1,5 +1,6 @@
 -- The numbers held after each step are a range: those from some number on, up to the last that was pushed.
-use Rattle.ring_core.proofs.Words.{◌≡◌, ℕ, zero, suc, ◌+◌, ◌-◌, ◌<◌, ◌≤◌, min, max, Bool, ◌&&◌, nat_lt, nat_le, List, [], ◌∷◌, ◌++◌, length, take, drop, filter, slice_get, Option, Some, None, IfSome, IsTrue, ◌↔◌, refl, inl, inr, sym, ap, ◌∙◌, add-one, add-zero, zero-add, append-nil, arith, length-append, length-drop, range_with_len, option_to_list, filter-append, map-id, IfSome_then, cases_Bool, cases_lt, eqb-true, false≢true, nat_tests, IsWithin, IsLeft, IsPush, KeepsToNumbers, Step, pushes, takes, clears, held, held_numbers, held_next, head, least, number, overwrites, pushed, removed, removes, some_below}
+use Rattle.ring_core.proofs.Words.{◌≡◌, ℕ, zero, suc, ◌+◌, ◌-◌, ◌<◌, ◌≤◌, min, max, Bool, ◌&&◌, nat_lt, nat_le, List, [], ◌∷◌, ◌++◌, length, take, drop, filter, slice_get, Option, Some, None, IfSome, IsTrue, ◌↔◌, refl, inl, inr, ap, ◌∙◌, add-one, add-zero, zero-add, append-nil, arith, length-append, range_with_len, option_to_list, filter-append, map-id, IfSome_then, cases_Bool, cases_lt, nat_tests, IsWithin, IsLeft, IsPush, KeepsToNumbers, Step, pushes, takes, clears, held, held_numbers, held_next, head, least, number, overwrites, pushed, removed, removes, some_below}
+use Rattle.std.proofs.lemmas.Grind.{common_steps}
 use Rattle.std.proofs.lemmas.List.FromFn.{length-range_with_len, map-range_with_len_more}
 use Rattle.ring_core.proofs.Items.{take-suc_get}
 
@@ -17,7 +18,7 @@ first_next limit n f (Some clears) = n
 
 -- what a range says
 between-true : (f n i : ℕ) → IsTrue (between f n i) ↔ ((f ≤ i) × (i < n))
-between-true f n i = (λ e. (grind (arith, nat_tests), grind (arith, nat_tests)), λ h. grind (arith, nat_tests))
+between-true f n i = grind (arith, nat_tests)
 
 -- ---- a set that is a range
 
@@ -67,43 +68,27 @@ pub record IsRange (limit : Option ℕ) (set : ℕ → Bool) (f n : ℕ) : Type 
 -- One more step makes a range of a range.
 IsRange-next : {T : Type 0} (limit : Option ℕ) (set : ℕ → Bool) (f n : ℕ) (step : Option (Step T)) → IsRange limit set f n
     → IsRange limit (held_next limit n set step) (first_next limit n f step) (n + length (pushed_by step))
-IsRange-next limit set f n None w = rw add-zero w
-IsRange-next None set f n (Some (pushes x)) w = record { order = omega arith; room = tt; is = λ i. rw (w.is i) (grind (arith, nat_tests)) }
-IsRange-next (Some capacity) set f n (Some (pushes x)) w =
-    record { order = omega arith; room = (w.room.0, omega (arith, w.room.1)); is = λ i. rw (w.is i) (grind (arith, nat_tests)) }
-IsRange-next limit set f n (Some takes) w = record {
-  order = omega arith;
-  room = IfSome_then limit w.room (λ c r. (r.0, omega (arith, r.1)));
-  is = λ i. rw (add-zero, some_below-between set f n w.is i, w.is i) (grind (arith, nat_tests));
-}
-IsRange-next limit set f n (Some clears) w = record {
-  order = omega arith;
-  room = IfSome_then limit w.room (λ c r. (r.0, omega (arith, r.1)));
-  is = λ i. rw add-zero (grind (arith, nat_tests));
+IsRange-next limit set f n step w = record {
+  order = grind arith;
+  room = grind arith;
+  is = λ i. grind (arith, nat_tests, w.is i, some_below-between set f n w.is i);
 }
 
 -- The range's beginning never falls back, nor does it pass the number of the next push.
 first_next-bounds : {T : Type 0} (limit : Option ℕ) (f n : ℕ) (step : Option (Step T)) → f ≤ n → IsRoom limit f n → (f ≤ first_next limit n f step) × (first_next limit n f step ≤ n)
-first_next-bounds limit f n None order room = (omega arith, order)
-first_next-bounds None f n (Some (pushes x)) order room = (omega arith, order)
-first_next-bounds (Some capacity) f n (Some (pushes x)) order room = (omega arith, omega (arith, room.0))
-first_next-bounds limit f n (Some takes) order room = (omega arith, omega arith)
-first_next-bounds limit f n (Some clears) order room = (order, omega arith)
+first_next-bounds limit f n step order room = grind arith
 
 -- A push moves the range past the number that it overwrites, if the range still holds it, and past no other.
 moves-overwrites : {T : Type 0} (limit : Option ℕ) (f n i : ℕ) (x : T) → IsRoom limit f n → f ≤ i → (i < first_next limit n f (Some (pushes x))) ↔ IsTrue (overwrites limit n i)
-moves-overwrites None f n i x room low = (λ past. absurd (omega arith), λ over. absurd (false≢true over))
-moves-overwrites (Some capacity) f n i x room low = (λ past. grind (arith, nat_tests), λ over. grind (arith, nat_tests))
+moves-overwrites limit f n i x room low = grind (arith, nat_tests)
 
 -- One number is overwritten by one push.
 overwrites-once : (limit : Option ℕ) (m n i : ℕ) → IsTrue (overwrites limit m i) → IsTrue (overwrites limit n i) → m ≡ n
-overwrites-once None m n i one other = absurd (false≢true one)
-overwrites-once (Some capacity) m n i one other = sym (eqb-true (i + capacity) m one) ∙ eqb-true (i + capacity) n other
+overwrites-once limit m n i one other = grind (arith, nat_tests)
 
 -- A range is no wider than the limit where what it holds is within the limit.
 pub IsWithin-drop : {T : Type 0} (limit : Option ℕ) (f : ℕ) (xs : List T) → IsWithin (drop f xs) limit ↔ IsRoom limit f (length xs)
-IsWithin-drop None f xs = (λ within. tt, λ room. tt)
-IsWithin-drop (Some n) f xs = (λ within. (within.0, omega (arith, within.1, length-drop f xs)), λ room. (room.0, rw length-drop (omega (arith, room.1))))
+IsWithin-drop limit f xs = grind (arith, common_steps)
 
 -- By induction on the later place.
 rises : (f : ℕ → ℕ) → ((k : ℕ) → f k ≤ f (suc k)) → (j k : ℕ) → j ≤ k → f j ≤ f k
@@ -115,9 +100,7 @@ rises f next j (suc k) below = grind (arith, cases_lt k j, rises f next j k, nex
 -- By induction on the first steps.
 pub pushed-append : {T : Type 0} (xs ys : List (Step T)) → pushed (xs ++ ys) ≡ pushed xs ++ pushed ys
 pushed-append [] ys = refl
-pushed-append (pushes x ∷ xs) ys = ap (λ zs. x ∷ zs) (pushed-append xs ys)
-pushed-append (takes ∷ xs) ys = pushed-append xs ys
-pushed-append (clears ∷ xs) ys = pushed-append xs ys
+pushed-append (s ∷ xs) ys = grind (arith, pushed-append xs ys)
 
 -- One more step pushes what it pushes.
 pub pushed-take_more : {T : Type 0} (ss : List (Step T)) (k : ℕ) → pushed (take (suc k) ss) ≡ pushed (take k ss) ++ pushed_by (slice_get ss k)
@@ -173,12 +156,8 @@ module _ {T : Type 0} (limit : Option ℕ) (start : List T) (ss : List (Step T))
 
   -- No later step removes what one removed, since the range has moved past it.
   removes_last : (j k i : ℕ) → IsTrue (removes limit start ss j i) → IsTrue (removes limit start ss k i) → k ≤ j
-  removes_last j k i one other = elim (cases_lt j k) [
-    | inl earlier ↦
-        let later = rises (first limit start ss) (λ m. (first-suc m).0) (suc j) k earlier in
-        absurd (omega (arith, later, (removes-moves j i).0 one, (removes-moves k i).0 other))
-    | inr rest ↦ rest
-  ]
+  removes_last j k i one other =
+      grind (arith, removes-moves j i, removes-moves k i, rises (first limit start ss) (λ m. (first-suc m).0) (suc j) k)
 
   -- By induction on the number of steps: what some step removed is what the range has left behind.
   some_below-removes : (i k : ℕ) → some_below (λ j. removes limit start ss j i) k ≡ between 0 (first limit start ss k) i

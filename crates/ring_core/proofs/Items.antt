@@ -1,29 +1,22 @@
 -- The items of a list by their places.
-use Rattle.ring_core.proofs.Words.{ℕ, zero, suc, ◌≡◌, ◌+◌, ◌-◌, ◌<◌, List, [], ◌∷◌, ◌++◌, length, take, drop, slice_get, Some, refl, ap, arith, zero-add, AllZip, option_to_list, take-nil}
+use Rattle.ring_core.proofs.Words.{ℕ, zero, suc, ◌≡◌, ◌+◌, ◌-◌, ◌<◌, List, [], ◌∷◌, ◌++◌, length, take, drop, slice_get, Some, refl, ap, arith, AllZip, option_to_list, take-nil, slice_get_cases}
+use Rattle.std.proofs.lemmas.Grind.{common_steps}
 
 -- The item after a list.
 pub slice_get-at : {A : Type 0} (xs : List A) (y : A) (ys : List A) → slice_get (xs ++ y ∷ ys) (length xs) ≡ Some y
-slice_get-at [] y ys = refl
-slice_get-at (x ∷ xs) y ys = slice_get-at xs y ys
+slice_get-at xs y ys = grind (arith, common_steps, slice_get_cases)
 
 -- What is left of a list has its items from the first place left.
 pub slice_get-drop : {A : Type 0} (n i : ℕ) (xs : List A) → slice_get (drop n xs) i ≡ slice_get xs (n + i)
-slice_get-drop zero i xs = rw zero-add refl
-slice_get-drop (suc n) i [] = refl
-slice_get-drop (suc n) i (x ∷ xs) = let e : suc n + i ≡ suc (n + i) = omega arith in rw e (slice_get-drop n i xs)
+slice_get-drop n i xs = grind (arith, common_steps, slice_get_cases)
 
 -- The first items stay at their places.
 pub slice_get-take : {A : Type 0} (n i : ℕ) (xs : List A) → i < n → slice_get (take n xs) i ≡ slice_get xs i
-slice_get-take zero i xs within = absurd (omega arith)
-slice_get-take (suc n) i [] within = refl
-slice_get-take (suc n) zero (x ∷ xs) within = refl
-slice_get-take (suc n) (suc i) (x ∷ xs) within = slice_get-take n i xs (omega arith)
+slice_get-take n i xs within = grind (arith, common_steps, slice_get_cases)
 
 -- The first list's items stay at their places.
 pub slice_get-append_left : {A : Type 0} (n : ℕ) (xs ys : List A) → n < length xs → slice_get (xs ++ ys) n ≡ slice_get xs n
-slice_get-append_left n [] ys within = absurd (omega arith)
-slice_get-append_left zero (x ∷ xs) ys within = refl
-slice_get-append_left (suc n) (x ∷ xs) ys within = slice_get-append_left n xs ys (omega arith)
+slice_get-append_left n xs ys within = grind (arith, common_steps, slice_get_cases)
 
 -- What follows the first items of two lists follows them in the first list, or the rest of them in the second.
 pub drop-append : {A : Type 0} (n : ℕ) (xs ys : List A) → drop n xs ++ drop (n - length xs) ys ≡ drop n (xs ++ ys)

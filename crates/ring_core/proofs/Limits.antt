@@ -1,15 +1,14 @@
 -- What follows of a limit on a list.
-use Rattle.ring_core.proofs.Words.{false≢true, ◌≡◌, ℕ, zero, suc, ◌+◌, ◌-◌, ◌<◌, List, [], ◌∷◌, ◌++◌, length, map, drop, Option, None, Some, IfSome, IsSome, refl, slice_set, negsuc, ◌≤◌, take, slice_get, option_to_list, ◌∙◌, ap, sym, arith, length-append, length-drop, zero-mod, set-append_seam, drop-append-le, drop-drop, drop-map, drop_all, length-map, IsWithin, keep_last, overwritten, signed_index_at}
+use Rattle.ring_core.proofs.Words.{false≢true, ◌≡◌, ℕ, zero, suc, ◌+◌, ◌-◌, ◌<◌, List, [], ◌∷◌, ◌++◌, length, map, drop, Option, None, Some, IfSome, IsSome, refl, slice_set, negsuc, ◌≤◌, option_to_list, ◌∙◌, ap, sym, arith, length-append, length-drop, zero-mod, set-append_seam, drop-append-le, drop-drop, drop-map, drop_all, length-map, IsWithin, keep_last, overwritten, signed_index_at, slice_get_cases}
+use Rattle.std.proofs.lemmas.Grind.{common_steps}
 
 -- a list within its limit loses nothing
 pub keep_last_within : {A : Type 0} (limit : Option ℕ) (xs : List A) → IsWithin xs limit → keep_last limit xs ≡ xs
-keep_last_within None xs within = refl
-keep_last_within (Some n) xs within = let none_over : length xs - n ≡ 0 = omega arith in rw none_over refl
+keep_last_within limit xs within = grind (arith, common_steps)
 
 -- without a limit all is kept
 pub keep_last-unlimited : {A : Type 0} (limit : Option ℕ) (xs : List A) → ¬ (IsSome limit) → keep_last limit xs ≡ xs
-keep_last-unlimited None xs unlimited = refl
-keep_last-unlimited (Some n) xs unlimited = absurd (unlimited refl)
+keep_last-unlimited limit xs unlimited = grind (arith, common_steps)
 
 -- what a limit leaves does not depend on how often it was applied before
 pub keep_last-keep_last : {A : Type 0} (limit : Option ℕ) (xs ys : List A) → keep_last limit (keep_last limit xs ++ ys) ≡ keep_last limit (xs ++ ys)
@@ -52,14 +51,7 @@ newest_replaced limit xs now x y pushed some =
 -- what a push overwrites and what it leaves are the items and one more: with room nothing is overwritten, and else the first is
 pub overwritten-keep_last : {A : Type 0} (limit : Option ℕ) (xs : List A) (x : A) → IsWithin xs limit
     → option_to_list (overwritten limit xs) ++ keep_last limit (xs ++ x ∷ []) ≡ xs ++ x ∷ []
-overwritten-keep_last None xs x within = refl
-overwritten-keep_last {A} (Some n) xs x within = rw (length-append xs (x ∷ [])) (split (length xs + 1 - n) xs (omega arith) (omega arith)) where
-  -- one item at most, and there is one
-  split : (k : ℕ) (ys : List A) → k ≤ 1 → k ≤ length ys → option_to_list (slice_get (take k ys) 0) ++ drop k (ys ++ x ∷ []) ≡ ys ++ x ∷ []
-  split zero ys one some = refl
-  split (suc zero) (y ∷ ys) one some = refl
-  split (suc zero) [] one some = absurd (omega arith)
-  split (suc (suc k)) ys one some = absurd (omega arith)
+overwritten-keep_last limit xs x within = grind (arith, common_steps, slice_get_cases)
 
 -- a count that rose by one rose, and by no more
 pub counts_one : (n : ℕ) → (n ≤ n + 1) × (n + 1 ≤ n + 1)

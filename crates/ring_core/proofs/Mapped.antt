@@ -1,5 +1,6 @@
 -- What stands while a closure is called on each item in turn: for a map what it returned, for a test that the items passed.
-use Rattle.ring_core.proofs.Words.{◌≡◌, ℕ, zero, suc, ◌+◌, ◌<◌, ◌≤◌, Bool, true, false, List, [], ◌∷◌, ◌++◌, length, take, drop, map, set, slice_get, Option, Some, refl, sym, ap, subst, ◌∙◌, arith, add-one, Bor, FoldsTo, append-nil, append_assoc, drop-cons, drop_all, get_or_from_slice_get, length-append, length-drop, length-map, map-append, option_copied, option_to_list, set_at, take_all}
+use Rattle.ring_core.proofs.Words.{◌≡◌, ℕ, zero, suc, ◌+◌, ◌<◌, ◌≤◌, Bool, true, false, List, [], ◌∷◌, ◌++◌, length, take, drop, map, set, slice_get, Option, Some, refl, sym, ap, subst, ◌∙◌, arith, add-one, Bor, FoldsTo, append-nil, append_assoc, drop-cons, drop_all, get_or_from_slice_get, length-append, length-drop, length-map, map-append, option_copied, option_to_list, set_at, take_all, slice_get_cases}
+use Rattle.std.proofs.lemmas.Grind.{common_steps}
 use mathlib.Core.Bool.{cond}
 use Rattle.std.specs.List.{prefix_len}
 use Rattle.std.specs.Prelude.{IfSome}
@@ -27,8 +28,7 @@ at_start n = omega arith
 
 -- what follows a list begins at its length
 slice_get-behind : {A : Type 0} (xs ys : List A) → slice_get (xs ++ ys) (length xs) ≡ slice_get ys 0
-slice_get-behind [] ys = refl
-slice_get-behind (x ∷ xs) ys = slice_get-behind xs ys
+slice_get-behind xs ys = grind (arith, common_steps, slice_get_cases)
 
 -- the oldest of the items that are left
 pub first_left : {A : Type 0} (xs now : List A) (n : ℕ) (o : Option (Bor A)) (x : Bor A) → now ≡ drop n xs → option_copied o ≡ slice_get now 0 → o ≡ Some x

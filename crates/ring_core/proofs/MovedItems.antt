@@ -1,5 +1,6 @@
 -- What stands while the items of one ring are moved onto another.
-use Rattle.ring_core.proofs.Words.{◌≡◌, ℕ, List, [], ◌∷◌, ◌++◌, length, drop, slice_get, Option, Some, IsSome, refl, ◌∙◌, append_assoc, length-append, arith, ChangesSlots, keep_last}
+use Rattle.ring_core.proofs.Words.{◌≡◌, ℕ, List, [], ◌∷◌, ◌++◌, length, drop, slice_get, Option, Some, IsSome, refl, ◌∙◌, append_assoc, length-append, arith, ChangesSlots, keep_last, slice_get_cases}
+use Rattle.std.proofs.lemmas.Grind.{common_steps}
 use Rattle.ring_core.proofs.Limits.{keep_last-keep_last}
 
 -- some of the source's items were moved after the old ones, and the others stay; the count of changes went from a to b
@@ -11,8 +12,7 @@ pub record HasMoved {T : Type 0} (limit : Option ℕ) (old source now rest : Lis
 
 -- the first item of a list, and the others
 first-others : {T : Type 0} (xs : List T) (x : T) → Some x ≡ slice_get xs 0 → xs ≡ x ∷ drop 1 xs
-first-others [] x first = cc
-first-others (y ∷ ys) x first = cc
+first-others xs x first = grind (arith, common_steps, slice_get_cases)
 
 -- one more item is moved
 pub HasMoved-turn : {T : Type 0} {limit : Option ℕ} {old source now rest : List T} {a b : ℕ} → HasMoved limit old source now rest a b

@@ -1,5 +1,5 @@
 -- What stands while the items of a ring are asked about in turn.
-use Rattle.ring_core.proofs.Words.{◌≡◌, ℕ, ◌+◌, ◌<◌, ◌≤◌, Bool, true, false, List, [], ◌∷◌, ◌++◌, length, drop, slice_get, Option, None, Some, IsSome, refl, sym, ap, ◌∙◌, append-nil, append_assoc, arith, length-append, IsWithin, keep_last}
+use Rattle.ring_core.proofs.Words.{◌≡◌, ℕ, ◌+◌, ◌<◌, ◌≤◌, Bool, true, false, List, [], ◌∷◌, ◌++◌, length, drop, slice_get, Option, None, Some, IsSome, refl, sym, ap, ◌∙◌, append-nil, append_assoc, arith, drop_all, length-append, IsWithin, keep_last}
 use Rattle.std.specs.List.{items_where_true}
 use Rattle.std.specs.List.Retain.{IsFiltered, ReturnsInTurn}
 use Rattle.ring_core.proofs.Limits.{keep_last_within}
@@ -22,21 +22,14 @@ module _ {A : Type 0} where
   pick-few (true ∷ bs) (x ∷ xs) = omega (arith, pick-few bs xs)
   pick-few (false ∷ bs) (x ∷ xs) = omega (arith, pick-few bs xs)
 
-  next_in : (rest picked : List A) (x : A) → 0 < length rest → slice_get (rest ++ picked) 0 ≡ Some x → rest ≡ x ∷ drop 1 rest
-  next_in [] picked x some first = absurd (omega arith)
-  next_in (y ∷ rest) picked x some first = cc
+  -- a list that has items begins with the first of them
+  next_in : (rest picked : List A) → 0 < length rest → (x : A) × (slice_get (rest ++ picked) 0 ≡ Some x) × (rest ≡ x ∷ drop 1 rest)
+  next_in [] picked some = absurd (omega arith)
+  next_in (x ∷ rest) picked some = (x, refl, refl)
 
   within_limit : (old now : List A) (limit : Option ℕ) → IsWithin old limit → length now ≤ length old → keep_last limit now ≡ now
   within_limit old now None within few = refl
   within_limit old now (Some n) within few = keep_last_within (Some n) now (within.0, omega arith)
-
-  some_first : (rest picked : List A) → 0 < length rest → IsSome (slice_get (rest ++ picked) 0)
-  some_first [] picked some = absurd (omega arith)
-  some_first (x ∷ rest) picked some = refl
-
-  nothing_in : (xs : List A) → length xs ≡ 0 → xs ≡ []
-  nothing_in [] none = refl
-  nothing_in (x ∷ xs) none = absurd (omega (arith, none))
 
 module _ {A P : Type 0} (R : P → A → Bool → P → Type 0) where
   -- one more answer
@@ -72,7 +65,7 @@ module _ {A P : Type 0} (R : P → A → Bool → P → Type 0) where
     some_left more = omega (arith, at.counted, ap length at.parts, length-append at.asked at.rest)
 
     pub none_left : length old ≤ turns → at.rest ≡ []
-    none_left all = nothing_in at.rest (omega (arith, at.counted, ap length at.parts, length-append at.asked at.rest))
+    none_left all = drop_all 0 at.rest (omega (arith, at.counted, ap length at.parts, length-append at.asked at.rest))
 
     -- all were asked about
     pub asks_all : length old ≤ turns → IsFiltered R p old (picked at)
@@ -115,7 +108,7 @@ module _ {A P : Type 0} (R : P → A → Bool → P → Type 0) where
   module _ {p q : P} {old now : List A} {turns : ℕ} (at : Picks p old now q turns) where
     -- while not all were asked about, there is a first item
     pub first_is_some : turns < length old → IsSome (slice_get now 0)
-    first_is_some more = rw at.left (some_first at.asks.rest _ (some_left at.asks more))
+    first_is_some more = rw (at.left, (next_in at.asks.rest _ (some_left at.asks more)).1) refl
 
     -- all were asked about
     pub all_asked : length old ≤ turns → IsFiltered R p old now
@@ -127,39 +120,28 @@ module _ {A P : Type 0} (R : P → A → Bool → P → Type 0) where
       others = drop 1 at.asks.rest
 
       next : at.asks.rest ≡ x ∷ others
-      next = next_in at.asks.rest (picked at.asks) x (some_left at.asks more) (sym (ap (λ l. slice_get l 0) at.left) ∙ first)
+      next =
+          let (y, is, begins) = next_in at.asks.rest (picked at.asks) (some_left at.asks more) in
+          let same : Some x ≡ Some y = sym first ∙ ap (λ l. slice_get l 0) at.left ∙ is in
+          let e : x ≡ y = cc in
+          rw e begins
 
       taken : drop 1 now ≡ others ++ picked at.asks
       taken = ap (drop 1) at.left ∙ ap (λ l. drop 1 (l ++ picked at.asks)) next
 
       -- the next turn, whatever the answer was
-      turn : (b : Bool) (u : P) → R q x b u → Picks p old (drop 1 now ++ items_where_true (b ∷ []) (x ∷ [])) u (turns + 1)
+      pub turn : (b : Bool) (u : P) → R q x b u → Picks p old (drop 1 now ++ items_where_true (b ∷ []) (x ∷ [])) u (turns + 1)
       turn b u answer = record {
         asks = asks_more at.asks x next b u answer;
         left = rw (taken, append_assoc, rest_more at.asks x next b u answer, picked_more at.asks x next b u answer) refl;
       }
 
-      pub kept : (u : P) → R q x true u → Picks p old (drop 1 now ++ x ∷ []) u (turns + 1)
-      kept u answer = turn true u answer
-
-      pub dropped : (u : P) → R q x false u → Picks p old (drop 1 now) u (turns + 1)
-      dropped u answer = rw append-nil at (turn false u answer)
-
       pub refused : (u : P) → R q x true u → FiltersPart R p old (drop 1 now) x
-      refused u answer = (
-        at.asks.asked,
-        picked at.asks,
-        others,
-        parts_next at.asks x next,
-        (
-          at.asks.answers ++ true ∷ [],
-          u,
-          omega (arith, at.asks.answered, length-append at.asks.asked (x ∷ []), length-append at.asks.answers (true ∷ [])),
-          returns-push p q u at.asks.answers at.asks.asked true x at.asks.answered at.asks.told answer,
-          sym (pick-push at.asks.answers at.asks.asked true x at.asks.answered),
-        ),
-        taken,
-      )
+      unfolding asks_more
+      refused u answer =
+          let then = asks_more at.asks x next true u answer in
+          let is = picked_more at.asks x next true u answer in
+          (at.asks.asked, picked at.asks, others, parts_next at.asks x next, (then.answers, u, then.answered, then.told, sym is), taken)
 
       -- a limit leaves the item that is put back
       pub put_back : (limit : Option ℕ) → IsWithin old limit → keep_last limit (drop 1 now ++ x ∷ []) ≡ drop 1 now ++ x ∷ []

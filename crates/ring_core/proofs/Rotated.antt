@@ -1,7 +1,8 @@
 -- What is at the ends of a list that was rotated, so that the items from one index up to another are its first or its last.
-use Rattle.ring_core.proofs.Words.{◌≡◌, ℕ, ◌+◌, ◌-◌, ◌≤◌, List, ◌++◌, length, take, drop, refl, ap, sym, ◌∙◌, arith, length-append, length-drop, length-take-le, drop-append_seam, to_come}
+use Rattle.ring_core.proofs.Words.{◌≡◌, ℕ, ◌+◌, ◌-◌, ◌≤◌, List, ◌++◌, length, take, drop, ap, sym, ◌∙◌, arith, length-append, length-drop, length-take-le, to_come}
+use Rattle.std.proofs.lemmas.Grind.{common_steps}
 use Rattle.std.specs.List.{remove_range}
-use Rattle.std.proofs.Math.Seq.{drop-append-add, take-append-add, take-append_seam}
+use Rattle.std.proofs.Math.Seq.{drop-append-add, take-append-add}
 use Rattle.std.proofs.lemmas.List.{drop-take, take-append-le, take-take}
 
 module _ {A : Type 0} (xs : List A) (start end : ℕ) (order : start ≤ end) (within : end ≤ length xs) where
@@ -25,6 +26,4 @@ module _ {A : Type 0} (xs : List A) (start end : ℕ) (order : start ≤ end) (w
 
   -- Rotated back, they are the list without the range.
   pub rotated_back : (after : ℕ) → after ≡ length xs - end → drop after (drop end xs ++ take start xs) ++ take after (drop end xs ++ take start xs) ≡ remove_range xs start end
-  rotated_back after is =
-      let all : after ≡ length (drop end xs) = omega (arith, length-drop end xs) in
-      rw (all, drop-append_seam, take-append_seam) refl
+  rotated_back after is = grind (arith, common_steps)

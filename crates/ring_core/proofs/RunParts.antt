@@ -29,12 +29,6 @@ places-more n replies r room =
     let next : n - length replies ≡ suc (n - length (replies ++ r ∷ [])) = omega (arith, length_push replies r) in
     rw (next, map-append, append_assoc) (set_at (map Some replies) None (replicate (n - length (replies ++ r ∷ [])) None) (Some r) (length replies) (length-map replies Some))
 
--- Once all commands are answered, no place is left.
-pub places_all : {T : Type 0} (limit : Option ℕ) (l : List T) (cs : List (Command T)) → places (length cs) (replies_to limit l cs) ≡ map Some (replies_to limit l cs)
-places_all limit l cs =
-    let none : length cs - length (replies_to limit l cs) ≡ 0 = omega (arith, length-replies_to limit l cs) in
-    rw (none, append-nil) refl
-
 -- A push that was refused took none of its one item.
 pub LeavesPart-refused : {T : Type 0} (c : Command T) (old new : List T) (r : Refused T) → IsRefused c old new r → LeavesPart old c new
 LeavesPart-refused c old new (refused.Push x) (is, same) = rw is ([], (omega arith, refl), rw append-nil same)

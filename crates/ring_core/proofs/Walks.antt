@@ -1,5 +1,6 @@
 -- How a step of a walk shortens what is still to come.
-use Rattle.ring_core.proofs.Words.{append_assoc, ◌≡◌, ℕ, ◌+◌, ◌-◌, ◌<◌, ◌≤◌, ◌↔◌, min, List, [], ◌∷◌, ◌++◌, length, take, drop, get_or, Option, Some, None, MatchOption, map, refl, slice_set, suc, sym, ap, ◌∙◌, Bor, add-one, append-nil, arith, length-drop, slice_get, option_copied, option_to_list, drop-cons, take-length, take-suc-set, drop-append-le, drop-drop, drop-set-lt, length-take, length-take-le, take_min, slice_get_within, index_at, iterator_to_come, to_come}
+use Rattle.ring_core.proofs.Words.{◌≡◌, ℕ, ◌+◌, ◌-◌, ◌<◌, ◌≤◌, ◌↔◌, min, List, [], ◌∷◌, ◌++◌, length, take, drop, Option, Some, None, MatchOption, map, slice_set, sym, ap, ◌∙◌, Bor, add-one, append-nil, arith, length-drop, slice_get, option_copied, option_to_list, drop-append-le, drop-drop, length-take, length-take-le, take_min, index_at, iterator_to_come, to_come, slice_get_cases}
+use Rattle.std.proofs.lemmas.Grind.{common_steps}
 use Rattle.std.proofs.iter.Rest.{run_of_first_by, run_of_last_by}
 use Rattle.ring_core.specs.Walk.{ReadsInOrder, ReadsInReverse}
 use Rattle.ring_core.proofs.Items.{slice_get-drop, slice_get-take, take-suc_get}
@@ -8,10 +9,7 @@ use Rattle.ring_core.proofs.Reading.{slice_get-index_at}
 -- the first item of a list, and then the others
 first_read : {A : Type 0} (xs : List A) (r : Option (Bor A)) → option_copied r ≡ slice_get xs 0
     → MatchOption r ((xs ≡ []) × (drop 1 xs ≡ [])) (λ x. xs ≡ x.now ∷ drop 1 xs)
-first_read [] None read = (refl, refl)
-first_read [] (Some x) read = cc
-first_read (y ∷ xs) None read = cc
-first_read (y ∷ xs) (Some x) read = cc
+first_read xs r read = grind arith
 
 -- whatever a reading walk has to come, its calls give it in order, from the front and from the back
 module _ {T RB : Type 0} (contents : RB → List T) where
@@ -64,9 +62,4 @@ to_come-next_back xs front back last (Some x) ends before read = to_come-last xs
 -- before a step and after it.
 pub map-step : {A : Type 0} (f : A → A) (xs : List A) (front : ℕ) (x : A) → Some x ≡ slice_get (to_come xs front (length xs)) 0
     → take (front + 1) (slice_set xs front (f x)) ++ map f (drop (front + 1) (slice_set xs front (f x))) ≡ take front xs ++ map f (drop front xs)
-map-step f xs front x lent =
-    let first : slice_get (drop front xs) 0 ≡ Some x = sym (lent ∙ ap (λ l. slice_get (drop front l) 0) (take-length xs)) in
-    let within : front < length xs = omega (arith, slice_get_within (drop front xs) 0 x first, length-drop front xs) in
-    let behind : drop front xs ≡ get_or xs front x ∷ drop (suc front) xs = drop-cons xs front x within in
-    let is : get_or xs front x ≡ x = let e : Some (get_or xs front x) ≡ Some x = sym (ap (λ l. slice_get l 0) behind) ∙ first in cc in
-    rw (add-one, take-suc-set xs front (f x) within, drop-set-lt (suc front) xs front (f x) (omega arith), append_assoc, behind, is) refl
+map-step f xs front x lent = grind (arith, common_steps, slice_get_cases)

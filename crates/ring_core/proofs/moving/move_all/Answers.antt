@@ -16,3 +16,6 @@ loop-item-preserved g c =
 
 pub loop-item-init : goal.loop-item-init
 loop-item-init g c = search rules
+
+pub returns-in_err-overwritten : goal.returns-in_err-overwritten
+returns-in_err-overwritten g c = search rules

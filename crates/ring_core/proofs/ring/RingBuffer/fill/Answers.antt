@@ -1,5 +1,11 @@
-pub loop-init : Rattle.ring_core.proofs.ring.RingBuffer.fill.Goals.loop-init
-loop-init g c = search Rattle.std.proofs.Common.rules
+use Rattle.ring_core.proofs.Words.{rules}
+use Rattle.ring_core.proofs.ring.RingBuffer.fill.Goals as goal
 
-pub returns-clause-short : Rattle.ring_core.proofs.ring.RingBuffer.fill.Goals.returns-clause-short
-returns-clause-short g c = search Rattle.std.proofs.Common.rules
+pub loop-init : goal.loop-init
+loop-init g c = search rules
+
+pub returns-in-Err : goal.returns-in-Err
+returns-in-Err g c = search rules
+
+pub returns-clause-short : goal.returns-clause-short
+returns-clause-short g c = search rules

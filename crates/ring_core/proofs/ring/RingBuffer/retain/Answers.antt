@@ -1,8 +1,8 @@
-use Rattle.ring_core.proofs.Words.{◌++◌, ◌∷◌, ◌∙◌, [], ap, arith, drop, is_ok, length, length-append, length-drop, rules, sym, ◌<◌, ◌≡◌}
+use Rattle.ring_core.proofs.Words.{◌++◌, ◌∷◌, ◌∙◌, [], ap, append-nil, arith, drop, false, is_ok, length, length-append, length-drop, rules, sym, true, ◌<◌, ◌≡◌}
 use Rattle.std.proofs.Common.{of_calls}
 use Rattle.std.specs.Fn.{CalledAt}
 use Rattle.std.proofs.lemmas.Fn.{called_at, filter_same}
-use Rattle.ring_core.proofs.RetainedItems.{all_asked, dropped, first_is_some, kept, nothing_asked, put_back, refused}
+use Rattle.ring_core.proofs.RetainedItems.{all_asked, first_is_some, nothing_asked, put_back, refused, turn}
 use Rattle.ring_core.proofs.ring.RingBuffer.retain.Goals as goal
 
 pub loop-init : goal.loop-init
@@ -16,7 +16,7 @@ loop-preserved-then-not-keep g c =
     let at = c.loop.invariant in
     let first = sym c.dequeue.ensures.value ∙ c.unwrap-item.ensures in
     record {
-      picks = rw c.dequeue.ensures.rest (dropped _ at.picks (omega arith) c.unwrap-item.result first _ (called_at g.F.FnMut c.keep.ensures c.if-not-keep.true));
+      picks = rw c.dequeue.ensures.rest (rw append-nil at (turn _ at.picks (omega arith) c.unwrap-item.result first false _ (called_at g.F.FnMut c.keep.ensures c.if-not-keep.true)));
       callable = search of_calls;
       limit = c.dequeue.ensures.limit ∙ at.limit;
       changes = λ some.
@@ -37,7 +37,7 @@ loop-preserved g c =
     let pushed : R.contents c.push.new.self ≡ drop 1 now ++ item ∷ [] =
     c.push.ensures.ok (ap is_ok c.in-Ok.is) ∙ rw (limit, c.dequeue.ensures.rest) (put_back _ at.picks more item first (R.limit c.args.self.now) c.len-end.ensures.within) in
     record {
-      picks = rw pushed (kept _ at.picks more item first _ (called_at g.F.FnMut c.keep.ensures c.if-not-keep.false));
+      picks = rw pushed (turn _ at.picks more item first true _ (called_at g.F.FnMut c.keep.ensures c.if-not-keep.false));
       callable = search of_calls;
       limit = c.push.ensures.limit ∙ limit;
       changes = λ some.
