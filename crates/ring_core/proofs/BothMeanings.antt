@@ -25,9 +25,8 @@ drop-next : {T : Type 0} (limit : Option ℕ) (f n : ℕ) (xs : List T) (s : Ste
     → drop (first_next limit n f (Some s)) (xs ++ pushed_by (Some s)) ≡ after_step limit (drop f xs) s
 drop-next None f n xs (pushes x) count order room = drop-append-le f xs (x ∷ []) (omega arith)
 drop-next (Some c) f n xs (pushes x) count order room =
-    let whole : drop f xs ++ x ∷ [] ≡ drop f (xs ++ x ∷ []) = sym (drop-append-le f xs (x ∷ []) (omega arith)) in
     let at : f + (length (drop f (xs ++ x ∷ [])) - c) ≡ max f (n + 1 - c) = rw (length-drop, length_push) (omega arith) in
-    rw (whole, drop-drop, at) refl
+    rw (← drop-append-le f xs (x ∷ []) (omega arith), drop-drop, at) refl
 drop-next limit f n xs takes count order room = rw (append-nil, ← count, drop_min, drop-drop) refl
 drop-next limit f n xs clears count order room = rw append-nil (drop_all n xs (omega arith))
 

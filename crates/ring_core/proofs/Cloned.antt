@@ -1,5 +1,5 @@
 -- What stands while clones of a list's items are pushed.
-use Rattle.ring_core.proofs.Words.{◌≡◌, ℕ, ◌+◌, ◌-◌, ◌<◌, ◌≤◌, List, [], ◌∷◌, ◌++◌, length, take, drop, min, Option, None, Some, IfSome, IsSome, OnOk, Result, Ok, Err, refl, append_assoc, set-append_seam, slice_set, get_or, false≢true, ap, sym, ◌∙◌, arith, take_all, drop-drop, drop_min, length-append, length-drop, keep_last}
+use Rattle.ring_core.proofs.Words.{◌≡◌, ℕ, ◌+◌, ◌-◌, ◌<◌, ◌≤◌, List, [], ◌∷◌, ◌++◌, length, take, drop, min, Option, None, Some, IfSome, IsSome, OnOk, Result, Ok, Err, refl, append_assoc, set-append_seam, slice_set, get_or, ap, sym, ◌∙◌, arith, take_all, drop-drop, drop_min, length-append, length-drop, keep_last}
 use Rattle.std.specs.Prelude.{IfOk}
 use Rattle.std.proofs.lemmas.List.{drop_more}
 use Rattle.std.proofs.lemmas.List.Elements.{same_from_all_zip}
@@ -49,5 +49,4 @@ equal_clones_out IsClone items old new (Ok n) (ys, clones, is, long) same =
 -- A limit leaves of the newest that fit what it leaves of all.
 pub keep_last-fitting : {A : Type 0} (limit : Option ℕ) (capacity : ℕ) (xs ys newest : List A) → IsSome limit → IfSome limit (λ n. capacity ≡ n)
     → newest ≡ drop (length ys - capacity) ys → keep_last limit (xs ++ newest) ≡ keep_last limit (xs ++ ys)
-keep_last-fitting None capacity xs ys newest some is fits = absurd (false≢true some)
-keep_last-fitting (Some n) capacity xs ys newest some is fits = rw fits (keep_last-newest (Some n) (length ys - capacity) xs ys (omega (arith, is)))
+keep_last-fitting limit capacity xs ys newest some is fits = rw fits (keep_last-newest limit (length ys - capacity) xs ys (grind arith))

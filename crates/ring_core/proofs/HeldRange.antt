@@ -31,9 +31,8 @@ filter-between : (set : ℕ → Bool) (f n m : ℕ) → ((i : ℕ) → set i ≡
 filter-between set f n zero is = let none : min 0 n - f ≡ 0 = omega arith in rw none refl
 filter-between set f n (suc m) is = ap (filter set) (range-suc 0 m) ∙ rw (filter-append, filter-between set f n m is, zero-add, is m) (elim (cases_Bool (between f n m)) [
   | inl inside ↦
-      let (from, below) = (between-true f n m).0 inside in
-      let one : min (suc m) n - f ≡ suc (min m n - f) = omega arith in
-      let next : f + (min m n - f) ≡ m = omega arith in
+      let one : min (suc m) n - f ≡ suc (min m n - f) = grind (arith, nat_tests) in
+      let next : f + (min m n - f) ≡ m = grind (arith, nat_tests) in
       rw (inside, one, range-suc f (min m n - f), next) refl
   | inr outside ↦
       let none : min (suc m) n - f ≡ min m n - f = grind (arith, nat_tests) in
@@ -124,10 +123,7 @@ module _ {T : Type 0} (limit : Option ℕ) (start : List T) (ss : List (Step T))
 
   -- The least of a range's numbers is its first.
   pub head-first : (k : ℕ) → head limit start ss k ≡ first limit start ss k
-  head-first k =
-      let w = IsRange-held k in
-      let at_end = least-between (held limit start ss k) (first limit start ss k) (number start ss k) w.is (number start ss k) in
-      omega (arith, at_end (omega arith), w.order)
+  head-first k = let w = IsRange-held k in omega (arith, w.order, least-between (held limit start ss k) _ _ w.is (number start ss k) (omega arith))
 
   -- The held numbers, listed.
   pub held_numbers-between : (k : ℕ) → held_numbers limit start ss k ≡ range_with_len (first limit start ss k) (number start ss k - first limit start ss k)
@@ -144,11 +140,7 @@ module _ {T : Type 0} (limit : Option ℕ) (start : List T) (ss : List (Step T))
 
   -- A step removes what it moves the range past.
   removes-between : (k i : ℕ) → removes limit start ss k i ≡ between (first limit start ss k) (first limit start ss (suc k)) i
-  removes-between k i =
-      let (moves, order) = first-suc k in
-      let grows : number start ss k ≤ number start ss (suc k) = omega (arith, number-suc k) in
-      let next = (IsRange-held (suc k)).is i in
-      rw ((IsRange-held k).is i, next) (grind (arith, nat_tests))
+  removes-between k i = grind (arith, nat_tests, first-suc k, number-suc k, (IsRange-held k).is i, (IsRange-held (suc k)).is i)
 
   -- The same, as an order.
   removes-moves : (k i : ℕ) → IsTrue (removes limit start ss k i) ↔ ((first limit start ss k ≤ i) × (i < first limit start ss (suc k)))
@@ -174,23 +166,19 @@ module _ {T : Type 0} (limit : Option ℕ) (start : List T) (ss : List (Step T))
   overwrites-removes : (k i : ℕ) → IsPush ss k → IsTrue (removes limit start ss k i) → IsTrue (overwrites limit (number start ss k) i)
   overwrites-removes k i (x, is) e =
       let (low, high) = (removes-moves k i).0 e in
-      (moves-overwrites limit (first limit start ss k) (number start ss k) i x (IsRange-held k).room low).0 (rw is at high)
+      (moves-overwrites limit _ _ i x (IsRange-held k).room low).0 (rw is at high)
 
   -- By induction on the number of steps: what no take and no clear removed is held until the push that overwrites it, whose
   -- number is n, since an earlier push has another number.
   held_until : (k n i : ℕ) → number start ss k ≤ n → IsTrue (overwrites limit n i) → IsLeft limit start ss k i → first limit start ss k ≤ i
   held_until zero n i earlier over left = omega arith
-  held_until (suc k) n i earlier over left = elim (cases_lt i (first limit start ss (suc k))) [
-    | inl past ↦
-        let before : number start ss k ≤ n = omega (arith, number-suc k) in
-        let here = held_until k n i before over (λ j below. left j (omega arith)) in
-        let removed_here = (removes-moves k i).1 (here, past) in
-        let push = left k (omega arith) removed_here in
-        let same = overwrites-once limit (number start ss k) n i (overwrites-removes k i push removed_here) over in
-        let one = rw push.1 at (number-suc k) in
-        absurd (omega arith)
-    | inr rest ↦ rest
-  ]
+  held_until (suc k) n i earlier over left =
+      let here = held_until k n i (omega (arith, number-suc k)) over (λ j below. left j (omega arith)) in
+      let stays : IsTrue (removes limit start ss k i) → ⊥ = λ removed.
+      let push = left k (omega arith) removed in
+      let one = rw push.1 at (number-suc k) in
+      absurd (omega (arith, overwrites-once limit (number start ss k) n i (overwrites-removes k i push removed) over)) in
+      grind (arith, removes-moves k i)
 
   -- A range has no gap and is no wider than the limit. Of two steps that remove a number neither is the later one. Before a
   -- push nothing removed a number that the push removes; and what is left until then, it removes.

@@ -1,5 +1,5 @@
 -- What follows of a limit on a list.
-use Rattle.ring_core.proofs.Words.{false≢true, ◌≡◌, ℕ, zero, suc, ◌+◌, ◌-◌, ◌<◌, List, [], ◌∷◌, ◌++◌, length, map, drop, Option, None, Some, IfSome, IsSome, refl, slice_set, negsuc, ◌≤◌, option_to_list, ◌∙◌, ap, sym, arith, length-append, length-drop, zero-mod, set-append_seam, drop-append-le, drop-drop, drop-map, drop_all, length-map, IsWithin, keep_last, overwritten, signed_index_at, slice_get_cases}
+use Rattle.ring_core.proofs.Words.{false≢true, ◌≡◌, ℕ, ◌+◌, ◌-◌, ◌<◌, List, [], ◌∷◌, ◌++◌, length, map, drop, Option, None, Some, IfSome, IsSome, refl, slice_set, negsuc, ◌≤◌, option_to_list, ◌∙◌, sym, arith, length-append, length-drop, zero-mod, set-append_seam, drop-append-le, drop-drop, drop-map, length-map, IsWithin, keep_last, overwritten, signed_index_at, slice_get_cases}
 use Rattle.std.proofs.lemmas.Grind.{common_steps}
 
 -- a list within its limit loses nothing
@@ -27,8 +27,7 @@ map-keep_last f n xs = rw length-map (sym (drop-map f (length xs - n) xs))
 keep_last_before : {A : Type 0} (limit : Option ℕ) (xs : List A) → IfSome limit (λ n. 0 < n)
     → (before : List A) × ((x : A) → keep_last limit (xs ++ x ∷ []) ≡ before ++ x ∷ [])
 keep_last_before None xs above = (xs, λ x. refl)
-keep_last_before (Some n) xs above =
-    (drop (length xs + 1 - n) xs, λ x. ap (λ k. drop (k - n) (xs ++ x ∷ [])) (length-append xs (x ∷ [])) ∙ drop-append-le (length xs + 1 - n) xs (x ∷ []) (omega arith))
+keep_last_before (Some n) xs above = (drop (length xs + 1 - n) xs, λ x. grind (arith, common_steps, drop-append-le (length xs + 1 - n) xs (x ∷ [])))
 
 -- position -1 names the last of some items
 signed_index_at-newest : {A : Type 0} (before : List A) (x : A) → signed_index_at (length (before ++ x ∷ [])) (negsuc 0) ≡ length before
@@ -36,9 +35,7 @@ signed_index_at-newest before x = rw (zero-mod (length (before ++ x ∷ []))) (o
 
 -- a limit that leaves an item is above zero
 above_zero : {A : Type 0} (limit : Option ℕ) (xs : List A) → (keep_last limit xs ≡ [] → ⊥) → IfSome limit (λ n. 0 < n)
-above_zero None xs some = tt
-above_zero (Some zero) xs some = absurd (some (drop_all (length xs - 0) xs (omega arith)))
-above_zero (Some (suc n)) xs some = omega arith
+above_zero limit xs some = grind (arith, common_steps)
 
 -- a write to the newest item after a push is as if the other item had been pushed
 pub newest_replaced : {A : Type 0} (limit : Option ℕ) (xs now : List A) (x y : A) → now ≡ keep_last limit (xs ++ x ∷ []) → (now ≡ [] → ⊥)

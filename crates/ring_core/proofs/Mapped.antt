@@ -1,13 +1,12 @@
 -- What stands while a closure is called on each item in turn: for a map what it returned, for a test that the items passed.
-use Rattle.ring_core.proofs.Words.{◌≡◌, ℕ, zero, suc, ◌+◌, ◌<◌, ◌≤◌, Bool, true, false, List, [], ◌∷◌, ◌++◌, length, take, drop, map, set, slice_get, Option, Some, refl, sym, ap, subst, ◌∙◌, arith, add-one, Bor, FoldsTo, append-nil, append_assoc, drop-cons, drop_all, get_or_from_slice_get, length-append, length-drop, length-map, map-append, option_copied, option_to_list, set_at, take_all, slice_get_cases}
+use Rattle.ring_core.proofs.Words.{◌≡◌, ℕ, zero, suc, ◌+◌, ◌<◌, ◌≤◌, Bool, true, false, List, [], ◌∷◌, ◌++◌, length, take, drop, map, set, slice_get, Option, Some, refl, sym, ap, subst, ◌∙◌, arith, add-one, Bor, FoldsTo, append-nil, append_assoc, drop-cons, drop_all, get_or_from_slice_get, length-append, length-drop, length-map, map-append, option_copied, option_to_list, set_at, take_all, slice_get_cases, cases_Bool, inl, inr}
 use Rattle.std.proofs.lemmas.Grind.{common_steps}
-use mathlib.Core.Bool.{cond}
 use Rattle.std.specs.List.{prefix_len}
 use Rattle.std.specs.Prelude.{IfSome}
 use Rattle.std.proofs.lemmas.Fn.{FoldsTo-push}
 use Rattle.ring_core.specs.Filtering.{PassesFirst}
 use Rattle.ring_core.specs.Mapping.{ByMap, MapsEach}
-use Rattle.ring_core.proofs.Items.{slice_get-drop, take-suc_get}
+use Rattle.ring_core.proofs.Items.{take-suc_get}
 
 module _ {A B P : Type 0} (R : P → A → B → P → Type 0) where
   -- By induction: calls that leave the closure as it was return what the function says.
@@ -33,8 +32,7 @@ slice_get-behind xs ys = grind (arith, common_steps, slice_get_cases)
 -- the oldest of the items that are left
 pub first_left : {A : Type 0} (xs now : List A) (n : ℕ) (o : Option (Bor A)) (x : Bor A) → now ≡ drop n xs → option_copied o ≡ slice_get now 0 → o ≡ Some x
     → slice_get xs n ≡ Some x.now
-first_left xs now n o x left front is =
-    sym (ap (slice_get xs) (at_start n)) ∙ sym (slice_get-drop n 0 xs) ∙ sym (ap (λ l. slice_get l 0) left) ∙ sym front ∙ ap option_copied is
+first_left xs now n o x left front is = grind (arith, common_steps, slice_get_cases)
 
 module _ {A P : Type 0} (R : P → A → A → P → Type 0) where
   -- the first items were replaced by what calls on them returned, and the others stayed
@@ -69,10 +67,7 @@ module _ {A P : Type 0} (R : P → A → A → P → Type 0) where
 
       -- it is as it was
       is : slice_get old turns ≡ Some x
-      is =
-          let old_there : slice_get (drop turns old) 0 ≡ slice_get old turns = slice_get-drop turns 0 old ∙ ap (slice_get old) (at_start turns) in
-          let now_there : slice_get now turns ≡ slice_get (drop turns old) 0 = ap (λ l. slice_get l turns) at.left ∙ ap (slice_get (done ++ drop turns old)) (sym long) ∙ slice_get-behind done (drop turns old) in
-          sym old_there ∙ sym now_there ∙ read
+      is = grind (arith, common_steps, slice_get_cases, at.left, long)
 
       next : drop turns old ≡ x ∷ others
       next = drop-cons old turns x more ∙ ap (λ y. y ∷ others) (get_or_from_slice_get old turns x x is)
@@ -94,14 +89,13 @@ module _ {A : Type 0} (test : A → Bool) where
   abbrev FirstFails : List A → Type 0
   FirstFails xs = IfSome (slice_get xs 0) (λ x. test x ≡ false)
 
-  behind_one : (x : A) (xs : List A) (b : Bool) → test x ≡ b → FirstFails (drop (prefix_len test xs) xs) → FirstFails (drop (cond b (1 + prefix_len test xs) 0) (x ∷ xs))
-  behind_one x xs true is rest = let n = prefix_len test xs in subst (λ k. FirstFails (drop k (x ∷ xs))) {x = suc n} {y = 1 + n} (omega arith) rest
-  behind_one x xs false is rest = is
-
   -- the first item after those that pass a test fails it
   pub first_fails : (xs : List A) → FirstFails (drop (prefix_len test xs) xs)
   first_fails [] = tt
-  first_fails (x ∷ xs) = behind_one x xs (test x) refl (first_fails xs)
+  first_fails (x ∷ xs) = elim (cases_Bool (test x)) [
+    | inl passes ↦ (let next : 1 + prefix_len test xs ≡ suc (prefix_len test xs) = omega arith in rw (passes, next) (first_fails xs))
+    | inr fails ↦ rw fails fails
+  ]
 
 module _ {A P : Type 0} (R : P → A → Bool → P → Type 0) where
   -- By induction: a test that calls leave as it was passes so many items as come before the first that fails it.

@@ -1,5 +1,5 @@
 -- What stands while the items of a ring are asked about in turn.
-use Rattle.ring_core.proofs.Words.{◌≡◌, ℕ, ◌+◌, ◌<◌, ◌≤◌, Bool, true, false, List, [], ◌∷◌, ◌++◌, length, drop, slice_get, Option, None, Some, IsSome, refl, sym, ap, ◌∙◌, append-nil, append_assoc, arith, drop_all, length-append, IsWithin, keep_last}
+use Rattle.ring_core.proofs.Words.{◌≡◌, ℕ, ◌+◌, ◌<◌, ◌≤◌, Bool, true, List, [], ◌∷◌, ◌++◌, length, drop, slice_get, Option, Some, IsSome, refl, sym, ap, ◌∙◌, append-nil, append_assoc, arith, drop_all, length-append, IsWithin, keep_last}
 use Rattle.std.specs.List.{items_where_true}
 use Rattle.std.specs.List.Retain.{IsFiltered, ReturnsInTurn}
 use Rattle.ring_core.proofs.Limits.{keep_last_within}
@@ -12,15 +12,13 @@ module _ {A : Type 0} where
   pick-push [] [] b x same = refl
   pick-push [] (y ∷ xs) b x same = absurd (omega arith)
   pick-push (c ∷ bs) [] b x same = absurd (omega arith)
-  pick-push (true ∷ bs) (y ∷ xs) b x same = ap (λ l. y ∷ l) (pick-push bs xs b x (omega arith))
-  pick-push (false ∷ bs) (y ∷ xs) b x same = pick-push bs xs b x (omega arith)
+  pick-push (c ∷ bs) (y ∷ xs) b x same = grind (arith, pick-push bs xs b x (omega arith))
 
   -- no more are picked than there are
   pick-few : (bs : List Bool) (xs : List A) → length (items_where_true bs xs) ≤ length xs
   pick-few [] xs = omega arith
   pick-few (b ∷ bs) [] = omega arith
-  pick-few (true ∷ bs) (x ∷ xs) = omega (arith, pick-few bs xs)
-  pick-few (false ∷ bs) (x ∷ xs) = omega (arith, pick-few bs xs)
+  pick-few (b ∷ bs) (x ∷ xs) = grind (arith, pick-few bs xs)
 
   -- a list that has items begins with the first of them
   next_in : (rest picked : List A) → 0 < length rest → (x : A) × (slice_get (rest ++ picked) 0 ≡ Some x) × (rest ≡ x ∷ drop 1 rest)
@@ -28,8 +26,7 @@ module _ {A : Type 0} where
   next_in (x ∷ rest) picked some = (x, refl, refl)
 
   within_limit : (old now : List A) (limit : Option ℕ) → IsWithin old limit → length now ≤ length old → keep_last limit now ≡ now
-  within_limit old now None within few = refl
-  within_limit old now (Some n) within few = keep_last_within (Some n) now (within.0, omega arith)
+  within_limit old now limit within few = keep_last_within limit now (grind arith)
 
 module _ {A P : Type 0} (R : P → A → Bool → P → Type 0) where
   -- one more answer

@@ -1,5 +1,6 @@
 -- Runs of commands in parts, and the places of their replies.
-use Rattle.ring_core.proofs.Words.{◌≡◌, ℕ, ◌-◌, ◌<◌, ◌≤◌, List, [], ◌∷◌, ◌++◌, length, map, set, replicate, Option, Some, None, refl, ap, arith, append-nil, append_assoc, suc, length-append, length-map, length-replicate, length_push, map-append, set_at, Command, Reply, Refused, after_one, after_all, reply_to, replies_to, places, IsRefused, LeavesPart}
+use Rattle.ring_core.proofs.Words.{◌≡◌, ℕ, ◌-◌, ◌<◌, ◌≤◌, List, [], ◌∷◌, ◌++◌, length, map, set, replicate, Option, Some, None, refl, ap, arith, append-nil, append_assoc, suc, length-map, length_push, map-append, set_at, Command, Reply, Refused, after_one, after_all, reply_to, replies_to, places, IsRefused, LeavesPart}
+use Rattle.std.proofs.lemmas.Grind.{common_steps}
 use Rattle.ring_core.specs.declared.command.Refused.TheVariants as refused
 
 module _ {T : Type 0} (limit : Option ℕ) where
@@ -20,8 +21,7 @@ module _ {T : Type 0} (limit : Option ℕ) where
 
 -- There are as many places as there should be, where the replies don't need more.
 pub length-places : {T : Type 0} (n : ℕ) (replies : List (Reply T)) → length replies ≤ n → length (places n replies) ≡ n
-length-places {T = T} n replies fit =
-    omega (arith, length-append (map Some replies) (replicate (n - length replies) None), length-map replies Some, length-replicate {A = Option (Reply T)} (n - length replies) None)
+length-places n replies fit = grind (arith, common_steps)
 
 -- The reply that follows goes into the next place.
 pub places-more : {T : Type 0} (n : ℕ) (replies : List (Reply T)) (r : Reply T) → length replies < n → set (places n replies) (length replies) (Some r) ≡ places n (replies ++ r ∷ [])

@@ -1,9 +1,9 @@
 -- How a step of a walk shortens what is still to come.
-use Rattle.ring_core.proofs.Words.{◌≡◌, ℕ, ◌+◌, ◌-◌, ◌<◌, ◌≤◌, ◌↔◌, min, List, [], ◌∷◌, ◌++◌, length, take, drop, Option, Some, None, MatchOption, map, slice_set, sym, ap, ◌∙◌, Bor, add-one, append-nil, arith, length-drop, slice_get, option_copied, option_to_list, drop-append-le, drop-drop, length-take, length-take-le, take_min, index_at, iterator_to_come, to_come, slice_get_cases}
+use Rattle.ring_core.proofs.Words.{◌≡◌, ℕ, ◌+◌, ◌-◌, ◌<◌, ◌≤◌, ◌↔◌, min, List, [], ◌∷◌, ◌++◌, length, take, drop, Option, Some, None, MatchOption, map, slice_set, ap, ◌∙◌, Bor, append-nil, arith, length-drop, slice_get, option_copied, option_to_list, drop-drop, length-take, index_at, iterator_to_come, to_come, slice_get_cases}
 use Rattle.std.proofs.lemmas.Grind.{common_steps}
 use Rattle.std.proofs.iter.Rest.{run_of_first_by, run_of_last_by}
 use Rattle.ring_core.specs.Walk.{ReadsInOrder, ReadsInReverse}
-use Rattle.ring_core.proofs.Items.{slice_get-drop, slice_get-take, take-suc_get}
+use Rattle.ring_core.proofs.Items.{slice_get-drop, slice_get-take}
 use Rattle.ring_core.proofs.Reading.{slice_get-index_at}
 
 -- the first item of a list, and then the others
@@ -39,11 +39,7 @@ module _ {A : Type 0} (xs : List A) (front back : ℕ) where
   -- the last item to come, after the others
   to_come-last : (last : ℕ) (o : Option A) → last + 1 ≡ min back (length xs) → front ≤ last → o ≡ slice_get xs (index_at (length xs) last)
       → to_come xs front back ≡ to_come xs front last ++ option_to_list o
-  to_come-last last o ends before read =
-      let item : slice_get xs last ≡ o = sym (read ∙ slice_get-index_at xs last (omega arith)) in
-      let cut : take back xs ≡ take last xs ++ option_to_list o = sym (take_min back xs) ∙ sym (ap (λ n. take n xs) ends) ∙ rw (add-one, ← item) (take-suc_get xs last) in
-      let kept : front ≤ length (take last xs) = omega (arith, length-take-le last xs (omega arith)) in
-      ap (drop front) cut ∙ drop-append-le front (take last xs) (option_to_list o) kept
+  to_come-last last o ends before read = grind (arith, common_steps, slice_get_cases, slice_get-index_at xs last)
 
   -- a step before the end finds an item, and an item is to come
   pub none-to_come : {P : Type 0} → (P → ⊥) → front < min back (length xs) → P ↔ (to_come xs front back ≡ [])
