@@ -2,7 +2,6 @@
 -- first held number on.
 use Rattle.ring_core.proofs.Words.{◌≡◌, ℕ, zero, suc, ◌+◌, ◌-◌, ◌*◌, ◌≤◌, ◌&&◌, max, nat_lt, if◌then◌else◌, List, [], ◌∷◌, ◌++◌, length, take, drop, map, slice_get, Option, Some, None, refl, sym, ap, ◌∙◌, add-one, add-zero, zero-add, append-nil, append_assoc, arith, length-append, length-drop, enumerate_from, filter_map, range_with_len, nat_tests, flat_map-append, slice_get_cases, drop-append_seam, drop-append-le, drop-drop, drop_all, drop_min, length-map, length_push, take-append-drop, take_all, take_at, Command, Push, Extend, Dequeue, Skip, Clear, ChangesSlots, IsWithin, keep_last, overwritten, after_all, after_one, puts, replies_to, reply_to, ChangesFewSlots, Step, pushes, takes, clears, all_items, contents_after, number, oldest, overwrites, overwritten_after, pushed, replies_of, reply_after, steps, steps_of}
 use Rattle.std.proofs.lemmas.Grind.{common_steps}
-use Rattle.ring_core.proofs.Items.{slice_get-drop}
 use Rattle.ring_core.proofs.Limits.{keep_last-keep_last, keep_last_within}
 use Rattle.ring_core.proofs.RunParts.{after_all-append}
 use Rattle.ring_core.proofs.HeldRange.{IsRoom, IsWithin-drop, IsRange-held, first, first_next, head-first, held_numbers-between, pushed-append, pushed-take_more, pushed_by, removed-first, between}
@@ -63,7 +62,7 @@ module _ {T : Type 0} (limit : Option ℕ) (start : List T) (ss : List (Step T))
   left_by-more k s rest at =
       let w = IsRange-held limit start ss within k in
       let so_far = all_items start (take k ss) in
-      let is : slice_get ss k ≡ Some s = sym (rw add-zero at (slice_get-drop k 0 ss)) ∙ ap (λ l. slice_get l 0) at in
+      let is : slice_get ss k ≡ Some s = grind (arith, common_steps, slice_get_cases) in
       let count : length so_far ≡ number start ss k = length-append start (pushed (take k ss)) in
       let more : all_items start (take (suc k) ss) ≡ so_far ++ pushed_by (Some s) = rw (pushed-take_more ss k, is, ← append_assoc) refl in
       rw (add-one, more, is) (drop-next limit (first limit start ss k) (number start ss k) so_far s count w.order w.room)
@@ -94,8 +93,7 @@ module _ {T : Type 0} (limit : Option ℕ) (start : List T) (ss : List (Step T))
       let n = length (steps_of c) in
       let here : drop k ss ≡ steps_of c ++ (steps cs ++ rest) = at ∙ append_assoc (steps_of c) (steps cs) rest in
       let after : drop (k + n) ss ≡ steps cs ++ rest = sym (drop-drop n k ss) ∙ ap (drop n) here ∙ drop-append_seam (steps_of c) (steps cs ++ rest) in
-      let sum : k + length (steps_of c ++ steps cs) ≡ k + n + length (steps cs) = omega (arith, length-append (steps_of c) (steps cs)) in
-      rw (sum, ← left_by-command k c (steps cs ++ rest) here) (left_by-commands (k + n) cs rest after)
+      grind (arith, length-append (steps_of c) (steps cs), left_by-command k c (steps cs ++ rest) here, left_by-commands (k + n) cs rest after)
 
   -- The oldest is the first of them.
   oldest-left : (k : ℕ) → oldest limit start ss k ≡ slice_get (left_by k) 0

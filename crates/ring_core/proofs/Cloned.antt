@@ -1,5 +1,6 @@
 -- What stands while clones of a list's items are pushed.
-use Rattle.ring_core.proofs.Words.{◌≡◌, ℕ, ◌+◌, ◌-◌, ◌<◌, ◌≤◌, List, [], ◌∷◌, ◌++◌, length, take, drop, min, Option, None, Some, IfSome, IsSome, OnOk, Result, Ok, Err, refl, append_assoc, set-append_seam, slice_set, get_or, ap, sym, ◌∙◌, arith, take_all, drop-drop, drop_min, length-append, length-drop, keep_last}
+use Rattle.ring_core.proofs.Words.{◌≡◌, ℕ, ◌+◌, ◌-◌, ◌<◌, ◌≤◌, List, [], ◌∷◌, ◌++◌, length, take, drop, Option, None, Some, IfSome, IsSome, OnOk, Result, Ok, Err, refl, append_assoc, set-append_seam, slice_set, get_or, ap, sym, ◌∙◌, arith, take_all, drop-drop, drop_min, length-drop, keep_last}
+use Rattle.std.proofs.lemmas.Grind.{common_steps}
 use Rattle.std.specs.Prelude.{IfOk}
 use Rattle.std.proofs.lemmas.List.{drop_more}
 use Rattle.std.proofs.lemmas.List.Elements.{same_from_all_zip}
@@ -13,9 +14,7 @@ keep_last-newest None over xs ys is = rw is refl
 keep_last-newest (Some n) over xs ys within =
     let newest = drop over ys in
     let cut = length (xs ++ newest) - n in let all_cut = length (xs ++ ys) - n in
-    let front : min cut (length xs) ≡ min all_cut (length xs) = omega (arith, length-append xs newest, length-append xs ys, length-drop over ys) in
-    let back : over + (cut - length xs) ≡ all_cut - length xs = omega (arith, length-append xs newest, length-append xs ys, length-drop over ys) in
-    sym (drop-append cut xs newest) ∙ rw (← drop_min cut xs, front, drop_min, drop-drop, back) (drop-append all_cut xs ys)
+    grind (arith, common_steps, drop-append cut xs newest, drop-append all_cut xs ys, drop_min cut xs, drop_min all_cut xs, drop-drop (cut - length xs) over ys)
 
 -- Nothing may always be passed over.
 pub none_over : {A : Type 0} (limit : Option ℕ) (items : List A) → IsOver limit items 0

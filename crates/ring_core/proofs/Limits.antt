@@ -15,9 +15,8 @@ pub keep_last-keep_last : {A : Type 0} (limit : Option ℕ) (xs ys : List A) →
 keep_last-keep_last None xs ys = refl
 keep_last-keep_last (Some n) xs ys =
     let cut = length xs - n in
-    let joined : drop cut xs ++ ys ≡ drop cut (xs ++ ys) = sym (drop-append-le cut xs ys (omega arith)) in
     let all_cut : cut + (length (drop cut (xs ++ ys)) - n) ≡ length (xs ++ ys) - n = omega (arith, length-drop cut (xs ++ ys), length-append xs ys) in
-    rw (joined, drop-drop, all_cut) refl
+    rw (← drop-append-le cut xs ys (omega arith), drop-drop, all_cut) refl
 
 -- a limit leaves of the answers of a function what the function answers to what it leaves of the list
 pub map-keep_last : {A B : Type 0} (f : A → B) (n : ℕ) (xs : List A) → map f (keep_last (Some n) xs) ≡ keep_last (Some n) (map f xs)

@@ -22,13 +22,6 @@ module _ {A B P : Type 0} (R : P → A → B → P → Type 0) where
   pub map_same : (p : P) (xs : List A) (ys : List B) → MapsEach R p xs ys → ByMap R p (λ f. ys ≡ map f xs)
   map_same p xs ys (calls, last, told, asked, made) = λ f same. sym made ∙ mapped f p same calls last told ∙ ap (map f) asked
 
-at_start : (n : ℕ) → n + 0 ≡ n
-at_start n = omega arith
-
--- what follows a list begins at its length
-slice_get-behind : {A : Type 0} (xs ys : List A) → slice_get (xs ++ ys) (length xs) ≡ slice_get ys 0
-slice_get-behind xs ys = grind (arith, common_steps, slice_get_cases)
-
 -- the oldest of the items that are left
 pub first_left : {A : Type 0} (xs now : List A) (n : ℕ) (o : Option (Bor A)) (x : Bor A) → now ≡ drop n xs → option_copied o ≡ slice_get now 0 → o ≡ Some x
     → slice_get xs n ≡ Some x.now
@@ -85,17 +78,13 @@ module _ {A P : Type 0} (R : P → A → A → P → Type 0) where
             ∙ rw (map-append (λ c. c.1) at.calls ((x, y) ∷ []), append_assoc) (rw add-one refl);
       }
 
-module _ {A : Type 0} (test : A → Bool) where
-  abbrev FirstFails : List A → Type 0
-  FirstFails xs = IfSome (slice_get xs 0) (λ x. test x ≡ false)
-
-  -- the first item after those that pass a test fails it
-  pub first_fails : (xs : List A) → FirstFails (drop (prefix_len test xs) xs)
-  first_fails [] = tt
-  first_fails (x ∷ xs) = elim (cases_Bool (test x)) [
-    | inl passes ↦ (let next : 1 + prefix_len test xs ≡ suc (prefix_len test xs) = omega arith in rw (passes, next) (first_fails xs))
-    | inr fails ↦ rw fails fails
-  ]
+-- the first item after those that pass a test fails it
+pub first_fails : {A : Type 0} (test : A → Bool) (xs : List A) → IfSome (slice_get (drop (prefix_len test xs) xs) 0) (λ x. test x ≡ false)
+first_fails test [] = tt
+first_fails test (x ∷ xs) = elim (cases_Bool (test x)) [
+  | inl passes ↦ (let next : 1 + prefix_len test xs ≡ suc (prefix_len test xs) = omega arith in rw (passes, next) (first_fails test xs))
+  | inr fails ↦ rw fails fails
+]
 
 module _ {A P : Type 0} (R : P → A → Bool → P → Type 0) where
   -- By induction: a test that calls leave as it was passes so many items as come before the first that fails it.
