@@ -48,52 +48,6 @@ fn move_newest<T: Drop, R: DoubleEndedRing<T>>(ring: &mut R, count: usize, items
     items
 }
 
-/// Moves the items from `start` up to `end` out, after a rotation that makes them the oldest.
-fn move_between_as_oldest<T: Drop, R: DoubleEndedRing<T>>(
-    ring: &mut R,
-    start: usize,
-    end: usize,
-    items: Vec<T>,
-) -> Vec<T>
-    requires order { start ≤ end }
-    requires within { end ≤ length (R.contents ring.old) }
-    requires empty { items.items ≡ [] }
-    requires room { vec_len items + (end - start) ≤ vec_capacity items }
-    ensures taken { result.items ≡ to_come (R.contents ring.old) start end }
-    ensures rest { R.contents ring.new ≡ remove_range (R.contents ring.old) start end }
-    ensures limit { R.limit ring.new ≡ R.limit ring.old }
-    ensures changes { Counts R.limit R.contents R.slot_changes ring.old ring.new (2 * start) }
-{
-    ring.rotate_left(start);
-    let items = move_oldest(ring, end - start, items);
-    ring.rotate_right(start);
-    items
-}
-
-/// Moves the items from `start` up to `end` out, after a rotation that makes them the newest.
-fn move_between_as_newest<T: Drop, R: DoubleEndedRing<T>>(
-    ring: &mut R,
-    start: usize,
-    end: usize,
-    items: Vec<T>,
-) -> Vec<T>
-    requires order { start ≤ end }
-    requires within { end ≤ length (R.contents ring.old) }
-    requires empty { items.items ≡ [] }
-    requires room { vec_len items + (end - start) ≤ vec_capacity items }
-    ensures taken { result.items ≡ to_come (R.contents ring.old) start end }
-    ensures rest { R.contents ring.new ≡ remove_range (R.contents ring.old) start end }
-    ensures limit { R.limit ring.new ≡ R.limit ring.old }
-    ensures changes { let after = length (R.contents ring.old) - end in
-        Counts R.limit R.contents R.slot_changes ring.old ring.new (2 * after) }
-{
-    let after = ring.len() - end;
-    ring.rotate_right(after);
-    let items = move_newest(ring, end - start, items);
-    ring.rotate_left(after);
-    items
-}
-
 /// Takes out all items, oldest first, in new memory.
 pub(crate) fn take_all<T: Drop, R: RingBuffer<T>>(
     ring: &mut R,
@@ -128,8 +82,8 @@ pub(crate) fn split_off<T: Drop, R: DoubleEndedRing<T>>(
     Ok(move_newest(ring, count, items))
 }
 
-/// Takes out the items from `start` up to `end`, in new memory. Rotates by the fewer of the items before and after, and not
-/// at all where nothing is taken out.
+/// Takes out the items from `start` up to `end`, in new memory. Rotates by the fewer of the items before and after, which
+/// makes them the oldest or the newest, and not at all where nothing is taken out.
 pub(crate) fn take_between<T: Drop, R: DoubleEndedRing<T>>(
     ring: &mut R,
     start: usize,
@@ -149,8 +103,15 @@ pub(crate) fn take_between<T: Drop, R: DoubleEndedRing<T>>(
     if start == end {
         Ok(items)
     } else if start <= ring.len() - end {
-        Ok(move_between_as_oldest(ring, start, end, items))
+        ring.rotate_left(start);
+        let items = move_oldest(ring, end - start, items);
+        ring.rotate_right(start);
+        Ok(items)
     } else {
-        Ok(move_between_as_newest(ring, start, end, items))
+        let after = ring.len() - end;
+        ring.rotate_right(after);
+        let items = move_newest(ring, end - start, items);
+        ring.rotate_left(after);
+        Ok(items)
     }
 }
