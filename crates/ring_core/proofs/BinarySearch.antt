@@ -1,5 +1,5 @@
 -- What a search among the items of a ring has found out.
-use Rattle.ring_core.proofs.Words.{◌≡◌, ℕ, ◌+◌, ◌<◌, ◌≤◌, Bool, true, false, List, [], ◌∷◌, length, slice_get, Some, sym, ◌∙◌, arith, false≢true, slice_get_within, get_or_from_slice_get}
+use Rattle.ring_core.proofs.Words.{◌≡◌, ℕ, ◌+◌, ◌<◌, Bool, true, false, List, [], ◌∷◌, length, slice_get, Some, arith, slice_get_within, get_or_from_slice_get}
 use denote.Param.Members.{Called, Mut}
 use Rattle.std.specs.Fn.{AlwaysReturns}
 use Rattle.std.specs.List.{AllWithin, HoldsAt}
@@ -11,9 +11,6 @@ use Rattle.std.proofs.Common.{Ordering, Less, Greater}
 pub answers_next : {F X R : Type 0} (g : Mut F X R) (P : X → R → Type 0) (f : F) (a : X) (r : R) (f' : F) → Called g f a r f' → AlwaysReturns g P f
     → P a r × AlwaysReturns g P f'
 answers_next g P f a r f' call always = ((always.at (a ∷ []) r f' call).0, record { at = λ more. (always.at (a ∷ more) r f' call).1 })
-
-false_unless : (b : Bool) → (b ≡ true → ⊥) → b ≡ false
-false_unless b never = grind arith
 
 module _ {A : Type 0} where
   -- the item read at a place is the one there
@@ -41,28 +38,19 @@ module _ {A : Type 0} where
     pub failed : p x ≡ false → Halves p xs low middle
     failed fails = record {
       below = at.below;
-      above = λ parted k d from to. false_unless _ (λ passes. false≢true (sym (holds_at (λ y. p y ≡ false) xs middle x read fails d) ∙ parted middle k d from to passes));
+      above = λ parted k d from to. grind (arith, holds_at (λ y. p y ≡ false) xs middle x read fails d, parted middle k d from to);
     }
-
-less_only : (a : Ordering) → is_lt a ≡ true → a ≡ Less
-less_only a lt = grind arith
-
-less_too : (a b : Ordering) → ordering_index a ≤ ordering_index b → is_lt b ≡ true → is_lt a ≡ true
-less_too a b rises lt = grind arith
-
-greater_too : (a b : Ordering) → ordering_index a ≤ ordering_index b → is_lt a ≡ false → is_eq a ≡ false → b ≡ Greater
-greater_too a b rises lt eq = grind arith
 
 -- i is the place of the first item that is not less than the one searched for, where the items rise
 module _ {A : Type 0} (order : A → Ordering) (xs : List A) (i : ℕ)
     (point : IsPartitionedBy (λ y. is_lt (order y)) xs → IsPartitionPoint (λ y. is_lt (order y) ≡ true) (λ y. is_lt (order y) ≡ false) xs i)
     (rise : IsNonDecreasingBy (λ y. ordering_index (order y)) xs) where
   parted : IsPartitionedBy (λ y. is_lt (order y)) xs
-  parted j k d upto in_range lt = less_too _ _ (rise j k d upto in_range) lt
+  parted j k d upto in_range lt = grind (arith, rise j k d upto in_range)
 
   pub less_before : AllWithin (λ y. order y ≡ Less) xs 0 i
-  less_before k d from to = less_only _ ((point parted).0 k d from to)
+  less_before k d from to = grind (arith, (point parted).0 k d from to)
 
   -- if the item there is not equal either, or there is none, all from there on are greater
   pub greater_from : (i < length xs → HoldsAt (λ y. is_eq (order y) ≡ false) xs i) → AllWithin (λ y. order y ≡ Greater) xs i (length xs)
-  greater_from unequal k d from to = greater_too _ _ (rise i k d from to) ((point parted).1 i d (omega arith) (omega arith)) (unequal (omega arith) d)
+  greater_from unequal k d from to = grind (arith, rise i k d from to, (point parted).1 i d (omega arith) (omega arith), unequal (omega arith) d)

@@ -73,10 +73,6 @@ IsRange-next limit set f n step w = record {
   is = λ i. grind (arith, nat_tests, w.is i, some_below-between set f n w.is i);
 }
 
--- The range's beginning never falls back, nor does it pass the number of the next push.
-first_next-bounds : {T : Type 0} (limit : Option ℕ) (f n : ℕ) (step : Option (Step T)) → f ≤ n → IsRoom limit f n → (f ≤ first_next limit n f step) × (first_next limit n f step ≤ n)
-first_next-bounds limit f n step order room = grind arith
-
 -- A push moves the range past the number that it overwrites, if the range still holds it, and past no other.
 moves-overwrites : {T : Type 0} (limit : Option ℕ) (f n i : ℕ) (x : T) → IsRoom limit f n → f ≤ i → (i < first_next limit n f (Some (pushes x))) ↔ IsTrue (overwrites limit n i)
 moves-overwrites limit f n i x room low = grind (arith, nat_tests)
@@ -136,7 +132,7 @@ module _ {T : Type 0} (limit : Option ℕ) (start : List T) (ss : List (Step T))
 
   -- One step moves the range's beginning on, at most to the number of the next push.
   first-suc : (k : ℕ) → (first limit start ss k ≤ first limit start ss (suc k)) × (first limit start ss (suc k) ≤ number start ss k)
-  first-suc k = first_next-bounds limit _ _ (slice_get ss k) (IsRange-held k).order (IsRange-held k).room
+  first-suc k = grind (arith, (IsRange-held k).order, (IsRange-held k).room)
 
   -- A step removes what it moves the range past.
   removes-between : (k i : ℕ) → removes limit start ss k i ≡ between (first limit start ss k) (first limit start ss (suc k)) i

@@ -117,11 +117,7 @@ module _ {A P : Type 0} (R : P → A → Bool → P → Type 0) where
       others = drop 1 at.asks.rest
 
       next : at.asks.rest ≡ x ∷ others
-      next =
-          let (y, is, begins) = next_in at.asks.rest (picked at.asks) (some_left at.asks more) in
-          let same : Some x ≡ Some y = sym first ∙ ap (λ l. slice_get l 0) at.left ∙ is in
-          let e : x ≡ y = cc in
-          rw e begins
+      next = grind (arith, at.left, next_in at.asks.rest (picked at.asks) (some_left at.asks more))
 
       taken : drop 1 now ≡ others ++ picked at.asks
       taken = ap (drop 1) at.left ∙ ap (λ l. drop 1 (l ++ picked at.asks)) next

@@ -1,9 +1,9 @@
 use Rattle.std.proofs.lemmas.Iterator.{YieldsList-from_slice}
 use Rattle.std.proofs.lemmas.Iterator.Consumers.{YieldsList-from_copied}
-use Rattle.ring_core.proofs.Words.{◌++◌, drop, ap, sym, ◌∙◌, rules, keep_last, map-id}
+use Rattle.ring_core.proofs.Words.{drop, ap, ◌∙◌, rules}
 use Rattle.ring_core.proofs.Callers.{held_on_ok}
 use Rattle.ring_core.proofs.Cloned.{keep_last-fitting}
-use Rattle.ring_core.proofs.SourceEnds.{shown_extended}
+use Rattle.ring_core.proofs.SourceEnds.{all_extended}
 use Rattle.ring_core.proofs.last_bytes.push_newest.Goals as goal
 
 -- The source gives the newest bytes, and the limit leaves of them what it leaves of all.
@@ -11,9 +11,9 @@ pub returns-then-newest-lt-FEW-clause-contents : goal.returns-then-newest-lt-FEW
 returns-then-newest-lt-FEW-clause-contents g c =
     let R = g.R.RingBuffer in let ring = c.args.ring.now in let newest = c.split_at.result.1.now in
     let (it, xs, source, kept, _, took) = c.extend.ensures.extends in
-    let given = sym (map-id xs) ∙ shown_extended xs c.extend.result (rw source at took) (c.extend.ensures.succeeds c.requires) (YieldsList-from_copied (YieldsList-from_slice newest (search rules))) in
+    let gives = YieldsList-from_copied (YieldsList-from_slice newest (search rules)) in
     let is = c.split_at.ensures.back ∙ ap (λ n. drop n c.args.bytes.now) c.saturating_sub.ensures in
-    kept ∙ ap (λ l. keep_last (R.limit ring) (R.contents ring ++ l)) given
+    held_on_ok c.extend.result (c.extend.ensures.succeeds c.requires) (all_extended xs (R.limit ring) (R.contents ring) _ c.extend.result kept (rw source at took) gives)
     ∙ keep_last-fitting (R.limit ring) c.capacity.result (R.contents ring) c.args.bytes.now newest c.requires c.capacity.ensures.value is
 
 -- Clones of the newest bytes are those bytes.
