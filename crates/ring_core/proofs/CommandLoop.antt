@@ -1,9 +1,9 @@
 -- A loop over commands: what holds at each turn, what one more command makes of it, and what follows at its end.
-use Rattle.ring_core.proofs.Words.{◌≡◌, ℕ, ◌+◌, ◌*◌, ◌<◌, ◌≤◌, List, [], ◌∷◌, ◌++◌, length, slice_get, take, Option, Some, IsSome, refl, ap, sym, ◌∙◌, append-nil, append_assoc, length-append, arith, flat_map-append, drop_all, length_push, take_at, Command, Refused, Reply, ChangesSlots, IsWithin, IsRefused, StopsAt, after_all, after_one, puts, replies_to, reply_to, ChangesFewSlots, all_items, contents_after, pushed, replies_of, steps, steps_of}
+use Rattle.ring_core.proofs.Words.{◌≡◌, ℕ, ◌+◌, ◌<◌, List, [], ◌∷◌, ◌++◌, length, slice_get, take, Option, Some, IsSome, refl, ap, ◌∙◌, append-nil, append_assoc, length-append, arith, flat_map-append, drop_all, length_push, take_at, Command, Refused, Reply, ChangesSlots, IsRefused, StopsAt, after_all, after_one, puts, replies_to, reply_to, pushed, steps, steps_of}
 use Rattle.ring_core.proofs.Items.{slice_get-at}
 use Rattle.ring_core.proofs.RunParts.{LeavesPart-refused, after_all-append, replies_to-append}
 use Rattle.ring_core.proofs.HeldRange.{pushed-append}
-use Rattle.ring_core.proofs.BothMeanings.{ChangesFewSlots-run, ChangesFewSlots-twice, contents_after-all, pushed-steps_of, replies_of-all}
+use Rattle.ring_core.proofs.BothMeanings.{pushed-steps_of}
 
 -- of all the commands some are done and the others to do, and the ring holds what those that are done leave
 pub record HasDone {T : Type 0} (limit : Option ℕ) (start : List T) (all done todo : List (Command T)) (at : ℕ) (limit' : Option ℕ) (now : List T) (before after : ℕ) : Type 0 where
@@ -12,16 +12,6 @@ pub record HasDone {T : Type 0} (limit : Option ℕ) (start : List T) (all done 
   pub same_limit : limit' ≡ limit
   pub left : now ≡ after_all limit start done
   pub changes : IsSome limit → ChangesSlots before start after now (length (pushed (steps done)))
-
--- all commands are done, and what they leave and answer is the same by lists and by item numbers
-pub record HasRun {T : Type 0} (limit : Option ℕ) (start : List T) (all done : List (Command T)) (now : List T) (before after : ℕ) : Type 0 where
-  pub whole : done ≡ all
-  pub left : now ≡ after_all limit start all
-  pub left_by_number : now ≡ contents_after limit start all
-  pub answers : replies_of limit start all ≡ replies_to limit start all
-  pub changes : IsSome limit → ChangesSlots before start after now (length (pushed (steps all)))
-  pub few : IsSome limit → ChangesFewSlots limit start (steps all) before after
-  pub twice : IsSome limit → after ≤ before + 2 * length (all_items start (steps all))
 
 module _ {T : Type 0} {limit : Option ℕ} {start : List T} {all done todo : List (Command T)} {at : ℕ} {limit' : Option ℕ} {now : List T} {before after : ℕ} where
   -- One more command is done.
@@ -44,22 +34,10 @@ module _ {T : Type 0} {limit : Option ℕ} {start : List T} {all done todo : Lis
       }
 
   -- Where none is to do, all are done.
-  pub HasDone-end : (n : ℕ) → HasDone limit start all done todo at limit' now before after → n ≡ length todo → n ≡ 0 → IsWithin start limit → HasRun limit start all done now before after
-  HasDone-end n h count none within =
+  pub HasDone-end : (n : ℕ) → HasDone limit start all done todo at limit' now before after → n ≡ length todo → n ≡ 0 → done ≡ all
+  HasDone-end n h count none =
       let empty : todo ≡ [] = drop_all 0 todo (omega arith) in
-      let whole : done ≡ all = rw (empty, append-nil) at h.parts in
-      let left : now ≡ after_all limit start all = rw (← whole) h.left in
-      let changes : IsSome limit → ChangesSlots before start after now (length (pushed (steps all))) = rw whole at h.changes in
-      let few = λ (some : IsSome limit). ChangesFewSlots-run limit start all within before after (rw (← left) (changes some)) in
-      record {
-        whole = whole;
-        left = left;
-        left_by_number = left ∙ sym (contents_after-all limit start all within);
-        answers = replies_of-all limit start all within;
-        changes = changes;
-        few = few;
-        twice = λ some. ChangesFewSlots-twice limit start all within before after (few some);
-      }
+      rw (empty, append-nil) at h.parts
 
   -- One more command is answered.
   pub replies_to-turn : (c : Command T) (r : Reply T) → HasDone limit start all done todo at limit' now before after → r ≡ reply_to limit' now c

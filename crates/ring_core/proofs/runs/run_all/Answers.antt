@@ -1,8 +1,8 @@
 -- One turn of the loop, its end, and its stop at a refusal.
-use Rattle.ring_core.proofs.Words.{◌≡◌, ◌-◌, ◌+◌, arith, suc, rules, steps, length, ap, sym, ◌∙◌}
+use Rattle.ring_core.proofs.Words.{◌≡◌, IsSome, ◌-◌, ◌+◌, arith, suc, rules, steps, length, ap, sym, ◌∙◌}
 use Rattle.ring_core.proofs.RunParts.{length-replies_to}
 use Rattle.ring_core.proofs.HeldRange.{KeepsToNumbers-held}
-use Rattle.ring_core.proofs.BothMeanings.{replies_of-all}
+use Rattle.ring_core.proofs.BothMeanings.{ChangesFewSlots-run, ChangesFewSlots-twice, contents_after-all, replies_of-all}
 use Rattle.ring_core.proofs.CommandLoop.{HasDone-end, HasDone-first, HasDone-next, HasDone-stops, HasDone-turn, replies_to-turn}
 use Rattle.ring_core.proofs.runs.run_all.Goals as goal
 
@@ -48,20 +48,22 @@ returns-in_default g c =
 pub returns : goal.returns
 returns g c =
     let so_far = c.loop-command.invariant in
-    let run = HasDone-end c.loop-command.command-iterator.rest.len so_far.done c.loop-command.command-iterator.rest.ok.0 c.in-None.ensures.steps.0 c.len.ensures.within in
-    let full : length c.args.commands.items - c.loop-command.at ≡ 0 = omega (arith, so_far.done.count, ap length run.whole) in
-    let answered = rw (run.whole, full) at so_far.answered in
+    let all = c.args.commands.items in let within = c.len.ensures.within in let rest = c.loop-command.command-iterator.rest in
+    let whole : c.loop-command.yielded ≡ all = HasDone-end rest.len so_far.done rest.ok.0 c.in-None.ensures.steps.0 in
+    let full : length all - c.loop-command.at ≡ 0 = omega (arith, so_far.done.count, ap length whole) in
+    let left = rw whole at so_far.done.left in
+    let few = λ (some : IsSome (g.R.RingBuffer.limit c.args.ring.now)). ChangesFewSlots-run _ _ all within _ _ (rw (whole, left) at so_far.done.changes some) in
     record {
       never_refused = search rules;
       same_limit = search rules;
-      in_turn = run.left;
-      contents = run.left_by_number;
-      replies = answered;
-      same_replies = run.answers;
-      numbers = KeepsToNumbers-held _ _ (steps c.args.commands.items) c.len.ensures.within;
-      changes = run.changes;
-      few_changes = run.few;
-      twice = run.twice;
+      in_turn = left;
+      contents = left ∙ sym (contents_after-all _ _ all within);
+      replies = rw (whole, full) at so_far.answered;
+      same_replies = replies_of-all _ _ all within;
+      numbers = KeepsToNumbers-held _ _ (steps all) within;
+      changes = rw whole at so_far.done.changes;
+      few_changes = few;
+      twice = λ some. ChangesFewSlots-twice _ _ all within _ _ (few some);
       stopped = tt;
       replies_before = tt;
     }
