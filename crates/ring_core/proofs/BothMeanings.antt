@@ -123,18 +123,14 @@ module _ {T : Type 0} (limit : Option ℕ) (start : List T) (cs : List (Command 
       let parts : steps cs ≡ steps done ++ steps todo = rw (← whole) (flat_map-append steps_of done todo) in
       sym (rw (zero-add, append-nil) at (left_by-commands limit start (steps cs) within 0 done (steps todo) parts))
 
-  -- All steps of the run.
-  all_steps : take (length (steps cs)) (steps cs) ≡ steps cs
-  all_steps = take_all (length (steps cs)) (steps cs) (omega arith)
-
   -- The next number after the run is the count of all the items.
   length-all_items : length (all_items start (steps cs)) ≡ number start (steps cs) (length (steps cs))
-  length-all_items = rw all_steps (length-append start (pushed (steps cs)))
+  length-all_items = grind (arith, common_steps)
 
   -- The run leaves the items from the first held number on.
   after_all-drop : after_all limit start cs ≡ drop (first limit start (steps cs) (length (steps cs))) (all_items start (steps cs))
   unfolding left_by
-  after_all-drop = rw all_steps at (after_all-left cs [] (append-nil cs))
+  after_all-drop = rw (take_all (length (steps cs)) (steps cs) (omega arith)) at (after_all-left cs [] (append-nil cs))
 
   -- A run leaves a list within the limit, as the range is.
   pub IsWithin-after_all : IsWithin (after_all limit start cs) limit

@@ -1,4 +1,5 @@
 use Rattle.ring_core.proofs.Words.{◌≡◌, ◌-◌, arith, length}
+use Rattle.std.proofs.lemmas.Grind.{common_steps}
 use Rattle.ring_core.proofs.Rotated.{first_rotated, last_rotated, others_rotated, rotated_back}
 use Rattle.ring_core.proofs.taking.take_between.Goals as goal
 
@@ -7,6 +8,9 @@ pub returns-then-start-len-clause-taken : goal.returns-then-start-len-clause-tak
 returns-then-start-len-clause-taken g c =
     let xs = g.R.RingBuffer.contents c.args.ring.now in
     rw (c.move_oldest-items.ensures.taken, c.rotate_left.ensures.items) (first_rotated xs c.args.start c.args.end c.requires.order c.requires.within)
+
+pub returns-then-start-len-clause-rest : goal.returns-then-start-len-clause-rest
+returns-then-start-len-clause-rest g c = grind (arith, common_steps)
 
 -- They are the newest after the other.
 pub returns-else-start-len-clause-taken : goal.returns-else-start-len-clause-taken

@@ -1,8 +1,16 @@
-use Rattle.ring_core.proofs.Words.{rules}
+use Rattle.ring_core.proofs.Words.{◌∙◌, ap, is_ok, rules}
+use Rattle.ring_core.proofs.Filling.{IsFilled-turn}
 use Rattle.ring_core.proofs.ring.RingBuffer.fill.Goals as goal
 
 pub loop-init : goal.loop-init
 loop-init g c = search rules
+
+pub loop-preserved : goal.loop-preserved
+loop-preserved g c =
+    let (filled, limit) = c.loop.invariant in
+    let pushed = rw limit at c.push.ensures.ok (ap is_ok c.in_default.is) in
+    let more = rw limit at c.push.ensures.changes in
+    (IsFilled-turn filled c.in_ok-clone.field-0 _ _ c.in_ok-clone.ensures.cases (search rules) pushed more, c.push.ensures.limit ∙ limit)
 
 pub returns-in-Err : goal.returns-in-Err
 returns-in-Err g c = search rules
