@@ -27,10 +27,8 @@ drop-append (suc n) (x ∷ xs) ys = let rest : suc n - suc (length xs) ≡ n - l
 -- two pairs of lists, one after the other
 pub AllZip-join : {A B : Type 0} (R : A → B → Type 0) (xs xs' : List A) (ys ys' : List B) → AllZip R xs ys → AllZip R xs' ys'
     → AllZip R (xs ++ xs') (ys ++ ys')
-AllZip-join R [] xs' [] ys' all more = more
-AllZip-join R [] xs' (y ∷ ys) ys' all more = absurd all
-AllZip-join R (x ∷ xs) xs' [] ys' all more = absurd all
-AllZip-join R (x ∷ xs) xs' (y ∷ ys) ys' all more = (all.0, AllZip-join R xs xs' ys ys' all.1 more)
+AllZip-join R [] xs' ys ys' all more = grind (arith, common_steps)
+AllZip-join R (x ∷ xs) xs' ys ys' all more = grind (arith, AllZip-join R xs xs' (drop 1 ys) ys')
 
 -- One item more, if there is one.
 pub take-suc_get : {A : Type 0} (xs : List A) (k : ℕ) → take (suc k) xs ≡ take k xs ++ option_to_list (slice_get xs k)

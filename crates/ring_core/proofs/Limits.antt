@@ -1,5 +1,5 @@
 -- What follows of a limit on a list.
-use Rattle.ring_core.proofs.Words.{false≢true, ◌≡◌, ℕ, ◌+◌, ◌-◌, ◌<◌, List, [], ◌∷◌, ◌++◌, length, map, drop, Option, None, Some, IfSome, IsSome, refl, slice_set, negsuc, ◌≤◌, option_to_list, ◌∙◌, sym, arith, length-append, length-drop, zero-mod, set-append_seam, drop-append-le, drop-drop, drop-map, length-map, IsWithin, keep_last, overwritten, signed_index_at, slice_get_cases}
+use Rattle.ring_core.proofs.Words.{false≢true, ◌≡◌, ℕ, ◌+◌, ◌-◌, ◌<◌, List, [], ◌∷◌, ◌++◌, length, map, drop, Option, None, Some, IfSome, IsSome, refl, slice_set, negsuc, ◌≤◌, option_to_list, ◌∙◌, sym, arith, zero-mod, set-append_seam, drop-append-le, drop-drop, drop-map, length-map, IsWithin, keep_last, overwritten, signed_index_at, slice_get_cases}
 use Rattle.std.proofs.lemmas.Grind.{common_steps}
 
 -- a list within its limit loses nothing
@@ -14,9 +14,7 @@ keep_last-unlimited limit xs unlimited = grind (arith, common_steps)
 pub keep_last-keep_last : {A : Type 0} (limit : Option ℕ) (xs ys : List A) → keep_last limit (keep_last limit xs ++ ys) ≡ keep_last limit (xs ++ ys)
 keep_last-keep_last None xs ys = refl
 keep_last-keep_last (Some n) xs ys =
-    let cut = length xs - n in
-    let all_cut : cut + (length (drop cut (xs ++ ys)) - n) ≡ length (xs ++ ys) - n = omega (arith, length-drop cut (xs ++ ys), length-append xs ys) in
-    rw (← drop-append-le cut xs ys (omega arith), drop-drop, all_cut) refl
+    grind (arith, common_steps, drop-append-le (length xs - n) xs ys, drop-drop (length (xs ++ ys) - n - (length xs - n)) (length xs - n) (xs ++ ys))
 
 -- a limit leaves of the answers of a function what the function answers to what it leaves of the list
 pub map-keep_last : {A B : Type 0} (f : A → B) (n : ℕ) (xs : List A) → map f (keep_last (Some n) xs) ≡ keep_last (Some n) (map f xs)
@@ -28,10 +26,6 @@ keep_last_before : {A : Type 0} (limit : Option ℕ) (xs : List A) → IfSome li
 keep_last_before None xs above = (xs, λ x. refl)
 keep_last_before (Some n) xs above = (drop (length xs + 1 - n) xs, λ x. grind (arith, common_steps, drop-append-le (length xs + 1 - n) xs (x ∷ [])))
 
--- position -1 names the last of some items
-signed_index_at-newest : {A : Type 0} (before : List A) (x : A) → signed_index_at (length (before ++ x ∷ [])) (negsuc 0) ≡ length before
-signed_index_at-newest before x = rw (zero-mod (length (before ++ x ∷ []))) (omega (arith, length-append before (x ∷ [])))
-
 -- a limit that leaves an item is above zero
 above_zero : {A : Type 0} (limit : Option ℕ) (xs : List A) → (keep_last limit xs ≡ [] → ⊥) → IfSome limit (λ n. 0 < n)
 above_zero limit xs some = grind (arith, common_steps)
@@ -42,7 +36,7 @@ pub newest_replaced : {A : Type 0} (limit : Option ℕ) (xs now : List A) (x y :
 newest_replaced limit xs now x y pushed some =
     let above : IfSome limit (λ n. 0 < n) = above_zero limit (xs ++ x ∷ []) (λ none. some (pushed ∙ none)) in
     let (before, ends) = keep_last_before limit xs above in
-    rw (pushed, ends x, signed_index_at-newest before x, ends y) (set-append_seam before x [] y)
+    rw (pushed, ends x, ends y) (grind (arith, common_steps, set-append_seam before x [] y, zero-mod (length (before ++ x ∷ []))))
 
 -- what a push overwrites and what it leaves are the items and one more: with room nothing is overwritten, and else the first is
 pub overwritten-keep_last : {A : Type 0} (limit : Option ℕ) (xs : List A) (x : A) → IsWithin xs limit

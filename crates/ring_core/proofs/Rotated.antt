@@ -1,5 +1,5 @@
 -- What is at the ends of a list that was rotated, so that the items from one index up to another are its first or its last.
-use Rattle.ring_core.proofs.Words.{◌≡◌, ℕ, ◌+◌, ◌-◌, ◌≤◌, List, ◌++◌, length, take, drop, ap, sym, ◌∙◌, arith, length-append, length-drop, length-take-le, to_come}
+use Rattle.ring_core.proofs.Words.{◌≡◌, ℕ, ◌+◌, ◌-◌, ◌≤◌, List, ◌++◌, length, take, drop, ap, ◌∙◌, arith, length-append, length-drop, length-take-le, to_come}
 use Rattle.std.proofs.lemmas.Grind.{common_steps}
 use Rattle.std.specs.List.{remove_range}
 use Rattle.std.proofs.Math.Seq.{drop-append-add, take-append-add}
@@ -8,10 +8,7 @@ use Rattle.std.proofs.lemmas.List.{drop-take, take-append-le, take-take}
 module _ {A : Type 0} (xs : List A) (start end : ℕ) (order : start ≤ end) (within : end ≤ length xs) where
   -- They are the first once those before them were moved after them.
   pub first_rotated : take (end - start) (drop start xs ++ take start xs) ≡ to_come xs start end
-  first_rotated =
-      let all : start + (end - start) ≡ end = omega arith in
-      take-append-le (end - start) (drop start xs) (take start xs) (omega (arith, length-drop start xs))
-      ∙ sym (rw all at (drop-take start (end - start) xs))
+  first_rotated = grind (arith, common_steps, drop-take start (end - start) xs, take-append-le (end - start) (drop start xs) (take start xs))
 
   -- They are the last once those after them were moved before them, and so many come before them.
   before_last : length (drop end xs ++ take end xs) - (end - start) ≡ length (drop end xs) + start

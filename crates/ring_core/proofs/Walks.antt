@@ -1,9 +1,8 @@
 -- How a step of a walk shortens what is still to come.
-use Rattle.ring_core.proofs.Words.{◌≡◌, ℕ, ◌+◌, ◌-◌, ◌<◌, ◌≤◌, ◌↔◌, min, List, [], ◌∷◌, ◌++◌, length, take, drop, Option, Some, None, MatchOption, map, slice_set, ap, ◌∙◌, Bor, append-nil, arith, length-drop, slice_get, option_copied, option_to_list, drop-drop, length-take, index_at, iterator_to_come, to_come, slice_get_cases}
+use Rattle.ring_core.proofs.Words.{◌≡◌, ℕ, ◌+◌, ◌-◌, ◌<◌, ◌≤◌, ◌↔◌, min, List, [], ◌∷◌, ◌++◌, length, take, drop, Option, Some, None, MatchOption, map, slice_set, ap, Bor, append-nil, arith, slice_get, option_copied, option_to_list, drop-drop, index_at, iterator_to_come, to_come, slice_get_cases}
 use Rattle.std.proofs.lemmas.Grind.{common_steps}
 use Rattle.std.proofs.iter.Rest.{run_of_first_by, run_of_last_by}
 use Rattle.ring_core.specs.Walk.{ReadsInOrder, ReadsInReverse}
-use Rattle.ring_core.proofs.Items.{slice_get-drop, slice_get-take}
 use Rattle.ring_core.proofs.Reading.{slice_get-index_at}
 
 -- the first item of a list, and then the others
@@ -22,14 +21,12 @@ module _ {T RB : Type 0} (contents : RB → List T) where
 module _ {A : Type 0} (xs : List A) (front back : ℕ) where
   -- how many items are to come
   pub length-to_come : length (to_come xs front back) ≡ min back (length xs) - front
-  length-to_come = length-drop front (take back xs) ∙ ap (λ n. n - front) (length-take back xs)
+  length-to_come = grind (arith, common_steps)
 
   -- what a position before the end names is the item to come that is so far after the front
   pub slice_get-to_come : (i j : ℕ) (o : Option A) → front + i ≡ j → j < min back (length xs) → o ≡ slice_get xs (index_at (length xs) j)
       → o ≡ slice_get (to_come xs front back) i
-  slice_get-to_come i j o at before read =
-      let item : slice_get (take back xs) j ≡ slice_get xs j = slice_get-take back j xs (omega arith) in
-      rw (slice_get-drop, at, item) (read ∙ slice_get-index_at xs j (omega arith))
+  slice_get-to_come i j o at before read = grind (arith, common_steps, slice_get_cases, slice_get-index_at xs j)
 
   -- `next` by `get`
   pub to_come-next : (r : Option (Bor A)) → front < min back (length xs) → option_copied r ≡ slice_get xs (index_at (length xs) front)

@@ -20,9 +20,7 @@ loop-preserved-then-not-keep g c =
       callable = search of_calls;
       limit = c.dequeue.ensures.limit ∙ at.limit;
       changes = λ some.
-          let before = at.changes some in
-          let taken = (rw at.limit at c.dequeue.ensures.changes) some in
-          (omega arith, omega (arith, ap length c.dequeue.ensures.rest, length-drop 1 (g.Self.RingBuffer.contents c.loop.self)));
+          grind (arith, at.changes some, (rw at.limit at c.dequeue.ensures.changes) some, ap length c.dequeue.ensures.rest, length-drop 1 (g.Self.RingBuffer.contents c.loop.self));
     }
 
 pub loop-preserved : goal.loop-preserved
@@ -41,10 +39,9 @@ loop-preserved g c =
       callable = search of_calls;
       limit = c.push.ensures.limit ∙ limit;
       changes = λ some.
-          let before = at.changes some in
           let taken = (rw at.limit at c.dequeue.ensures.changes) some in
           let back = (rw limit at c.push.ensures.changes) some in
-          (omega arith, omega (arith, ap length pushed, length-append (drop 1 now) (item ∷ []), length-drop 1 now, ap length c.dequeue.ensures.rest));
+          (omega (arith, at.changes some), omega (arith, at.changes some, ap length pushed, length-append (drop 1 now) (item ∷ []), length-drop 1 now, ap length c.dequeue.ensures.rest));
     }
 
 pub returns-in-Err-clause-refused : goal.returns-in-Err-clause-refused
