@@ -174,7 +174,5 @@ module _ {T : Type 0} (limit : Option ℕ) (start : List T) (cs : List (Command 
   -- No more items were pushed or removed than there are.
   pub ChangesFewSlots-twice : (before after : ℕ) → ChangesFewSlots limit start (steps cs) before after → after ≤ before + 2 * length (all_items start (steps cs))
   ChangesFewSlots-twice before after (grows, most) =
-      let order = (IsRange-held limit start (steps cs) within (length (steps cs))).order in
-      let few = removed-first limit start (steps cs) within in
-      let sum = length-append start (pushed (steps cs)) in
-      omega (arith, length-all_items)
+      let ss = steps cs in
+      omega (arith, length-all_items, (IsRange-held limit start ss within (length ss)).order, removed-first limit start ss within, length-append start (pushed ss))

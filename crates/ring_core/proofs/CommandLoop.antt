@@ -21,16 +21,12 @@ module _ {T : Type 0} {limit : Option ℕ} {start : List T} {all done todo : Lis
   HasDone-turn c rest limit'' next later h first same is more =
       let pushes : pushed (steps (done ++ c ∷ [])) ≡ pushed (steps done) ++ puts c =
       rw (flat_map-append steps_of done (c ∷ []), append-nil, pushed-append, pushed-steps_of c) refl in
-      let sum = length-append (pushed (steps done)) (puts c) in
       record {
         parts = rw (append_assoc, ← first) h.parts;
         count = rw length_push (ap (λ n. n + 1) h.count);
         same_limit = same ∙ h.same_limit;
         left = rw (after_all-append limit start done (c ∷ []), ← h.left, ← h.same_limit) is;
-        changes = λ some.
-            let so_far = h.changes some in
-            let here = more (rw h.same_limit some) in
-            rw pushes (omega arith, omega arith);
+        changes = λ some. rw pushes (grind (arith, h.changes some, more (rw h.same_limit some), length-append (pushed (steps done)) (puts c)));
       }
 
   -- Where none is to do, all are done.

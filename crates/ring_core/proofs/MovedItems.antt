@@ -22,8 +22,5 @@ HasMoved-turn {rest = rest} h x next c first pushed more = record {
   moved = h.moved ++ x ∷ [];
   parts = rw (append_assoc, ← first-others rest x first) h.parts;
   left = pushed ∙ rw (h.left, keep_last-keep_last, append_assoc) refl;
-  changes = λ some.
-      let so_far = h.changes some in
-      let here = more some in
-      (omega arith, omega (arith, length-append h.moved (x ∷ [])));
+  changes = λ some. grind (arith, h.changes some, more some, length-append h.moved (x ∷ []));
 }

@@ -25,9 +25,6 @@ module _ {A : Type 0} where
   next_in [] picked some = absurd (omega arith)
   next_in (x ∷ rest) picked some = (x, refl, refl)
 
-  within_limit : (old now : List A) (limit : Option ℕ) → IsWithin old limit → length now ≤ length old → keep_last limit now ≡ now
-  within_limit old now limit within few = keep_last_within limit now (grind arith)
-
 module _ {A P : Type 0} (R : P → A → Bool → P → Type 0) where
   -- one more answer
   returns-push : (p q u : P) (bs : List Bool) (xs : List A) (b : Bool) (x : A) → length bs ≡ length xs → ReturnsInTurn R p bs xs q → R q x b u
@@ -138,4 +135,7 @@ module _ {A P : Type 0} (R : P → A → Bool → P → Type 0) where
 
       -- a limit leaves the item that is put back
       pub put_back : (limit : Option ℕ) → IsWithin old limit → keep_last limit (drop 1 now ++ x ∷ []) ≡ drop 1 now ++ x ∷ []
-      put_back limit within = within_limit old _ limit within (omega (arith, ap length taken, length-append others (picked at.asks), length-append (drop 1 now) (x ∷ []), ap length (parts_next at.asks x next), length-append at.asks.asked (x ∷ others), pick-few at.asks.answers at.asks.asked))
+      put_back limit within =
+          let few : length (drop 1 now ++ x ∷ []) ≤ length old =
+          omega (arith, ap length taken, length-append others (picked at.asks), length-append (drop 1 now) (x ∷ []), ap length (parts_next at.asks x next), length-append at.asks.asked (x ∷ others), pick-few at.asks.answers at.asks.asked) in
+          keep_last_within limit _ (grind arith)
