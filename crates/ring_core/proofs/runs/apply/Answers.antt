@@ -29,3 +29,6 @@ returns-in-Dequeue-clause-contents g c = search rules
 
 pub returns-in-Dequeue-clause-reply : goal.returns-in-Dequeue-clause-reply
 returns-in-Dequeue-clause-reply g c = search rules
+
+pub returns-in-Ok : goal.returns-in-Ok
+returns-in-Ok g c = search rules
