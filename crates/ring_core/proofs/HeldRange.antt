@@ -1,5 +1,5 @@
 -- The numbers held after each step are a range: those from some number on, up to the last that was pushed.
-use Rattle.ring_core.proofs.Words.{◌≡◌, ℕ, zero, suc, ◌+◌, ◌-◌, ◌<◌, ◌≤◌, min, max, Bool, ◌&&◌, nat_lt, nat_le, List, [], ◌∷◌, ◌++◌, length, take, drop, filter, slice_get, Option, Some, None, IfSome, IsTrue, ◌↔◌, refl, inl, inr, ap, ◌∙◌, add-one, add-zero, zero-add, append-nil, arith, length-append, range_with_len, option_to_list, filter-append, map-id, IfSome_then, cases_Bool, cases_lt, nat_tests, IsWithin, IsLeft, IsPush, KeepsToNumbers, Step, pushes, takes, clears, held, held_numbers, held_next, head, least, number, overwrites, pushed, removed, removes, some_below}
+use Rattle.ring_core.proofs.Words.{◌≡◌, ℕ, zero, suc, ◌+◌, ◌-◌, ◌<◌, ◌≤◌, min, max, Bool, ◌&&◌, nat_lt, nat_le, List, [], ◌∷◌, ◌++◌, length, take, drop, filter, slice_get, Option, Some, None, IfSome, IsTrue, ◌↔◌, refl, inl, inr, ap, ◌∙◌, add-one, zero-add, append-nil, arith, length-append, range_with_len, option_to_list, filter-append, map-id, IfSome_then, cases_Bool, cases_lt, nat_tests, IsWithin, IsLeft, IsPush, KeepsToNumbers, Step, pushes, takes, clears, held, held_numbers, held_next, head, least, number, overwrites, pushed, removed, removes, some_below}
 use Rattle.std.proofs.lemmas.Grind.{common_steps}
 use Rattle.std.proofs.lemmas.List.FromFn.{length-range_with_len, map-range_with_len_more}
 use Rattle.ring_core.proofs.Items.{take-suc_get}
@@ -113,8 +113,7 @@ module _ {T : Type 0} (limit : Option ℕ) (start : List T) (ss : List (Step T))
 
   -- By induction on the number of steps.
   pub IsRange-held : (k : ℕ) → IsRange limit (held limit start ss k) (first limit start ss k) (number start ss k)
-  IsRange-held zero =
-      record { order = omega arith; room = rw add-zero ((IsWithin-drop limit 0 start).0 within); is = λ i. grind (arith, nat_tests) }
+  IsRange-held zero = record { order = omega arith; room = grind arith; is = λ i. grind (arith, nat_tests) }
   IsRange-held (suc k) = rw (number-suc k) (IsRange-next limit _ _ _ (slice_get ss k) (IsRange-held k))
 
   -- The least of a range's numbers is its first.

@@ -1,5 +1,5 @@
 -- What follows of a limit on a list.
-use Rattle.ring_core.proofs.Words.{false≢true, ◌≡◌, ℕ, ◌+◌, ◌-◌, ◌<◌, List, [], ◌∷◌, ◌++◌, length, map, drop, Option, None, Some, IfSome, IsSome, refl, slice_set, negsuc, ◌≤◌, option_to_list, ◌∙◌, sym, arith, zero-mod, set-append_seam, drop-append-le, drop-drop, drop-map, length-map, IsWithin, keep_last, overwritten, signed_index_at, slice_get_cases}
+use Rattle.ring_core.proofs.Words.{false≢true, ◌≡◌, ℕ, ◌+◌, ◌-◌, ◌<◌, List, [], ◌∷◌, ◌++◌, length, map, drop, Option, None, Some, IfSome, IsSome, refl, slice_set, negsuc, ◌≤◌, option_to_list, sym, arith, zero-mod, set-append_seam, drop-append-le, drop-drop, drop-map, length-map, IsWithin, keep_last, overwritten, signed_index_at, slice_get_cases}
 use Rattle.std.proofs.lemmas.Grind.{common_steps}
 
 -- a list within its limit loses nothing
@@ -26,16 +26,11 @@ keep_last_before : {A : Type 0} (limit : Option ℕ) (xs : List A) → IfSome li
 keep_last_before None xs above = (xs, λ x. refl)
 keep_last_before (Some n) xs above = (drop (length xs + 1 - n) xs, λ x. grind (arith, common_steps, drop-append-le (length xs + 1 - n) xs (x ∷ [])))
 
--- a limit that leaves an item is above zero
-above_zero : {A : Type 0} (limit : Option ℕ) (xs : List A) → (keep_last limit xs ≡ [] → ⊥) → IfSome limit (λ n. 0 < n)
-above_zero limit xs some = grind (arith, common_steps)
-
 -- a write to the newest item after a push is as if the other item had been pushed
 pub newest_replaced : {A : Type 0} (limit : Option ℕ) (xs now : List A) (x y : A) → now ≡ keep_last limit (xs ++ x ∷ []) → (now ≡ [] → ⊥)
     → slice_set now (signed_index_at (length now) (negsuc 0)) y ≡ keep_last limit (xs ++ y ∷ [])
 newest_replaced limit xs now x y pushed some =
-    let above : IfSome limit (λ n. 0 < n) = above_zero limit (xs ++ x ∷ []) (λ none. some (pushed ∙ none)) in
-    let (before, ends) = keep_last_before limit xs above in
+    let (before, ends) = keep_last_before limit xs (grind (arith, common_steps)) in
     rw (pushed, ends x, ends y) (grind (arith, common_steps, set-append_seam before x [] y, zero-mod (length (before ++ x ∷ []))))
 
 -- what a push overwrites and what it leaves are the items and one more: with room nothing is overwritten, and else the first is
