@@ -20,14 +20,16 @@ pub returns-else-start-len-clause-taken : goal.returns-else-start-len-clause-tak
 returns-else-start-len-clause-taken g c =
     let xs = g.R.RingBuffer.contents c.args.ring.now in
     let others : length xs - (c.len-else-start-len.result - c.args.end) ≡ c.args.end = omega (arith, c.len-else-start-len.ensures.value, c.requires.within) in
-    rw (c.move_newest-items.ensures.taken, c.rotate_right-else-start-len.ensures.items, others) (last_rotated xs c.args.start c.args.end c.requires.order c.requires.within)
+    rw (c.move_newest-items.ensures.taken, c.rotate_right-else-start-len.ensures.items, others)
+    (last_rotated xs c.args.start c.args.end c.requires.order c.requires.within)
 
 pub returns-else-start-len-clause-rest : goal.returns-else-start-len-clause-rest
 returns-else-start-len-clause-rest g c =
     let xs = g.R.RingBuffer.contents c.args.ring.now in
     let others : length xs - (c.len-else-start-len.result - c.args.end) ≡ c.args.end = omega (arith, c.len-else-start-len.ensures.value, c.requires.within) in
     rw (c.rotate_left-else-start-len.ensures.items, c.move_newest-items.ensures.rest, c.rotate_right-else-start-len.ensures.items, others)
-    (rw (others_rotated xs c.args.start c.args.end c.requires.order c.requires.within) (rotated_back xs c.args.start c.args.end c.requires.order c.requires.within _ (omega (arith, c.len-else-start-len.ensures.value))))
+    (rw (others_rotated xs c.args.start c.args.end c.requires.order c.requires.within)
+    (rotated_back xs c.args.start c.args.end c.requires.order c.requires.within _ (omega (arith, c.len-else-start-len.ensures.value))))
 
 pub returns-else-start-len-clause-changes : goal.returns-else-start-len-clause-changes
 returns-else-start-len-clause-changes g c = search rules

@@ -16,11 +16,14 @@ loop-preserved-then-not-keep g c =
     let at = c.loop.invariant in
     let first = sym c.dequeue.ensures.value ∙ c.unwrap-item.ensures in
     record {
-      picks = rw c.dequeue.ensures.rest (rw append-nil at (turn _ at.picks (omega arith) c.unwrap-item.result first false _ (called_at g.F.FnMut c.keep.ensures c.if-not-keep.true)));
+      picks = rw c.dequeue.ensures.rest
+          (rw append-nil at (turn _ at.picks (omega arith) c.unwrap-item.result first false _ (called_at g.F.FnMut c.keep.ensures c.if-not-keep.true)));
       callable = search of_calls;
       limit = c.dequeue.ensures.limit ∙ at.limit;
       changes = λ some.
-          grind (arith, at.changes some, (rw at.limit at c.dequeue.ensures.changes) some, ap length c.dequeue.ensures.rest, length-drop 1 (g.Self.RingBuffer.contents c.loop.self));
+          let before = at.changes some in
+          let taken = (rw at.limit at c.dequeue.ensures.changes) some in
+          (omega arith, omega (arith, ap length c.dequeue.ensures.rest, length-drop 1 (g.Self.RingBuffer.contents c.loop.self)));
     }
 
 pub loop-preserved : goal.loop-preserved
@@ -39,9 +42,10 @@ loop-preserved g c =
       callable = search of_calls;
       limit = c.push.ensures.limit ∙ limit;
       changes = λ some.
+          let before = at.changes some in
           let taken = (rw at.limit at c.dequeue.ensures.changes) some in
           let back = (rw limit at c.push.ensures.changes) some in
-          (omega (arith, at.changes some), omega (arith, at.changes some, ap length pushed, length-append (drop 1 now) (item ∷ []), length-drop 1 now, ap length c.dequeue.ensures.rest));
+          (omega arith, omega (arith, ap length pushed, length-append (drop 1 now) (item ∷ []), length-drop 1 now, ap length c.dequeue.ensures.rest));
     }
 
 pub returns-in-Err-clause-refused : goal.returns-in-Err-clause-refused
