@@ -18,44 +18,46 @@ stretch_filled slots from count row size all (within, (xs, holds)) had i late lo
     let item = ap (λ (l : List (Option _)). get_or l k None) holds ∙ get_or-map_some xs k in let held = had.held i (omega arith) in
     grind (arith, slot, item, held, slice_get_cases xs k)
 
+-- what each slot reads once the last items have moved down
+module _ {X : Type 0} (slots : List (Option X)) (from to : ℕ) (some : from ≤ length slots) (order : to ≤ from) where
+  pub length-moved_down : length (moved_down slots from to) ≡ length slots
+  length-moved_down = grind (arith, common_steps)
+
+  pub moved_down-reads : (i : ℕ) → let count = length slots - from in (i < to → get_or (moved_down slots from to) i None ≡ get_or slots i None)
+      × (to ≤ i → i < to + count → get_or (moved_down slots from to) i None ≡ get_or slots (from + (i - to)) None)
+      × (to + count ≤ i → get_or (moved_down slots from to) i None ≡ None)
+  moved_down-reads i = (λ low. grind (arith, common_steps), λ late low. grind (arith, common_steps), λ late. grind (arith, common_steps))
+
+-- what each slot reads once they are brought to the first slots
+module _ {X : Type 0} (slots : List (Option X)) (from len : ℕ) (some : from ≤ length slots) (room : length slots - from + len ≤ from) where
+  pub length-brought : length (brought_first slots from len) ≡ length slots
+  length-brought = grind (arith, common_steps)
+
+  pub brought-reads : (i : ℕ) → let last = length slots - from in (i < last → get_or (brought_first slots from len) i None ≡ get_or slots (from + i) None)
+      × (last ≤ i → i < last + len → get_or (brought_first slots from len) i None ≡ get_or slots (i - last) None)
+      × (last + len ≤ i → get_or (brought_first slots from len) i None ≡ None)
+  brought-reads i = (λ low. grind (arith, common_steps), λ late low. grind (arith, common_steps), λ late. grind (arith, common_steps))
+
 -- slots that hold a row in which the last items were moved down have them there
 module _ {X : Type 0} (old new : List (Option X)) (before after : Row X) (size from to : ℕ) (all : size ≡ length old) (some : from < size) (order : to ≤ from)
     (full : IsFullStretch old from (size - from)) (had : HoldsRow old before size) (has : HoldsRow new after (to + (size - from))) where
   abbrev count : ℕ
   count = size - from
 
-  length-moved_down : length (moved_down old from to) ≡ size
-  length-moved_down = grind (arith, common_steps)
-
-  -- what each slot reads then
-  moved_down-reads : (i : ℕ) → (i < to → get_or (moved_down old from to) i None ≡ get_or old i None)
-      × (to ≤ i → i < to + count → get_or (moved_down old from to) i None ≡ get_or old (from + (i - to)) None)
-      × (to + count ≤ i → get_or (moved_down old from to) i None ≡ None)
-  moved_down-reads i = (λ low. grind (arith, common_steps), λ late low. grind (arith, common_steps), λ late. grind (arith, common_steps))
-
   pub is_moved_down : IsMoved before after from to count → SameItemsOutside before after to (to + count) → Filled (slots_filled after) to (to + count)
       → SameOutside false (slots_filled before) (slots_filled after) (min from to) (max from to + count) → SamePlaces before after → new ≡ moved_down old from to
   is_moved_down moved items filled outside places =
       let long = has.size in let long' = had.size in let same_count = places.count in let counts = before.ok.0 in let counts' = after.ok.0 in
       let d = last_item old size from some full in let was_filled = stretch_filled old from count before size all full had in
-      ext_get_or None new (moved_down old from to) (omega (arith, length-moved_down)) (λ i low.
+      ext_get_or None new (moved_down old from to) (omega (arith, length-moved_down old from to)) (λ i low.
       let k : ℕ = i - to in let held = λ (early : i < to + count). has.held i early in let was = had.held i (omega arith) in let was' = had.held (from + k) in
-      grind (arith, held, has.behind i, was, was', outside i, items d i, moved k d, was_filled (from + k), filled i, moved_down-reads i, slice_get-get_or))
+      grind (arith, held, has.behind i, was, was', outside i, items d i, moved k d, was_filled (from + k), filled i, moved_down-reads old from to (omega arith) order i, slice_get-get_or))
 
 -- slots that hold a row in which the last items were moved to the first slots, and those of the first `len` slots up after them, have them there
 module _ {X : Type 0} (old new : List (Option X)) (before between after : Row X) (size from len : ℕ) (all : size ≡ length old) (some : from < size) (room : size - from + len ≤ from)
     (full : IsFullStretch old from (size - from)) (full' : IsFullStretch old 0 len) (had : HoldsRow old before size) (has : HoldsRow new after (size - from + len)) where
   abbrev last : ℕ
   last = size - from
-
-  length-brought : length (brought_first old from len) ≡ size
-  length-brought = grind (arith, common_steps)
-
-  -- what each slot reads then
-  brought-reads : (i : ℕ) → (i < last → get_or (brought_first old from len) i None ≡ get_or old (from + i) None)
-      × (last ≤ i → i < last + len → get_or (brought_first old from len) i None ≡ get_or old (i - last) None)
-      × (last + len ≤ i → get_or (brought_first old from len) i None ≡ None)
-  brought-reads i = (λ low. grind (arith, common_steps), λ late low. grind (arith, common_steps), λ late. grind (arith, common_steps))
 
   module _ (moved : IsMoved before between 0 last len) (items : SameItemsOutside before between last (last + len)) (filled : Filled (slots_filled between) last (last + len)) (places : SamePlaces before between)
       (moved' : IsMoved between after from 0 last) (items' : SameItemsOutside between after 0 (0 + last)) (filled' : Filled (slots_filled after) 0 (0 + last))
@@ -81,4 +83,4 @@ module _ {X : Type 0} (old new : List (Option X)) (before between after : Row X)
     pub brought : new ≡ brought_first old from len
     brought =
         let long = has.size in
-        ext_get_or None new (brought_first old from len) (omega (arith, length-brought, counts, after.ok.0)) (λ i low. grind (arith, has.behind i, in_last i, in_first i, brought-reads i))
+        ext_get_or None new (brought_first old from len) (omega (arith, length-brought old from len, counts, after.ok.0)) (λ i low. grind (arith, has.behind i, in_last i, in_first i, brought-reads old from len (omega arith) (omega arith) i))

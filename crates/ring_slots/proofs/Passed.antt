@@ -3,6 +3,13 @@ use Rattle.ring_slots.proofs.Words.{◌≡◌, refl, sym, ap, ◌∙◌, List, [
 use Rattle.ring_slots.proofs.SlotsInMemory.{stretch_long}
 
 module _ {X : Type 0} where
+  -- as many items go on as stood there
+  pub as-many_up : (item over : X) (had has : List X) → passed_up item over had has → length has ≡ length had
+  as-many_up item over had has passed = omega (arith, ap length passed, length-append has (over ∷ []))
+
+  pub as-many_down : (item over : X) (had has : List X) → passed_down item over had has → length has ≡ length had
+  as-many_down item over had has passed = omega (arith, ap length passed, length-append had (item ∷ []))
+
   -- of full slots all but the last hold items, and so do all but the first
   but_last : (zs : List X) (ys : List (Option X)) (x : X) → map Some zs ≡ ys ++ Some x ∷ [] → (has : List X) × (ys ≡ map Some has) × (zs ≡ has ++ x ∷ [])
   but_last [] ys x same = absurd (omega (arith, ap length same, length-append ys (Some x ∷ [])))
@@ -26,9 +33,9 @@ module _ {X : Type 0} where
     pub passes_up : Some item ∷ take len (cut from cells) ≡ ys ++ Some x ∷ [] → Passes (record { slots = cells; changes = changes; capacity = cap }) (record { slots = new; changes = counted; capacity = cap }) from len (passed_up item x)
     passes_up put =
         let (has, are, all) = but_last (item ∷ full.1.0) ys x (ap (λ l. Some item ∷ l) (sym full.1.1) ∙ put) in
-        passes has (passed_up item) (omega (arith, ap length all, length-append has (x ∷ []))) are all
+        passes has (passed_up item) (as-many_up item x full.1.0 has all) are all
 
     pub passes_down : take len (cut from cells) ++ Some item ∷ [] ≡ Some x ∷ ys → Passes (record { slots = cells; changes = changes; capacity = cap }) (record { slots = new; changes = counted; capacity = cap }) from len (passed_down item x)
     passes_down put =
         let (has, are, all) = but_first (full.1.0 ++ item ∷ []) ys x (map-append Some full.1.0 (item ∷ []) ∙ ap (λ l. l ++ Some item ∷ []) (sym full.1.1) ∙ put) in
-        passes has (passed_down item) (omega (arith, ap length all, length-append full.1.0 (item ∷ []))) are all
+        passes has (passed_down item) (as-many_down item x full.1.0 has all) are all

@@ -1,150 +1,131 @@
 -- What slots of plain items show, once cells are written or marks change.
-use Rattle.ring_slots.proofs.Words.{set-get_or, passed_up, passed_down, drop-drop, take-append-drop, ◌≡◌, refl, sym, ap, ◌∙◌, Bool, true, false, List, [], ◌∷◌, ◌++◌, ℕ, zero, suc, ◌+◌, ◌<◌, ◌≤◌, arith, length, get_or, length-append, length-drop, length-replicate, length-take, replicate, set, take, cut, map, None, Some, IsSome, HoldsStretch, IsFullStretch, if◌then◌else◌, Passes, filled, shown}
-use Rattle.ring_slots.proofs.SlotsInMemory.{full_within, item_of, stretch_long}
+use Rattle.ring_slots.proofs.Words.{min, IsFullStretch, HoldsStretch, length-drop, length-map, length-replicate, length-take, slice_get-get_or, common_steps, ext_get_or, map, take, cut, ◌++◌, ◌≡◌, refl, sym, ap, ◌∙◌, Bool, true, false, List, [], ◌∷◌, ℕ, zero, suc, ◌+◌, ◌-◌, ◌<◌, ◌≤◌, arith, length, get_or, replicate, set, Option, None, Some, IsSome, if◌then◌else◌, Passes, Slots, filled, shown}
+use Rattle.std.proofs.lemmas.Bool.{cases_eq}
+use Rattle.std.proofs.lemmas.List.{get_or-drop, get_or-replicate, get_or-take}
+use Rattle.ring_slots.specs.cells.Lends.{PassesCells}
+use Rattle.ring_slots.specs.declared.copies.CopySlots.TheInside.{Inside}
+use Rattle.ring_slots.proofs.Filled.{first_item, filled-before, filled-in, filled-behind, get_or-map_some}
+use Rattle.ring_slots.proofs.SlotsInMemory.{stretch_long}
 
--- a list is what comes before a stretch of it, the stretch, and what comes after
-pub in_three : {A : Type 0} (xs : List A) (from n : ℕ) → xs ≡ take from xs ++ (take n (cut from xs) ++ cut (from + n) xs)
-in_three xs from n = sym (take-append-drop from xs) ∙ ap (λ l. take from xs ++ l) (sym (take-append-drop n (cut from xs)) ∙ rw (drop-drop n from xs) refl)
-
--- elements written over a stretch of others leave as many
+-- elements written over a stretch of others leave as many, and the others as they were
 pub length-over : {A : Type 0} (xs ys : List A) (from n : ℕ) → length ys ≡ n → from + n ≤ length xs → length (take from xs ++ (ys ++ cut (from + n) xs)) ≡ length xs
-length-over xs ys from n long low = omega (arith, length-append (take from xs) (ys ++ cut (from + n) xs), length-append ys (cut (from + n) xs), length-take from xs, length-drop (from + n) xs)
+length-over xs ys from n long room = grind (arith, common_steps)
+
+pub over-reads : {A : Type 0} (xs ys : List A) (from n i : ℕ) (d : A) → length ys ≡ n → from + n ≤ length xs → let over = take from xs ++ (ys ++ cut (from + n) xs) in
+    (i < from → get_or over i d ≡ get_or xs i d) × (from ≤ i → i < from + n → get_or over i d ≡ get_or ys (i - from) d) × (from + n ≤ i → get_or over i d ≡ get_or xs i d)
+over-reads xs ys from n i d long room = (λ low. grind (arith, common_steps), λ late low. grind (arith, common_steps), λ late. grind (arith, common_steps))
+
+-- marks once a stretch of them is set, and cells once a stretch of them is copied to another place
+pub marks-read : (fs : List Bool) (b : Bool) (from n i : ℕ) → from + n ≤ length fs → let over = take from fs ++ (replicate n b ++ cut (from + n) fs) in
+    (i < from → get_or over i false ≡ get_or fs i false) × (from ≤ i → i < from + n → get_or over i false ≡ b) × (from + n ≤ i → get_or over i false ≡ get_or fs i false)
+marks-read fs b from n i room =
+    let (before, within, behind) = over-reads fs (replicate n b) from n i false (length-replicate n b) room in (before, λ late low. within late low ∙ get_or-replicate n (i - from) b false (omega arith), behind)
+
+pub copy-reads : {A : Type 0} (xs : List A) (from to n i : ℕ) (d : A) → from + n ≤ length xs → to + n ≤ length xs → let over = take to xs ++ (take n (cut from xs) ++ cut (to + n) xs) in
+    (i < to → get_or over i d ≡ get_or xs i d) × (to ≤ i → i < to + n → get_or over i d ≡ get_or xs (from + (i - to)) d) × (to + n ≤ i → get_or over i d ≡ get_or xs i d)
+copy-reads xs from to n i d low room =
+    let (before, within, behind) = over-reads xs (take n (cut from xs)) to n i d (omega (arith, length-take n (cut from xs), length-drop from xs)) room in
+    (before, λ late early. within late early ∙ get_or-take n (cut from xs) (i - to) d (omega arith) ∙ get_or-drop from xs (i - to) d, behind)
 
 module _ {X : Type 0} where
-  pub shown-nil : (fs : List Bool) → shown {X = X} fs [] ≡ []
-  shown-nil [] = refl
-  shown-nil (f ∷ fs) = refl
+  pub length-shown : (fs : List Bool) (xs : List X) → length (shown fs xs) ≡ min (length fs) (length xs)
+  length-shown [] xs = omega arith
+  length-shown (f ∷ fs) [] = omega arith
+  length-shown (f ∷ fs) (x ∷ xs) = omega (arith, length-shown fs xs)
 
-  pub length-shown : (fs : List Bool) (xs : List X) → length fs ≡ length xs → length (shown fs xs) ≡ length xs
-  length-shown [] [] same = refl
-  length-shown [] (x ∷ xs) same = absurd (omega arith)
-  length-shown (f ∷ fs) [] same = absurd (omega arith)
-  length-shown (f ∷ fs) (x ∷ xs) same = ap suc (length-shown fs xs (omega arith))
+  -- a slot shows its cell's item where its mark is set
+  pub shown-at : (fs : List Bool) (xs : List X) (i : ℕ) (d : X) → i < length xs → get_or (shown fs xs) i None ≡ (if get_or fs i false then Some (get_or xs i d) else None)
+  shown-at fs [] i d low = absurd (omega arith)
+  shown-at [] (x ∷ xs) i d low = refl
+  shown-at (f ∷ fs) (x ∷ xs) zero d low = refl
+  shown-at (f ∷ fs) (x ∷ xs) (suc i) d low = shown-at fs xs i d (omega arith)
 
-  -- an item written into a cell whose mark is set to full
-  pub shown-put : (fs : List Bool) (xs : List X) (k : ℕ) (x : X) → shown (set fs k true) (set xs k x) ≡ set (shown fs xs) k (Some x)
-  shown-put [] xs k x = refl
-  shown-put (f ∷ fs) [] zero x = refl
-  shown-put (f ∷ fs) [] (suc k) x = refl
-  shown-put (f ∷ fs) (y ∷ xs) zero x = refl
-  shown-put (f ∷ fs) (y ∷ xs) (suc k) x = ap (λ l. (if f then Some y else None) ∷ l) (shown-put fs xs k x)
-
-  -- a mark set to empty
-  pub shown-take : (fs : List Bool) (xs : List X) (k : ℕ) → shown (set fs k false) xs ≡ set (shown fs xs) k None
-  shown-take [] xs k = refl
-  shown-take (f ∷ fs) [] zero = refl
-  shown-take (f ∷ fs) [] (suc k) = refl
-  shown-take (f ∷ fs) (y ∷ xs) zero = refl
-  shown-take (f ∷ fs) (y ∷ xs) (suc k) = ap (λ l. (if f then Some y else None) ∷ l) (shown-take fs xs k)
-
-  -- an item written into the cell of a full slot
-  pub shown-write : (fs : List Bool) (xs : List X) (k : ℕ) (x : X) → get_or fs k false ≡ true → shown fs (set xs k x) ≡ set (shown fs xs) k (Some x)
-  shown-write fs xs k x full = ap (λ l. shown l (set xs k x)) (sym (set-get_or fs k false) ∙ ap (set fs k) full) ∙ shown-put fs xs k x
-
-  -- a full slot has its mark, and its cell's item
-  pub mark-full : (fs : List Bool) (xs : List X) (k : ℕ) → IsSome (get_or (shown fs xs) k None) → get_or fs k false ≡ true
-  mark-full [] xs k full = cc
-  mark-full (f ∷ fs) [] k full = cc
-  mark-full (true ∷ fs) (x ∷ xs) zero full = refl
-  mark-full (false ∷ fs) (x ∷ xs) zero full = cc
-  mark-full (f ∷ fs) (x ∷ xs) (suc k) full = mark-full fs xs k full
-
-  pub full-item : (fs : List Bool) (xs : List X) (k : ℕ) (x : X) → IsSome (get_or (shown fs xs) k None) → x ≡ get_or xs k x → get_or (shown fs xs) k None ≡ Some x
-  full-item [] xs k x full is = cc
-  full-item (f ∷ fs) [] k x full is = cc
-  full-item (true ∷ fs) (y ∷ xs) zero x full is = ap Some (sym is)
-  full-item (false ∷ fs) (y ∷ xs) zero x full is = cc
-  full-item (f ∷ fs) (y ∷ xs) (suc k) x full is = full-item fs xs k x full is
-
-  pub shown-size : {n : ℕ} (fs : List Bool) (xs : List X) → (length xs ≡ n) × (length fs ≡ n) → length (shown fs xs) ≡ n
-  shown-size fs xs (long, marked) = length-shown fs xs (marked ∙ sym long) ∙ long
-
-  -- there is a cell where a slot is full
-  pub within : {n : ℕ} (fs : List Bool) (xs : List X) (k : ℕ) → (length xs ≡ n) × (length fs ≡ n) → IsSome (get_or (shown fs xs) k None) → k < n
-  within fs xs k sized full =
-      let (x, is) = item_of (get_or (shown fs xs) k None) full in let low = full_within (shown fs xs) k x is in omega (arith, low, shown-size fs xs sized)
-
-  -- a part of what is shown is what parts show
-  shown-cut : (n : ℕ) (fs : List Bool) (xs : List X) → cut n (shown fs xs) ≡ shown (cut n fs) (cut n xs)
-  shown-cut zero fs xs = refl
-  shown-cut (suc n) [] xs = refl
-  shown-cut (suc n) (f ∷ fs) [] = sym (shown-nil (cut n fs))
-  shown-cut (suc n) (f ∷ fs) (x ∷ xs) = shown-cut n fs xs
-
-  pub shown-front : (n : ℕ) (fs : List Bool) (xs : List X) → take n (shown fs xs) ≡ shown (take n fs) (take n xs)
-  shown-front zero fs xs = refl
-  shown-front (suc n) [] xs = refl
-  shown-front (suc n) (f ∷ fs) [] = refl
-  shown-front (suc n) (f ∷ fs) (x ∷ xs) = ap (λ l. (if f then Some x else None) ∷ l) (shown-front n fs xs)
-
-  pub shown-append : (es fs : List Bool) (xs ys : List X) → length es ≡ length xs → shown (es ++ fs) (xs ++ ys) ≡ shown es xs ++ shown fs ys
-  shown-append [] fs [] ys same = refl
-  shown-append [] fs (x ∷ xs) ys same = absurd (omega arith)
-  shown-append (e ∷ es) fs [] ys same = absurd (omega arith)
-  shown-append (e ∷ es) fs (x ∷ xs) ys same = ap (λ l. (if e then Some x else None) ∷ l) (shown-append es fs xs ys (omega arith))
+  -- slots that read so are what is shown
+  pub shown-is : (fs : List Bool) (xs : List X) (cs : List (Option X)) → length fs ≡ length xs → length cs ≡ length xs
+      → ((i : ℕ) (d : X) → i < length xs → get_or cs i None ≡ (if get_or fs i false then Some (get_or xs i d) else None)) → shown fs xs ≡ cs
+  shown-is fs xs cs same long reads =
+      let many = length-shown fs xs in ext_get_or None (shown fs xs) cs (omega arith) (λ i low.
+      let within : i < length xs = omega arith in let d = first_item xs (omega arith) in shown-at fs xs i d within ∙ sym (reads i d within))
 
   pub shown-all : (xs : List X) → shown (replicate (length xs) true) xs ≡ map Some xs
   shown-all [] = refl
   shown-all (x ∷ xs) = ap (λ l. Some x ∷ l) (shown-all xs)
 
-  -- cells whose marks are all set to empty
   pub shown-empty : (xs : List X) → shown (replicate (length xs) false) xs ≡ replicate (length xs) None
   shown-empty [] = refl
   shown-empty (x ∷ xs) = ap (λ l. None ∷ l) (shown-empty xs)
 
-  -- cells that are all shown have the items, and all their marks are set
-  all-shown : (fs : List Bool) (xs ys : List X) → length fs ≡ length xs → shown fs xs ≡ map Some ys → (fs ≡ replicate (length xs) true) × (xs ≡ ys)
-  all-shown [] [] [] same is = (refl, refl)
-  all-shown [] [] (y ∷ ys) same is = cc
-  all-shown [] (x ∷ xs) ys same is = absurd (omega arith)
-  all-shown (f ∷ fs) [] ys same is = absurd (omega arith)
-  all-shown (f ∷ fs) (x ∷ xs) [] same is = cc
-  all-shown (true ∷ fs) (x ∷ xs) (y ∷ ys) same is =
-      let (marks, items) = all-shown fs xs ys (omega arith) (ap (cut 1) is) in let first : Some x ≡ Some y = cc in (ap (λ l. true ∷ l) marks, cc)
-  all-shown (false ∷ fs) (x ∷ xs) (y ∷ ys) same is = let first : None ≡ Some y = cc in cc
+-- of slots with as many marks as cells
+module _ {X : Type 0} {n : ℕ} (s : Inside X n) (sized : (length s.cells.xs ≡ n) × (length s.marks.full ≡ n)) where
+  abbrev fs : List Bool
+  fs = s.marks.full
+
+  abbrev xs : List X
+  xs = s.cells.xs
+
+  abbrev pub seen : Slots X
+  seen = record { slots = shown fs xs; changes = s.changes.count; capacity = n }
+
+  pub size-shown : length (shown fs xs) ≡ n
+  size-shown = omega (arith, length-shown fs xs, sized)
+
+  pub size-seen : {now : Slots X} → seen ≡ now → length now.slots ≡ n
+  size-seen is = ap (λ (v : Slots X). length v.slots) (sym is) ∙ size-shown
+
+  -- there is a cell where a slot is full, and the slot shows its item, also one that is written there
+  module _ (k : ℕ) (full : IsSome (get_or (shown fs xs) k None)) where
+    pub within : k < n
+    within = let long = size-shown in grind (arith, common_steps)
+
+    pub full-item : (x : X) → x ≡ get_or xs k x → get_or (shown fs xs) k None ≡ Some x
+    full-item x is = let low = within in grind (arith, sized, shown-at fs xs k x)
+
+    pub shown-write : (x : X) → shown fs (set xs k x) ≡ set (shown fs xs) k (Some x)
+    shown-write x = let long = size-shown in shown-is _ _ _ (grind (arith, common_steps, sized)) (grind (arith, common_steps, sized)) (λ i d low. grind (arith, common_steps, sized, shown-at fs xs i d, cases_eq i k))
+
+  -- an item written into a cell whose mark is set to full, and a mark set to empty
+  pub shown-put : (k : ℕ) (x : X) → shown (set fs k true) (set xs k x) ≡ set (shown fs xs) k (Some x)
+  shown-put k x = let long = size-shown in shown-is _ _ _ (grind (arith, common_steps, sized)) (grind (arith, common_steps, sized)) (λ i d low. grind (arith, common_steps, sized, shown-at fs xs i d, cases_eq i k))
+
+  pub shown-take : (k : ℕ) → shown (set fs k false) xs ≡ set (shown fs xs) k None
+  shown-take k = let long = size-shown in shown-is _ _ _ (grind (arith, common_steps, sized)) (grind (arith, common_steps, sized)) (λ i d low. grind (arith, common_steps, sized, shown-at fs xs i d, cases_eq i k))
 
   -- items written over a stretch of cells, whose marks are set to full
-  pub shown-filled : (fs : List Bool) (xs : List X) (from : ℕ) (ys : List X) → length fs ≡ length xs
-      → shown (take from fs ++ (replicate (length ys) true ++ cut (from + length ys) fs)) (take from xs ++ (ys ++ cut (from + length ys) xs)) ≡ filled (shown fs xs) from ys
-  shown-filled fs xs from ys same =
-      let n = length ys in
-      let outer = shown-append (take from fs) (replicate n true ++ cut (from + n) fs) (take from xs) (ys ++ cut (from + n) xs) (omega (arith, length-take from fs, length-take from xs)) in
-      let inner = shown-append (replicate n true) (cut (from + n) fs) ys (cut (from + n) xs) (length-replicate n true) in
-      rw (outer, inner, shown-all ys, shown-front from fs xs, shown-cut (from + n) fs xs) refl
+  pub shown-filled : (from len : ℕ) (ys : List X) → length ys ≡ len → from + len ≤ n
+      → shown (take from fs ++ (replicate len true ++ cut (from + len) fs)) (take from xs ++ (ys ++ cut (from + len) xs)) ≡ filled (shown fs xs) from ys
+  shown-filled from len ys many low =
+      let long = size-shown in let room : from + length ys ≤ length (shown fs xs) = omega arith in let items = length-over xs ys from len many in
+      shown-is _ _ _ (grind (arith, common_steps, sized)) (grind (arith, common_steps, sized)) (λ i d inside.
+      let old = filled-before (shown fs xs) from ys room i in let new = filled-in (shown fs xs) from ys room i in let old' = filled-behind (shown fs xs) from ys room i in
+      grind (arith, sized, old, new, old', slice_get-get_or ys (i - from) d, shown-at fs xs i d, marks-read fs true from len i, over-reads xs ys from len i d))
 
-  module _ (fs : List Bool) (xs : List X) (from len : ℕ) (same : length fs ≡ length xs) (full : IsFullStretch (shown fs xs) from len) where
-    stretch : (take len (cut from fs) ≡ replicate (length (take len (cut from xs))) true) × (take len (cut from xs) ≡ full.1.0)
-    stretch =
-        let parts : take len (cut from (shown fs xs)) ≡ shown (take len (cut from fs)) (take len (cut from xs)) = rw (shown-cut from fs xs) (shown-front len (cut from fs) (cut from xs)) in
-        all-shown (take len (cut from fs)) (take len (cut from xs)) full.1.0
-        (omega (arith, length-take len (cut from fs), length-take len (cut from xs), length-drop from fs, length-drop from xs)) (sym parts ∙ full.1.1)
-
-    -- a full stretch shows its cells
-    pub stretch-shown : HoldsStretch (shown fs xs) from len (take len (cut from xs))
-    stretch-shown = full.1.1 ∙ ap (map Some) (sym stretch.1)
-
+  module _ (from len : ℕ) (full : IsFullStretch (shown fs xs) from len) where
     pub cells-long : length (take len (cut from xs)) ≡ len
-    cells-long = stretch_long (shown fs xs) from len (take len (cut from xs)) full.0 stretch-shown
+    cells-long = omega (arith, full.0, size-shown, sized, length-take len (cut from xs), length-drop from xs)
 
-    pub stretch-marked : take len (cut from fs) ≡ replicate len true
-    stretch-marked = stretch.0 ∙ ap (λ k. replicate k true) cells-long
+    -- a full stretch has its marks, and shows its cells
+    pub marked-at : (k : ℕ) → k < len → get_or fs (from + k) false ≡ true
+    marked-at k low =
+        let long = size-shown in let many = stretch_long (shown fs xs) from len full.1.0 full.0 full.1.1 in
+        let held = ap (λ l. get_or l k None) full.1.1 in let d = first_item full.1.0 (omega arith) in
+        grind (arith, common_steps, sized, held, get_or-map_some full.1.0 k, slice_get-get_or full.1.0 k d, shown-at fs xs (from + k) d)
 
-    -- as many items are passed on as stood there
-    pub up-long : (ys : List X) (item over : X) → passed_up item over (take len (cut from xs)) ys → length ys ≡ len
-    up-long ys item over passed = omega (arith, cells-long, ap length passed, length-append ys (over ∷ []))
+    pub stretch-shown : HoldsStretch (shown fs xs) from len (take len (cut from xs))
+    stretch-shown =
+        let long = size-shown in let items = length-map (take len (cut from xs)) Some in
+        ext_get_or None (take len (cut from (shown fs xs))) (map Some (take len (cut from xs))) (grind (arith, common_steps, sized)) (λ i low.
+        let d = first_item xs (omega (arith, sized, full.0, length-take len (cut from (shown fs xs)))) in grind (arith, common_steps, sized, shown-at fs xs (from + i) d, marked-at i))
 
-    pub down-long : (ys : List X) (item over : X) → passed_down item over (take len (cut from xs)) ys → length ys ≡ len
-    down-long ys item over passed = omega (arith, cells-long, ap length passed, length-append (take len (cut from xs)) (item ∷ []))
+    -- items pass along it, each by one change: as many go on as stood there
+    module _ (passed : List X → List X → Type 0) (keeps : (had has : List X) → passed had has → length has ≡ length had) (marks : List Bool) (new : List X)
+        (marked : marks ≡ take from fs ++ (replicate len true ++ cut (from + len) fs)) (after : PassesCells xs new from len passed) where
+      many : length after.0 ≡ len
+      many = keeps (take len (cut from xs)) after.0 after.1 ∙ cells-long
 
-    -- items passed along it, each by one change
-    module _ (marks : List Bool) (new ys : List X) (long : length ys ≡ len)
-        (marked : marks ≡ take from fs ++ (replicate len true ++ cut (from + len) fs)) (written : new ≡ take from xs ++ (ys ++ cut (from + len) xs)) where
-      pub length-passed : (length new ≡ length xs) × (length marks ≡ length fs)
-      length-passed =
-          let low : from + len ≤ length xs = omega (arith, full.0, length-shown fs xs same) in
-          (rw written (length-over xs ys from len long low), rw marked (length-over fs (replicate len true) from len (length-replicate len true) (omega (arith, low, same))))
+      pub kept : (length new ≡ n) × (length marks ≡ n)
+      kept = let low = full.0 in let long = size-shown in let count = many in (rw after.2 (grind (arith, common_steps, sized)), rw marked (grind (arith, common_steps, sized)))
 
-      pub shown-passes : (passed : List X → List X → Type 0) → passed (take len (cut from xs)) ys → (cap changes counted : ℕ) → counted ≡ changes + len
-          → Passes (record { slots = shown fs xs; changes = changes; capacity = cap }) (record { slots = shown marks new; changes = counted; capacity = cap }) from len passed
-      shown-passes passed order cap changes counted count =
-          (take len (cut from xs), ys, stretch-shown, order, rw (marked, written, count, sym long) (λ i. record { slots = shown-filled fs xs from ys same i; changes = changes + length ys; capacity = cap }))
+      pub passes : (changes : ℕ) → changes ≡ s.changes.count + len → Passes seen (record { slots = shown marks new; changes = changes; capacity = n }) from len passed
+      passes changes count =
+          let slots = shown-filled from len after.0 many (omega (arith, full.0, size-shown)) in
+          (take len (cut from xs), after.0, stretch-shown, after.1, rw (marked, after.2, count) (λ i. record { slots = slots i; changes = s.changes.count + sym many i; capacity = n }))

@@ -3,9 +3,7 @@ use Rattle.ring_slots.proofs.Shown.{full-item, within}
 use Rattle.ring_slots.proofs.copies.CopySlotsRingSlots.get.Goals as goal
 
 pub at-requires : goal.at-requires
-at-requires g c = (search rules, within c.self.inside.marks.full c.self.inside.cells.xs c.args.place c.self.invariant (rw (sym c.self.view_is) at c.requires))
+at-requires g c = (search rules, within c.self.inside c.self.invariant c.args.place (rw (sym c.self.view_is) at c.requires))
 
 pub returns : goal.returns
-returns g c =
-    let full = rw (sym c.self.view_is) at c.requires in
-    rw (sym c.self.view_is) (full-item c.self.inside.marks.full c.self.inside.cells.xs c.args.place c.at.result.now full c.at.ensures)
+returns g c = rw (sym c.self.view_is) (full-item c.self.inside c.self.invariant c.args.place (rw (sym c.self.view_is) at c.requires) c.at.result.now c.at.ensures)

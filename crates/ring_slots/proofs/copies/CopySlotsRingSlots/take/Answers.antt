@@ -3,13 +3,12 @@ use Rattle.ring_slots.proofs.Shown.{full-item, shown-take, within}
 use Rattle.ring_slots.proofs.copies.CopySlotsRingSlots.take.Goals as goal
 
 pub at-requires : goal.at-requires
-at-requires g c = (search rules, within c.self.inside.marks.full c.self.inside.cells.xs c.args.place c.self.invariant (rw (sym c.self.view_is) at c.requires))
+at-requires g c = (search rules, within c.self.inside c.self.invariant c.args.place (rw (sym c.self.view_is) at c.requires))
 
 pub returns-clause-value : goal.returns-clause-value
-returns-clause-value g c =
-    let full = rw (sym c.self.view_is) at c.requires in
-    rw (sym c.self.view_is) (full-item c.self.inside.marks.full c.self.inside.cells.xs c.args.place c.at.result.now full c.at.ensures)
+returns-clause-value g c = rw (sym c.self.view_is) (full-item c.self.inside c.self.invariant c.args.place (rw (sym c.self.view_is) at c.requires) c.at.result.now c.at.ensures)
 
 pub returns-clause-after : goal.returns-clause-after
 returns-clause-after g c =
-    rw (sym c.self.view_is, c.set-self-inside.ensures) (λ i. record { slots = shown-take c.self.inside.marks.full c.self.inside.cells.xs c.args.place i; changes = c.after-self-inside.ensures i; capacity = g.row.CAP })
+    let slots = shown-take c.self.inside c.self.invariant c.args.place in
+    rw (sym c.self.view_is, c.set-self-inside.ensures) (λ i. record { slots = slots i; changes = c.after-self-inside.ensures i; capacity = g.row.CAP })
