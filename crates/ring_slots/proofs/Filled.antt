@@ -1,6 +1,6 @@
 -- What slots hold once items are put into a stretch of them.
-use Rattle.ring_slots.proofs.Words.{length-map, take_front, refilled, ◌≡◌, refl, ap, false, List, [], ◌∷◌, ◌++◌, ℕ, zero, suc, ◌+◌, ◌<◌, ◌≤◌, arith, length, get_or, take, cut, map, Option, None, Some, ext_get_or, common_steps, slice_get_cases, SamePlaces, slots_filled, slots_items, slots_len, Filled, SameOutside, ◌-◌, slice_get, Row, filled, HoldsRow}
-use mathlib.Core.Logic.{◌⊎◌}
+use Rattle.ring_slots.proofs.Words.{length-map, take_front, refilled, ◌≡◌, refl, ap, false, List, [], ◌∷◌, ◌++◌, ℕ, zero, suc, ◌+◌, ◌<◌, ◌≤◌, arith, length, get_or, take, cut, map, Option, None, Some, ext_get_or, common_steps, slice_get-get_or, SamePlaces, slots_filled, slots_items, Filled, SameOutside, ◌-◌, ◌∙◌, slice_get, Row, filled, HoldsRow}
+use Rattle.std.proofs.Common.{append_assoc}
 
 -- the first item of some
 pub first_item : {X : Type 0} (xs : List X) → 0 < length xs → X
@@ -12,6 +12,14 @@ pub get_or-map_some : {X : Type 0} (xs : List X) (i : ℕ) → get_or (map Some 
 get_or-map_some [] i = refl
 get_or-map_some (x ∷ xs) zero = refl
 get_or-map_some (x ∷ xs) (suc i) = get_or-map_some xs i
+
+-- elements written over a stretch of others leave as many, and the others as they were
+pub length-over : {A : Type 0} (xs ys : List A) (from n : ℕ) → length ys ≡ n → from + n ≤ length xs → length (take from xs ++ (ys ++ cut (from + n) xs)) ≡ length xs
+length-over xs ys from n long room = grind (arith, common_steps)
+
+pub over-reads : {A : Type 0} (xs ys : List A) (from n i : ℕ) (d : A) → length ys ≡ n → from + n ≤ length xs → let over = take from xs ++ (ys ++ cut (from + n) xs) in
+    (i < from → get_or over i d ≡ get_or xs i d) × (from ≤ i → i < from + n → get_or over i d ≡ get_or ys (i - from) d) × (from + n ≤ i → get_or over i d ≡ get_or xs i d)
+over-reads xs ys from n i d long room = (λ low. grind (arith, common_steps), λ late low. grind (arith, common_steps), λ late. grind (arith, common_steps))
 
 module _ {X : Type 0} (slots : List (Option X)) (from : ℕ) (xs : List X) (within : from + length xs ≤ length slots) where
   pub length-filled : length (filled slots from xs) ≡ length slots
@@ -33,21 +41,13 @@ refilled_is cs place ys =
     ap (λ l. take place cs ++ (l ++ cut (place + n) cs)) (take_front (map Some ys) (cut (length (map Some ys)) zs) n (omega (arith, length-map ys Some)))
 
 -- slots that hold a row into which items were copied have these items
-module _ {X : Type 0} (old new : List (Option X)) (before after : Row X) (size from : ℕ) (xs : List X) (all : size ≡ length old) (within : from + length xs ≤ length old)
-    (had : HoldsRow old before size) (has : HoldsRow new after size) where
-  abbrev spliced : List X → List X
-  spliced is = take from is ++ xs ++ cut (from + length xs) is
-
-  spliced_outside : (is : List X) → from + length xs ≤ length is → (i : ℕ) → (i < from) ⊎ (from + length xs ≤ i) → slice_get (spliced is) i ≡ slice_get is i
-  spliced_outside is room i other = grind (arith, common_steps, slice_get_cases)
-
-  spliced_in : (is : List X) → from + length xs ≤ length is → (i : ℕ) → from ≤ i → i < from + length xs → slice_get (spliced is) i ≡ slice_get xs (i - from)
-  spliced_in is room i late low = grind (arith, common_steps, slice_get_cases)
-
-  pub copied : slots_items after ≡ spliced (slots_items before) → Filled (slots_filled after) from (from + length xs)
-      → SameOutside false (slots_filled before) (slots_filled after) from (from + length xs) → SamePlaces before after → slots_len before ≡ length (slots_items before) → new ≡ filled old from xs
-  copied items full outside places counted =
-      let was_long = had.size in let is_long = has.size in let same = places.count in let is = slots_items before in
-      ext_get_or None new (filled old from xs) (omega (arith, length-filled old from xs within)) (λ i low.
-      let held = has.held i (omega arith) in let was = had.held i (omega arith) in let reads = ap (λ l. slice_get l i) items in
-      grind (arith, held, was, reads, spliced_outside is (omega arith) i, spliced_in is (omega arith) i, outside i, full i, filled-before old from xs within i, filled-in old from xs within i, filled-behind old from xs within i))
+pub copied : {X : Type 0} (old new : List (Option X)) (before after : Row X) (size from : ℕ) (xs : List X) → size ≡ length old → from + length xs ≤ length old → HoldsRow old before size → HoldsRow new after size → SamePlaces before after
+    → slots_items after ≡ take from (slots_items before) ++ xs ++ cut (from + length xs) (slots_items before) → Filled (slots_filled after) from (from + length xs)
+    → SameOutside false (slots_filled before) (slots_filled after) from (from + length xs) → new ≡ filled old from xs
+copied old new before after size from xs all within had has places items full outside =
+    let was_long = had.size in let is_long = has.size in let same = places.count in let counts = before.ok.0 in let counts' = after.ok.0 in
+    ext_get_or None new (filled old from xs) (omega (arith, length-filled old from xs within)) (λ i low.
+    let held = has.held i (omega arith) in let was = had.held i (omega arith) in let d = first_item (slots_items before) (omega arith) in
+    let front = filled-before old from xs within i in let inner = filled-in old from xs within i in let behind = filled-behind old from xs within i in
+    let reads = ap (λ l. get_or l i d) (items ∙ append_assoc (take from (slots_items before)) xs (cut (from + length xs) (slots_items before))) in
+    grind (arith, held, was, reads, slice_get-get_or, slice_get-get_or xs (i - from) d, over-reads (slots_items before) xs from (length xs) i d, outside i, full i, front, inner, behind))

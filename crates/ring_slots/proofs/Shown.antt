@@ -4,16 +4,8 @@ use Rattle.std.proofs.lemmas.Bool.{cases_eq}
 use Rattle.std.proofs.lemmas.List.{get_or-drop, get_or-replicate, get_or-take}
 use Rattle.ring_slots.specs.cells.Lends.{PassesCells}
 use Rattle.ring_slots.specs.declared.copies.CopySlots.TheInside.{Inside}
-use Rattle.ring_slots.proofs.Filled.{first_item, filled-before, filled-in, filled-behind, get_or-map_some}
+use Rattle.ring_slots.proofs.Filled.{filled-before, filled-behind, filled-in, first_item, get_or-map_some, length-over, over-reads}
 use Rattle.ring_slots.proofs.SlotsInMemory.{stretch_long}
-
--- elements written over a stretch of others leave as many, and the others as they were
-pub length-over : {A : Type 0} (xs ys : List A) (from n : ℕ) → length ys ≡ n → from + n ≤ length xs → length (take from xs ++ (ys ++ cut (from + n) xs)) ≡ length xs
-length-over xs ys from n long room = grind (arith, common_steps)
-
-pub over-reads : {A : Type 0} (xs ys : List A) (from n i : ℕ) (d : A) → length ys ≡ n → from + n ≤ length xs → let over = take from xs ++ (ys ++ cut (from + n) xs) in
-    (i < from → get_or over i d ≡ get_or xs i d) × (from ≤ i → i < from + n → get_or over i d ≡ get_or ys (i - from) d) × (from + n ≤ i → get_or over i d ≡ get_or xs i d)
-over-reads xs ys from n i d long room = (λ low. grind (arith, common_steps), λ late low. grind (arith, common_steps), λ late. grind (arith, common_steps))
 
 -- marks once a stretch of them is set, and cells once a stretch of them is copied to another place
 pub marks-read : (fs : List Bool) (b : Bool) (from n i : ℕ) → from + n ≤ length fs → let over = take from fs ++ (replicate n b ++ cut (from + n) fs) in

@@ -3,9 +3,9 @@ use Rattle.ring_slots.proofs.Words.{IsFullStretch, length-map, length-replicate,
 use Rattle.std.proofs.lemmas.List.{drop-map, take-map}
 use Rattle.ring_slots.specs.Slots.{IsEmptyStretch}
 use Rattle.ring_slots.specs.declared.copies.CopySlots.TheInside.{Inside}
-use Rattle.ring_slots.proofs.Filled.{get_or-map_some}
+use Rattle.ring_slots.proofs.Filled.{get_or-map_some, length-over, over-reads}
 use Rattle.ring_slots.proofs.MovedDown.{brought-reads, moved_down-reads}
-use Rattle.ring_slots.proofs.Shown.{cells-long, length-over, copy-reads, marked-at, marks-read, over-reads, shown-at, shown-is, size-shown, stretch-shown}
+use Rattle.ring_slots.proofs.Shown.{cells-long, copy-reads, marked-at, marks-read, shown-at, shown-is, size-shown, stretch-shown}
 
 -- cells once the last of them are copied to the first, whose items went up behind these before
 copies-read : {A : Type 0} (xs between new : List A) (from count len i : ℕ) (d : A) → from + count ≡ length xs → count + len ≤ from

@@ -1,5 +1,6 @@
 use Rattle.ring_slots.proofs.Words.{◌∙◌, refl, sym, arith, length, length-replicate, replicate, rules, true}
-use Rattle.ring_slots.proofs.Shown.{length-over, shown-filled, size-seen}
+use Rattle.ring_slots.proofs.Filled.{length-over}
+use Rattle.ring_slots.proofs.Shown.{shown-filled, size-seen}
 use Rattle.ring_slots.proofs.copies.CopySlots.put_copies.Goals as goal
 
 pub put_slice-requires : goal.put_slice-requires

@@ -1,5 +1,6 @@
 use Rattle.ring_slots.proofs.Words.{◌∙◌, refl, sym, arith, cut, length_refill, refill, rules, take}
-use Rattle.ring_slots.proofs.Shown.{cells-long, length-over, size-seen, stretch-shown}
+use Rattle.ring_slots.proofs.Filled.{length-over}
+use Rattle.ring_slots.proofs.Shown.{cells-long, size-seen, stretch-shown}
 use Rattle.ring_slots.proofs.ShownMoved.{shown-rewritten}
 use Rattle.ring_slots.proofs.copies.CopySlotsLendsRows.slice_mut.Goals as goal
 

@@ -1,4 +1,4 @@
-use Rattle.ring_slots.proofs.Words.{sym, arith, passed_up, rules}
+use Rattle.ring_slots.proofs.Words.{sym, arith, rules}
 use Rattle.ring_slots.proofs.Passed.{as-many_up}
 use Rattle.ring_slots.proofs.Shown.{kept, passes, size-seen}
 use Rattle.ring_slots.proofs.copies.CopySlotsRingSlots.pass_up.Goals as goal
@@ -8,10 +8,9 @@ pass_up-requires g c = (search rules, omega (arith, c.requires.0, size-seen c.se
 
 pub invariant_of-self : goal.invariant_of-self
 invariant_of-self g c =
-    let item = c.args.item in let over = c.pass_up.result in let full = rw (sym c.self.view_is) at c.requires in
-    kept c.self.inside c.self.invariant c.args.from c.args.len full (passed_up item over) (as-many_up item over) _ _ c.marked-self-inside.ensures c.pass_up.ensures
+    kept c.self.inside c.self.invariant c.args.from c.args.len (rw (sym c.self.view_is) at c.requires) _ (as-many_up c.args.item c.pass_up.result) _ _ c.marked-self-inside.ensures c.pass_up.ensures
 
 pub returns : goal.returns
 returns g c =
-    let item = c.args.item in let over = c.pass_up.result in let full = rw (sym c.self.view_is) at c.requires in
-    rw (sym c.self.view_is) (passes c.self.inside c.self.invariant c.args.from c.args.len full (passed_up item over) (as-many_up item over) _ _ c.marked-self-inside.ensures c.pass_up.ensures _ c.after-self-inside.ensures)
+    let full = rw (sym c.self.view_is) at c.requires in
+    rw (sym c.self.view_is) (passes c.self.inside c.self.invariant c.args.from c.args.len full _ (as-many_up c.args.item c.pass_up.result) _ _ c.marked-self-inside.ensures c.pass_up.ensures _ c.after-self-inside.ensures)
