@@ -1,13 +1,14 @@
 -- The cells of an array lie where their struct does: they are taken out of memory as items side by side, all or a stretch of
 -- them, and put back.
-use Rattle.ring_slots.proofs.Words.{ap, ◌++◌, ◌+◌, ◌≤◌, arith, length-take, length-drop, length-append, take, cut, take-append-drop, drop-drop, take_front, by, rewritten, ◌≡◌, refl, sym, List, [], ◌∷◌, ℕ, length, Args, a_type, a_number, Ura, ty_array, full_share, SProp, ent, sep, guard, wand, all_e, apply∗, Fml, fsep, feq, Logic, sem, cells, ‵, raw, ◌⊛◌, ◌$◌, ◌∵◌, !, qed, move, split, check, fsplit, fjoin, feq_l, feq_i, use1, use2, rewrite, done, mem, part_at, param, number, layout, layouts, ArrayAt, Laws, param_laws, number_array_laws, RattleType, Struct, Array}
+use Rattle.ring_slots.proofs.Words.{ap, ◌∙◌, ◌*◌, ◌++◌, ◌+◌, ◌≤◌, arith, length-take, length-drop, take, cut, take_front, by, rewritten, ◌≡◌, refl, sym, List, [], ◌∷◌, ℕ, length, Args, a_type, a_number, Ura, ty_array, full_share, SProp, ent, sep, guard, wand, all_e, apply∗, Fml, fsep, feq, Logic, sem, cells, ‵, raw, ◌⊛◌, ◌$◌, ◌∵◌, !, qed, move, split, check, fsplit, fjoin, feq_l, feq_i, use1, use2, rewrite, done, mem, part_at, param, number, layout, layouts, ArrayAt, Laws, param_laws, number_array_laws, RattleType, Struct, Array}
 use denote.ArrayMemory.{Array-apart, Array-whole}
 use denote.Index.{row, whole_in, whole_out}
-use borrow.Table.Elements.{at, cut_app, join_app}
 use denote.Struct.CellSteps.{only_out, BackTo}
 use denote.Struct.Declared.{shape}
 use denote.Struct.Members.{Member}
 use denote.Struct.Recorded.{Recorded-part}
+use Rattle.ring_slots.proofs.Filled.{length-over}
+use Rattle.ring_slots.proofs.Stretch.{around, stretch_out as taken_out, stretch_in as put_in}
 use Rattle.ring_slots.specs.contracts.cells.Cells.{the_row, the_type}
 
 module _ (X : RattleType) (n : ℕ) where
@@ -74,41 +75,22 @@ module _ (X : RattleType) (n : ℕ) {M : Type 1} {𝓤 : Ura M} (𝓛 : Logic �
   abbrev pub stretch : List X.Denot
   stretch = take len (cut from d.xs)
 
-  abbrev past : List X.Denot → ℕ → ℕ
-  past xs p = at p (mem R).size (length xs)
-
-  abbrev spot : ℕ
-  spot = at o (mem R).size from
-
   -- the cells outside the stretch, and the struct without its array
   abbrev pub Rest : SProp 𝓤
-  Rest = sep 𝓤 (sem 𝓛 (cells (mem R) (take from d.xs) b o)) (sep 𝓤 (sem 𝓛 (cells (mem R) (cut (from + len) d.xs) b (past stretch spot))) (Shell X n 𝓛 b o))
+  Rest = sep 𝓤 (sem 𝓛 (around (mem R) b d.xs from len o)) (Shell X n 𝓛 b o)
 
-  pub stretch_out : from + len ≤ length d.xs → ent 𝓤 (sep 𝓤 (sem 𝓛 (cells (mem R) d.xs b o)) (Shell X n 𝓛 b o)) (sep 𝓤 (sem 𝓛 (cells (mem R) stretch b spot)) Rest)
+  pub stretch_out : from + len ≤ length d.xs → ent 𝓤 (sep 𝓤 (sem 𝓛 (cells (mem R) d.xs b o)) (Shell X n 𝓛 b o)) (sep 𝓤 (sem 𝓛 (cells (mem R) stretch b (from * (mem R).size + o))) Rest)
   stretch_out within =
-      let before = take from d.xs in let others = cut from d.xs in
-      let count : length before ≡ from = omega (arith, length-take from d.xs) in
       qed 𝓛 (‵ (cells (mem R) d.xs b o) ∷ raw (Shell X n 𝓛 b o) ∷ []) ∵
-      rewrite ! 0 (λ (l : List X.Denot). ‵ (cells (mem R) l b o)) (sym (take-append-drop from d.xs)) refl $
-      use1 𝓛 (‵ (cells (mem R) before b o) ⊛ ‵ (cells (mem R) others b (past before o))) (cut_app 𝓛 (mem R) before others b o) $ split ! $
-      rewrite ! 1 (λ (k : ℕ). ‵ (cells (mem R) others b (at o (mem R).size k))) count refl $ move ! (1 ∷ []) $
-      rewrite ! 0 (λ (l : List X.Denot). ‵ (cells (mem R) l b spot)) (sym (take-append-drop len others)) refl $
-      use1 𝓛 (‵ (cells (mem R) stretch b spot) ⊛ ‵ (cells (mem R) (cut len others) b (past stretch spot))) (cut_app 𝓛 (mem R) stretch (cut len others) b spot) $ split ! $
-      rewrite ! 1 (λ (l : List X.Denot). ‵ (cells (mem R) l b (past stretch spot))) (drop-drop len from d.xs) refl $
-      move ! (0 ∷ 2 ∷ 1 ∷ 3 ∷ []) $ done !
+      use1 𝓛 (‵ (cells (mem R) stretch b (from * (mem R).size + o)) ⊛ ‵ (around (mem R) b d.xs from len o)) (taken_out (mem R) b 𝓛 d.xs from len o within) $ split ! $ done !
 
   pub stretch_in : length d.xs ≡ n → from + len ≤ n → (ws : List X.Denot) → length ws ≡ length stretch
-      → ent 𝓤 (sep 𝓤 (sem 𝓛 (cells (mem R) ws b spot)) Rest) (sem 𝓛 ((mem (Cells X n)).own_at (with_cells ws) b o))
+      → ent 𝓤 (sep 𝓤 (sem 𝓛 (cells (mem R) ws b (from * (mem R).size + o))) Rest) (sem 𝓛 ((mem (Cells X n)).own_at (with_cells ws) b o))
   stretch_in long within ws same =
       let before = take from d.xs in let behind = cut (from + len) d.xs in
-      let count : length before ≡ from = omega (arith, length-take from d.xs) in
       let many : length ws ≡ len = omega (arith, length-take len (cut from d.xs), length-drop from d.xs) in
       let is : before ++ (ws ++ behind) ≡ (with_cells ws).xs = ap (λ (l : List X.Denot). before ++ (l ++ behind)) (sym (take_front ws (cut (length ws) stretch) len many)) in
-      let whole : length (with_cells ws).xs ≡ n = omega (arith, ap length is, length-append before (ws ++ behind), length-append ws behind, length-drop (from + len) d.xs) in
-      qed 𝓛 (‵ (cells (mem R) ws b spot) ∷ ‵ (cells (mem R) before b o) ∷ ‵ (cells (mem R) behind b (past stretch spot)) ∷ raw (Shell X n 𝓛 b o) ∷ []) ∵
-      move ! (0 ∷ 2 ∷ []) $ rewrite ! 1 (λ (k : ℕ). ‵ (cells (mem R) behind b (at spot (mem R).size k))) (sym same) refl $
-      use2 𝓛 (‵ (cells (mem R) (ws ++ behind) b spot)) (join_app 𝓛 (mem R) ws behind b spot) $ move ! (1 ∷ 0 ∷ []) $
-      rewrite ! 1 (λ (k : ℕ). ‵ (cells (mem R) (ws ++ behind) b (at o (mem R).size k))) (sym count) refl $
-      use2 𝓛 (‵ (cells (mem R) (before ++ (ws ++ behind)) b o)) (join_app 𝓛 (mem R) before (ws ++ behind) b o) $
-      rewrite ! 0 (λ (l : List X.Denot). ‵ (cells (mem R) l b o)) is refl $
-      by ! (array_in X n 𝓛 b o (with_cells ws) whole)
+      let whole : length (with_cells ws).xs ≡ n = ap length (sym is) ∙ length-over d.xs ws from len many (omega arith) ∙ long in
+      qed 𝓛 (‵ (cells (mem R) ws b (from * (mem R).size + o)) ∷ ‵ (around (mem R) b d.xs from len o) ∷ raw (Shell X n 𝓛 b o) ∷ []) ∵
+      use2 𝓛 (‵ (cells (mem R) (before ++ (ws ++ behind)) b o)) (put_in (mem R) b 𝓛 d.xs from len o ws (omega arith) many) $
+      rewrite ! 0 (λ (l : List X.Denot). ‵ (cells (mem R) l b o)) is refl $ by ! (array_in X n 𝓛 b o (with_cells ws) whole)

@@ -14,4 +14,5 @@ mod SharedSlots
 mod Shown
 mod ShownMoved
 mod SlotsInMemory
+mod Stretch
 mod Words

@@ -1,6 +1,9 @@
 -- A stretch of slots of a row is taken out and put back, and a row is made of memory and gives it back.
-use Rattle.ring_slots.proofs.Words.{◌≡◌, refl, sym, ap, ◌∙◌, false, List, [], ◌∷◌, ℕ, zero, suc, ◌+◌, ◌*◌, ◌^◌, ◌<◌, ◌≤◌, zero-mul, suc-mul, mul-le-mul_right, arith, T, eqb, length, get_or, replicate, Ura, full_share, ent, sep, Fml, Lft, fsep, fat, froom, Ty, ty_array, Val, has_ty, WT, Logic, sem, ‵, ◌⊛◌, some, ◌$◌, ◌∵◌, !, qed, by, move, keep, drop, use1, use2, pick, split, rewrite, fsplit, fjoin, frame, done, Typed, mem, cells, part_at, layout, param, RattleType, nothing, capped_is, capped, part_out, Option, Some, None, IsSome, type_size, ◌++◌, cut, take, take-append-drop, length-take, length-drop, drop-drop, map, elements_shared, length-map, HoldsStretch, IsFullStretch, slot, row, row_shown, common_steps}
+use Rattle.ring_slots.proofs.Words.{◌≡◌, refl, sym, ap, ◌∙◌, false, List, [], ◌∷◌, ℕ, zero, suc, ◌+◌, ◌*◌, ◌^◌, ◌<◌, ◌≤◌, zero-mul, suc-mul, mul-le-mul_right, arith, T, eqb, length, get_or, replicate, Ura, full_share, ent, sep, Fml, Lft, fsep, fat, froom, Ty, ty_array, Val, has_ty, WT, Logic, sem, ‵, ◌⊛◌, some, ◌$◌, ◌∵◌, !, qed, by, move, keep, drop, use1, use2, pick, split, rewrite, fsplit, fjoin, frame, done, Typed, mem, cells, part_at, layout, param, RattleType, nothing, capped_is, capped, part_out, Option, Some, None, IsSome, type_size, ◌++◌, cut, take, take-append-drop, length-take, length-drop, map, elements_shared, length-map, HoldsStretch, IsFullStretch, slot, row, row_shown, common_steps}
+use types.SemTy.{SemTy}
 use Rattle.std.proofs.lemmas.Bool.Decides.{nat_tests}
+use Rattle.core.specs.contracts.option.Option as option
+use Rattle.ring_slots.proofs.Stretch as stretch
 
 -- the item of a full slot
 pub item_of : {A : Type 0} (c : Option A) → IsSome c → (x : A) × (c ≡ Some x)
@@ -53,16 +56,18 @@ module _ (X : RattleType) where
   abbrev pub bytes : ℕ
   bytes = type_size R
 
-  first_at : (o : ℕ) → o ≡ 0 * bytes + o
-  first_at o = omega (arith, zero-mul bytes)
-
-  next_at : (i o : ℕ) → i * bytes + (o + bytes) ≡ suc i * bytes + o
-  next_at i o = omega (arith, suc-mul i bytes)
+  -- a slot as cells are of
+  abbrev Slot : SemTy
+  Slot = record { rep = Option X.Denot; coded = (option.the_row R).coded; size = bytes; own_at = λ c b o. slot R b o c }
 
   module _ (b : ℕ) where
+    row_is : (cs : List (Option X.Denot)) (o : ℕ) → row R b o cs ≡ cells Slot cs b o
+    row_is [] o = refl
+    row_is (c ∷ cs) o = ap (fsep (slot R b o c)) (row_is cs (o + bytes))
+
     -- the slots outside a stretch of them
     abbrev pub around : ℕ → List (Option X.Denot) → ℕ → ℕ → Fml
-    around o cs from len = fsep (row R b o (take from cs)) (row R b (len * bytes + (from * bytes + o)) (cut (from + len) cs))
+    around o cs from len = stretch.around Slot b cs from len o
 
     -- full slots hold their items as a slice does
     pub row-cells : (xs : List X.Denot) (o : ℕ) → row R b o (map Some xs) ≡ cells (mem R) xs b o
@@ -70,44 +75,20 @@ module _ (X : RattleType) where
     row-cells (x ∷ xs) o = ap (fsep (part_at R full_share x b o)) (row-cells xs (o + bytes))
 
     module _ {M : Type 1} {𝓤 : Ura M} (𝓛 : Logic 𝓤) where
-      -- a row is cut in two, and joined
-      cut_row : (n : ℕ) (cs : List (Option X.Denot)) (o : ℕ) → n ≤ length cs
-          → ent 𝓤 (sem 𝓛 (row R b o cs)) (sep 𝓤 (sem 𝓛 (row R b o (take n cs))) (sem 𝓛 (row R b (n * bytes + o) (cut n cs))))
-      cut_row zero cs o within = qed 𝓛 (‵ (row R b o cs) ∷ []) ∵
-          rewrite ! 0 (λ (k : ℕ). ‵ (row R b k cs)) (first_at o) refl $ nothing ! $ done !
-      cut_row (suc n) [] o within = absurd (omega arith)
-      cut_row (suc n) (c ∷ cs) o within =
-          let inner : n ≤ length cs = omega arith in
-          qed 𝓛 (‵ (row R b o (c ∷ cs)) ∷ []) ∵ fsplit ! $ move ! (1 ∷ []) $
-          use1 𝓛 (‵ (row R b (o + bytes) (take n cs)) ⊛ ‵ (row R b (n * bytes + (o + bytes)) (cut n cs))) (cut_row n cs (o + bytes) inner) $ split ! $ move ! (1 ∷ []) $
-          rewrite ! 0 (λ (k : ℕ). ‵ (row R b k (cut n cs))) (next_at n o) refl $ move ! (2 ∷ 1 ∷ []) $ fjoin ! $ done !
-
-      join_row : (new cs : List (Option X.Denot)) (o : ℕ)
-          → ent 𝓤 (sep 𝓤 (sem 𝓛 (row R b o new)) (sem 𝓛 (row R b (length new * bytes + o) cs))) (sem 𝓛 (row R b o (new ++ cs)))
-      join_row [] cs o = qed 𝓛 (‵ (row R b o []) ∷ ‵ (row R b (0 * bytes + o) cs) ∷ []) ∵ drop ! $
-          rewrite ! 0 (λ (k : ℕ). ‵ (row R b k cs)) (sym (first_at o)) refl $ done !
-      join_row (c ∷ new) cs o = qed 𝓛 (‵ (row R b o (c ∷ new)) ∷ ‵ (row R b (suc (length new) * bytes + o) cs) ∷ []) ∵ move ! (1 ∷ []) $
-          rewrite ! 0 (λ (k : ℕ). ‵ (row R b k cs)) (sym (next_at (length new) o)) refl $ move ! (1 ∷ []) $ fsplit ! $ move ! (1 ∷ 2 ∷ []) $
-          use2 𝓛 (‵ (row R b (o + bytes) (new ++ cs))) (join_row new cs (o + bytes)) $ move ! (1 ∷ 0 ∷ []) $ fjoin ! $ done !
-
       -- a stretch of slots is taken out and put back
       pub stretch_out : (cs : List (Option X.Denot)) (from len o : ℕ) → from + len ≤ length cs
           → ent 𝓤 (sem 𝓛 (row R b o cs)) (sep 𝓤 (sem 𝓛 (row R b (from * bytes + o) (take len (cut from cs)))) (sem 𝓛 (around o cs from len)))
       stretch_out cs from len o within =
-          let at = from * bytes + o in
-          let behind : len ≤ length (cut from cs) = omega (arith, length-drop from cs) in
-          qed 𝓛 (‵ (row R b o cs) ∷ []) ∵ use1 𝓛 (‵ (row R b o (take from cs)) ⊛ ‵ (row R b at (cut from cs))) (cut_row from cs o (omega arith)) $ split ! $ move ! (1 ∷ []) $
-          use1 𝓛 (‵ (row R b at (take len (cut from cs))) ⊛ ‵ (row R b (len * bytes + at) (cut len (cut from cs)))) (cut_row len (cut from cs) at behind) $ split ! $ move ! (1 ∷ []) $
-          rewrite ! 0 (λ (l : List (Option X.Denot)). ‵ (row R b (len * bytes + at) l)) (drop-drop len from cs) refl $ move ! (2 ∷ 0 ∷ []) $ fjoin ! $ move ! (1 ∷ 0 ∷ []) $ done !
+          let at = from * bytes + o in let inner = take len (cut from cs) in
+          qed 𝓛 (‵ (row R b o cs) ∷ []) ∵ rewrite ! 0 (λ (f : Fml). ‵ f) (row_is cs o) refl $ use1 𝓛 (‵ (cells Slot inner b at) ⊛ ‵ (around o cs from len)) (stretch.stretch_out Slot b 𝓛 cs from len o within) $ split ! $
+          rewrite ! 0 (λ (f : Fml). ‵ f) (sym (row_is inner at)) refl $ done !
 
       pub stretch_in : (cs : List (Option X.Denot)) (from len o : ℕ) (new : List (Option X.Denot)) → from ≤ length cs → length new ≡ len
           → ent 𝓤 (sep 𝓤 (sem 𝓛 (row R b (from * bytes + o) new)) (sem 𝓛 (around o cs from len))) (sem 𝓛 (row R b o (take from cs ++ (new ++ cut (from + len) cs))))
       stretch_in cs from len o new within long =
-          let at = from * bytes + o in let behind = cut (from + len) cs in
-          qed 𝓛 (‵ (row R b at new) ∷ ‵ (around o cs from len) ∷ []) ∵ move ! (1 ∷ []) $ fsplit ! $ move ! (1 ∷ []) $
-          rewrite ! 0 (λ (k : ℕ). ‵ (row R b (k * bytes + at) behind)) (sym long) refl $ move ! (2 ∷ 0 ∷ []) $
-          use2 𝓛 (‵ (row R b at (new ++ behind))) (join_row new behind at) $
-          rewrite ! 0 (λ (k : ℕ). ‵ (row R b (k * bytes + o) (new ++ behind))) (omega (arith, length-take from cs)) refl $ move ! (1 ∷ 0 ∷ []) $ by ! (join_row (take from cs) (new ++ behind) o)
+          let at = from * bytes + o in let all = take from cs ++ (new ++ cut (from + len) cs) in
+          qed 𝓛 (‵ (row R b at new) ∷ ‵ (around o cs from len) ∷ []) ∵ rewrite ! 0 (λ (f : Fml). ‵ f) (row_is new at) refl $
+          use2 𝓛 (‵ (cells Slot all b o)) (stretch.stretch_in Slot b 𝓛 cs from len o new within long) $ rewrite ! 0 (λ (f : Fml). ‵ f) (sym (row_is all o)) refl $ done !
 
       -- room for n items is a row of n empty slots
       pub of_room : (n o : ℕ) → ent 𝓤 (sem 𝓛 (froom (ty_array (layout X) n) b o)) (sem 𝓛 (row R b o (replicate n None)))
@@ -144,10 +125,10 @@ module _ (X : RattleType) where
       stretch_seen κ cs zero len o xs within holds = qed 𝓛 (‵ (row_shown R b o cs κ) ∷ []) ∵
           rewrite ! 0 (λ (l : List (Option X.Denot)). ‵ (row_shown R b o l κ)) (sym (take-append-drop len cs) ∙ ap (λ (l : List (Option X.Denot)). l ++ cut len cs) holds) refl $
           use1 𝓛 (‵ (elements_shared R xs b o κ)) (items_seen κ xs (cut len cs) o) $
-          rewrite ! 0 (λ (k : ℕ). ‵ (elements_shared R xs b k κ)) (first_at o) refl $ done !
+          rewrite ! 0 (λ (k : ℕ). ‵ (elements_shared R xs b k κ)) (omega (arith, zero-mul bytes)) refl $ done !
       stretch_seen κ [] (suc from) len o xs within holds = absurd (omega arith)
       stretch_seen κ (c ∷ cs) (suc from) len o xs within holds =
           let inner : from + len ≤ length cs = omega arith in
           qed 𝓛 (‵ (row_shown R b o (c ∷ cs) κ) ∷ []) ∵ fsplit ! $ keep ! (1 ∷ []) $
           use1 𝓛 (‵ (elements_shared R xs b (from * bytes + (o + bytes)) κ)) (stretch_seen κ cs from len (o + bytes) xs inner holds) $
-          rewrite ! 0 (λ (k : ℕ). ‵ (elements_shared R xs b k κ)) (next_at from o) refl $ done !
+          rewrite ! 0 (λ (k : ℕ). ‵ (elements_shared R xs b k κ)) (omega (arith, suc-mul from bytes)) refl $ done !

@@ -4,7 +4,6 @@ pub use Rattle.std.proofs.Common.{ℕ, zero, suc, ◌+◌, ◌-◌, ◌*◌, ◌
 pub use Rattle.std.proofs.Common.{Bool, true, false, if◌then◌else◌, is_some, Option, Some, None, IsSome, Ok, Err, Global, ◌≡◌, refl, sym, ap, subst, ◌∙◌}
 pub use Rattle.std.proofs.Common.{List, [], ◌∷◌, ◌++◌, map, length, replicate, get_or, set, take, drop as cut, slice_get, slice_index_or}
 pub use Rattle.std.proofs.Common.{length-append, length-drop, length-set, length-take, take-append-drop, drop-cons, drop-drop, take_at as take_front, ext_get_or}
-pub use lib.Seq.{set_split}
 pub use base.Fml.{Fml, GName, Incl, Incl-trans, Lft, Share, fat, fauth, fbor, feq, flft, fobor, fobs, froom, fsep, ftrue}
 pub use base.Fraction.{full_share}
 pub use base.Logic.{SProp, all, all_e, apply∗, emp, ent, ex, fst∗, guard, id⊢, mono_r, never, sep, wand}
@@ -55,7 +54,7 @@ pub use Rattle.std.proofs.raw_atomic.Walks.{proved, proved_at}
 pub use Rattle.std.specs.Mem.{type_size}
 pub use Rattle.ring_slots.specs.block.Memory.{lent, right, right_if, row, row_shown, slot, slot_shown, small}
 pub use denote.Slice.{MutSlice, elements_shared, slice_val}
-pub use Rattle.std.proofs.lemmas.List.{length-replicate, set-get_or, get_or_default, length-map, map-append}
+pub use Rattle.std.proofs.lemmas.List.{set_split, length-replicate, set-get_or, get_or_default, length-map, map-append}
 pub use Rattle.ring_slots.specs.Slots.{HoldsStretch, IsFullStretch, Passes, Slots, brought_first, filled, moved_down, passed_down, passed_up, refilled}
 pub use denote.Array.{Array}
 pub use Rattle.ring_slots.specs.block.Lends.{owner_with}

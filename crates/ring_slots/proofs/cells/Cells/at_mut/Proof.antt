@@ -1,8 +1,7 @@
 -- An element of the array is lent to the caller, which the borrow checker does not follow through an array. The element is
 -- taken out of the cells in memory as a stretch of one, which goes back at any value, and then lent.
-use Rattle.ring_slots.proofs.Words.{List, fsplit, fjoin, rewrite, take, cut, drop-cons, set_split, length-take, length-drop, Goes-number, stay_number, ◌≡◌, refl, sym, ap, ◌∙◌, [], ◌∷◌, ℕ, zero, ◌+◌, ◌*◌, ◌^◌, ◌<◌, ◌≤◌, mul-le-mul_right, arith, length, get_or, set, Ura, ty_array, named, w64, inst_fn, vptr, vint, ent, sep, GName, ftrue, flft, size, align, up, Logic, sem, cells, ‵, raw, ◌⊛◌, some, given, later, ◌$◌, ◌∵◌, !, qed, move, keep, drop, split, split3, join, learn, fsplit3, use1, use2, await, pick, suffices, frame, group, done, ◌⊑◌, stop, fld, addr, bin, size_word, returns, enter, alloc_all, pass_all, free_all, look_at, get, through, sets, is, RefMutOf, usize, no, follows, lends_Part, mem, number, layout, uint_vals, uint_Tells, RattleType, MutRef, mut_vals, mut_Tells, plain, nothing, says, Stays, stay_dropped, Goes-spent_ref, ends_at, proved, get_or_default, open_ref, first_at, at_mul}
+use Rattle.ring_slots.proofs.Words.{List, fsplit, fjoin, rewrite, take, cut, drop-cons, set_split, length-take, length-drop, Goes-number, stay_number, ◌≡◌, refl, sym, ap, [], ◌∷◌, ℕ, zero, ◌+◌, ◌*◌, ◌^◌, ◌<◌, ◌≤◌, mul-le-mul_right, arith, length, get_or, set, Ura, ty_array, named, w64, inst_fn, vptr, vint, ent, sep, GName, ftrue, flft, size, align, up, Logic, sem, cells, ‵, raw, ◌⊛◌, some, given, later, ◌$◌, ◌∵◌, !, qed, move, keep, drop, split, split3, join, learn, fsplit3, use1, use2, await, pick, suffices, frame, group, done, ◌⊑◌, stop, fld, addr, bin, size_word, returns, enter, alloc_all, pass_all, free_all, look_at, get, through, sets, is, RefMutOf, usize, no, follows, lends_Part, mem, number, layout, uint_vals, uint_Tells, RattleType, MutRef, mut_vals, mut_Tells, plain, nothing, says, Stays, stay_dropped, Goes-spent_ref, ends_at, proved, get_or_default, open_ref, first_at}
 use Rattle.std.proofs.Common.{add-one}
-use borrow.Table.Elements.{at}
 use Rattle.ring_slots.proofs.CellsInMemory.{Cells, Element, Rest, Shell, arguments, array_out, stretch_in, stretch_out, with_cells}
 use Rattle.ring_slots.proofs.Filled.{first_item}
 use Rattle.ring_slots.proofs.SlotsInMemory.{product_is}
@@ -16,10 +15,10 @@ module _ (X : RattleType) (n : ℕ) {M : Type 1} {𝓤 : Ura M} (𝓛 : Logic �
 
   -- one element is a stretch of one
   back : length d.xs ≡ n → m < n → (x : X.Denot)
-      → ent 𝓤 (sep 𝓤 (sem 𝓛 ((mem (Element X n)).own_at x b (at o (mem (Element X n)).size m))) (Rest X n 𝓛 b o m 1 d)) (sem 𝓛 ((mem (Cells X n)).own_at (with x) b o))
+      → ent 𝓤 (sep 𝓤 (sem 𝓛 ((mem (Element X n)).own_at x b (m * (mem (Element X n)).size + o))) (Rest X n 𝓛 b o m 1 d)) (sem 𝓛 ((mem (Cells X n)).own_at (with x) b o))
   back long within x =
       let is : (with_cells X n 𝓛 b o m 1 d (x ∷ [])).xs ≡ set d.xs m x = rw add-one (sym (set_split d.xs m x (omega arith))) in
-      qed 𝓛 (‵ ((mem (Element X n)).own_at x b (at o (mem (Element X n)).size m)) ∷ raw (Rest X n 𝓛 b o m 1 d) ∷ []) ∵ nothing ! $ move ! (1 ∷ 0 ∷ []) $ fjoin ! $
+      qed 𝓛 (‵ ((mem (Element X n)).own_at x b (m * (mem (Element X n)).size + o)) ∷ raw (Rest X n 𝓛 b o m 1 d) ∷ []) ∵ nothing ! $ move ! (1 ∷ 0 ∷ []) $ fjoin ! $
       use2 𝓛 (‵ ((mem (Cells X n)).own_at (with_cells X n 𝓛 b o m 1 d (x ∷ [])) b o)) (stretch_in X n 𝓛 b o m 1 d long (omega arith) (x ∷ []) (omega (arith, length-take 1 (cut m d.xs), length-drop m d.xs))) $
       rewrite ! 0 (λ (l : List X.Denot). ‵ ((mem (Cells X n)).own_at (record { xs = l }) b o)) is refl $ done !
 
@@ -39,15 +38,14 @@ at_mut_spec 𝓤 𝓛 𝓜 𝓡 wired X n L fits =
     ∷ (given (κs.1.0 ⊑ X.lives) (‵ ftrue) ⊛ given (κs.1.1.0 ⊑ []) (‵ ftrue) ⊛ given (size (layout S) < 2 ^ 63) (‵ ftrue) ⊛ given (m < n) (‵ ftrue)) ∷ []) ∵
     move ! (1 ∷ []) $ split3 ! $ drop ! $ drop ! $ split ! $ learn ! (λ small. drop ! $ learn ! (λ within. drop ! $
     let product : m * bytes < 2 ^ 64 = let most : m * bytes ≤ n * bytes = mul-le-mul_right bytes (omega arith) in omega arith in
-    let spot_is : m * bytes + (o + up (align (ty_array (layout X) n)) zero) ≡ at o bytes m =
-    ap (λ (k : ℕ). m * bytes + k) (first_at (align (ty_array (layout X) n)) o) ∙ sym (at_mul o bytes m) in
+    let spot_is : m * bytes + (o + up (align (ty_array (layout X) n)) zero) ≡ m * bytes + o = ap (λ (k : ℕ). m * bytes + k) (first_at (align (ty_array (layout X) n)) o) in
     split ! $ split ! $ move ! (2 ∷ []) $ split ! $ keep ! (0 ∷ 2 ∷ 3 ∷ []) $
     enter ! _ _ _ _ _ $ alloc_all ! (λ l. pass_all ! refl ((tt, tt), ((tt, record { fits = are.1.0.1 }), tt)) $
     sets ! (is ! (bin ! (get ! refl) (size_word !) (record { fits = rw (product_is m bytes product) product })) (ap (vint w64) (product_is m bytes product))) refl (tt, record { fits = product }) $
     sets ! (addr ! (through ! refl (fld ! refl (stop !)))) refl (tt, tt) $
     sets ! (is ! (bin ! (get ! refl) (get ! refl) tt) (ap (vptr b) spot_is)) refl (tt, tt) $
     sets ! (addr ! (through ! refl (stop !))) refl (tt, tt) $
-    let R : RattleType = Element X n in let with_element = with X n 𝓛 b o m d in let spot = at o bytes m in let rest = Rest X n 𝓛 b o m 1 d in let was = S.coded.code d in
+    let R : RattleType = Element X n in let with_element = with X n 𝓛 b o m d in let spot = m * bytes + o in let rest = Rest X n 𝓛 b o m 1 d in let was = S.coded.code d in
     fsplit3 ! $ drop ! $ open_ref ! tt (mem S) {b = b} {o = o} $
     use1 𝓛 (given (length d.xs ≡ n) (‵ (cells (mem R) d.xs b o) ⊛ raw (Shell X n 𝓛 b o))) (array_out X n 𝓛 b o L d) $ learn ! (λ long.
     let there : m < length d.xs = omega arith in let any : X.Denot = first_item d.xs (omega arith) in let x : X.Denot = get_or d.xs m any in
@@ -58,7 +56,7 @@ at_mut_spec 𝓤 𝓛 𝓜 𝓡 wired X n L fits =
     (lends_Part 𝓛 S R with_element (named 0) κs.0 qs.0 b o b spot γ rest (back X n 𝓛 b o m d long within) was was x) $
     await ! tt $ pick ! (λ δ. split3 ! $ returns ! (look_at ! 0 refl) $ free_all ! refl $
     -- [the reference; the token of its lifetime; what the struct ends as; the other tokens]
-    suffices ! _ (ends_at 𝓛 ended stayed clauses ((κs, qs, bounds, a, (self, (place, tt))), tt) (vptr b (at o bytes m))
-    (record { ref_ptr = (b, at o bytes m); ghost_name = δ; now = x }) (tt, (tt, tt)) (tt, (tt, tt))) $
+    suffices ! _ (ends_at 𝓛 ended stayed clauses ((κs, qs, bounds, a, (self, (place, tt))), tt) (vptr b (m * bytes + o))
+    (record { ref_ptr = (b, m * bytes + o); ghost_name = δ; now = x }) (tt, (tt, tt)) (tt, (tt, tt))) $
     move ! (1 ∷ 3 ∷ []) $ join ! $ nothing ! $ nothing ! $ join ! $ nothing ! $ join ! $ move ! (1 ∷ 0 ∷ []) $
     group ! 3 $ frame ! $ says ! (get_or_default d.xs m any x there) $ done !))))))

@@ -1,7 +1,6 @@
 -- A stretch of the array is lent as a slice. The borrow checker doesn't follow a part of an array: the stretch is taken out
 -- of the cells in memory, which close round any items that are written.
-use Rattle.ring_slots.proofs.Words.{Goes-number, stay_number, ◌≡◌, refl, sym, ap, ◌∙◌, List, [], ◌∷◌, ℕ, zero, ◌+◌, ◌*◌, ◌^◌, ◌<◌, ◌≤◌, mul-le-mul_right, arith, length, length-take, length-drop, cut, named, w64, inst_fn, vptr, vint, GName, ftrue, flft, size, align, up, ty_array, cells, ‵, raw, ◌⊛◌, some, given, later, ◌$◌, ◌∵◌, !, qed, move, keep, drop, split, split3, join, learn, fsplit3, use1, await, pick, suffices, frame, group, rewrite, done, ◌⊑◌, stop, fld, addr, agg, and_then, no_more, bin, size_word, returns, enter, alloc_all, pass_all, free_all, look_at, get, through, sets, is, RefMutOf, usize, no, follows, mem, number, layout, uint_vals, uint_Tells, RattleType, MutRef, MutSlice, slice_val, mut_vals, mut_Tells, plain, nothing, says, Stays, stay_dropped, Goes-spent_ref, ends_at, proved, Array, open_ref, lends_Elements, first_at, at_mul, ◌-◌}
-use borrow.Table.Elements.{at}
+use Rattle.ring_slots.proofs.Words.{Goes-number, stay_number, ◌≡◌, refl, ap, List, [], ◌∷◌, ℕ, zero, ◌+◌, ◌*◌, ◌^◌, ◌<◌, ◌≤◌, mul-le-mul_right, arith, length, length-take, length-drop, cut, named, w64, inst_fn, vptr, vint, GName, ftrue, flft, size, align, up, ty_array, cells, ‵, raw, ◌⊛◌, some, given, later, ◌$◌, ◌∵◌, !, qed, move, keep, drop, split, split3, join, learn, fsplit3, use1, await, pick, suffices, frame, group, rewrite, done, ◌⊑◌, stop, fld, addr, agg, and_then, no_more, bin, size_word, returns, enter, alloc_all, pass_all, free_all, look_at, get, through, sets, is, RefMutOf, usize, no, follows, mem, number, layout, uint_vals, uint_Tells, RattleType, MutRef, MutSlice, slice_val, mut_vals, mut_Tells, plain, nothing, says, Stays, stay_dropped, Goes-spent_ref, ends_at, proved, Array, open_ref, lends_Elements, first_at, ◌-◌}
 use Rattle.ring_slots.proofs.CellsInMemory.{Cells, Element, Rest, Shell, arguments, array_out, stretch, stretch_in, stretch_out, with_cells}
 use Rattle.ring_slots.proofs.SlotsInMemory.{product_is}
 use Rattle.ring_slots.specs.contracts.cells.Cells.slice_mut as contract
@@ -25,8 +24,7 @@ slice_mut_spec 𝓤 𝓛 𝓜 𝓡 wired X n L fits =
     move ! (1 ∷ []) $ split3 ! $ drop ! $ drop ! $ split ! $ learn ! (λ small. drop ! $ learn ! (λ within. drop ! $
     let product : from * bytes < 2 ^ 64 = let before : from * bytes ≤ n * bytes = mul-le-mul_right bytes (omega arith) in omega arith in
     let sum : from + len < 2 ^ 64 = omega (arith, fits.fits) in
-    let spot_is : from * bytes + (o + up (align (ty_array (layout X) n)) zero) ≡ at o bytes from =
-    ap (λ (k : ℕ). from * bytes + k) (first_at (align (ty_array (layout X) n)) o) ∙ sym (at_mul o bytes from) in
+    let spot_is : from * bytes + (o + up (align (ty_array (layout X) n)) zero) ≡ from * bytes + o = ap (λ (k : ℕ). from * bytes + k) (first_at (align (ty_array (layout X) n)) o) in
     let rest_is : from + len - from ≡ len = omega arith in
     split ! $ split ! $ move ! (2 ∷ []) $ split ! $ keep ! (0 ∷ 2 ∷ 3 ∷ []) $
     enter ! _ _ _ _ _ $ alloc_all ! (λ l. pass_all ! refl ((tt, tt), ((tt, record { fits = are.1.0.1 }), ((tt, record { fits = are.1.1.0.1 }), tt))) $
@@ -40,7 +38,7 @@ slice_mut_spec 𝓤 𝓛 𝓜 𝓡 wired X n L fits =
     fsplit3 ! $ drop ! $ open_ref ! tt (mem S) {b = b} {o = o} $
     use1 𝓛 (given (length d.xs ≡ n) (‵ (cells (mem R) d.xs b o) ⊛ raw (Shell X n 𝓛 b o))) (array_out X n 𝓛 b o L d) $
     learn ! (λ long.
-    let lent : List X.Denot = stretch X n 𝓛 b o from len d in let spot = at o bytes from in let rest = Rest X n 𝓛 b o from len d in let out = with_cells X n 𝓛 b o from len d in
+    let lent : List X.Denot = stretch X n 𝓛 b o from len d in let spot = from * bytes + o in let rest = Rest X n 𝓛 b o from len d in let out = with_cells X n 𝓛 b o from len d in
     let many : length lent ≡ len = omega (arith, length-take len (cut from d.xs), length-drop from d.xs) in
     let most : length lent * bytes ≤ n * bytes = mul-le-mul_right bytes (omega arith) in
     let was = S.coded.code d in
