@@ -1,7 +1,5 @@
 -- Items that one more pushes along piece by piece: what the back hands on goes after the front.
-use Rattle.ring_slots.proofs.Words.{◌≡◌, ◌∙◌, sym, ap, subst, List, [], ◌∷◌, ◌++◌, ℕ, ◌+◌, ◌≤◌, arith, length, take, cut, take-append-drop, common_steps, passed_down}
-use Rattle.std.proofs.lemmas.List.{drop-take}
-use Rattle.std.proofs.Common.{append_assoc}
+use Rattle.ring_slots.proofs.Words.{append_assoc, drop-take, ◌≡◌, ◌∙◌, sym, ap, subst, List, [], ◌∷◌, ◌++◌, ℕ, ◌+◌, ◌≤◌, arith, length, take, cut, take-append-drop, common_steps, passed_down}
 
 module _ {X : Type 0} where
   joined : (front ys had has : List X) (item mid over : X) → passed_down item mid had has → passed_down mid over front ys → passed_down item over (front ++ had) (ys ++ has)

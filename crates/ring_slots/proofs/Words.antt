@@ -1,8 +1,8 @@
 -- What the proofs by hand are written in: the words of lists and numbers, of the program's text, of memory and loans, and
 -- of the walk along a function's body.
-pub use Rattle.std.proofs.Common.{ℕ, zero, suc, ◌+◌, ◌-◌, ◌*◌, ◌^◌, ◌<◌, ◌≤◌, min, T, eqb, lit<, mul-le-mul_right, mul-zero, one-mul, suc-mul, zero-mul, arith, rules}
-pub use Rattle.std.proofs.Common.{Bool, true, false, if◌then◌else◌, is_some, Option, Some, None, IsSome, Ok, Err, Global, ◌≡◌, refl, sym, ap, subst, ◌∙◌}
-pub use Rattle.std.proofs.Common.{List, [], ◌∷◌, ◌++◌, map, length, replicate, get_or, set, take, drop as cut, slice_get, slice_index_or}
+pub use Rattle.std.proofs.Common.{ℕ, zero, suc, ◌+◌, ◌-◌, ◌*◌, ◌^◌, ◌<◌, ◌≤◌, min, T, eqb, lit<, mul-le-mul_right, mul-zero, one-mul, suc-mul, zero-mul, pow_mono, arith, rules}
+pub use Rattle.std.proofs.Common.{Bool, true, false, if◌then◌else◌, is_some, Option, Some, None, IsSome, Ok, Err, Global, ◌≡◌, refl, sym, ap, subst, ◌∙◌, inr}
+pub use Rattle.std.proofs.Common.{List, [], ◌∷◌, ◌++◌, map, length, replicate, get_or, set, take, drop as cut, slice_get, slice_index_or, append_assoc}
 pub use Rattle.std.proofs.Common.{length-append, length-drop, length-set, length-take, take-append-drop, drop-cons, drop-drop, take_at as take_front, ext_get_or}
 pub use base.Fml.{Fml, GName, Incl, Incl-trans, Lft, Share, fat, fauth, fbor, feq, flft, fobor, fobs, froom, fsep, ftrue}
 pub use base.Fraction.{full_share}
@@ -54,12 +54,12 @@ pub use Rattle.std.proofs.raw_atomic.Walks.{proved, proved_at}
 pub use Rattle.std.specs.Mem.{type_size}
 pub use Rattle.ring_slots.specs.block.Memory.{lent, right, right_if, row, row_shown, slot, slot_shown, small}
 pub use denote.Slice.{MutSlice, elements_shared, slice_val}
-pub use Rattle.std.proofs.lemmas.List.{set_split, length-replicate, set-get_or, get_or_default, length-map, map-append}
+pub use Rattle.std.proofs.lemmas.List.{drop-take, set_split, length-replicate, set-get_or, get_or_default, length-map, map-append}
 pub use Rattle.ring_slots.specs.Slots.{HoldsStretch, IsFullStretch, Passes, Slots, brought_first, filled, moved_down, passed_down, passed_up, refilled}
 pub use denote.Array.{Array}
 pub use Rattle.ring_slots.specs.block.Lends.{owner_with}
 pub use Rattle.std.specs.List.{length_refill, refill}
-pub use denote.Param.Send.{IsSend, IsSync, owning_send, sendable, struct_sync}
+pub use denote.Param.Send.{whole-keyless, IsSend, IsSync, owning_send, sendable, struct_sync}
 pub use Rattle.std.proofs.lemmas.Grind.{common_steps}
 pub use Rattle.ring_slots.specs.cells.Lends.{rewritten}
 pub use Rattle.ring_slots.specs.copies.Shown.{shown}

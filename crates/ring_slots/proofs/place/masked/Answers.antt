@@ -1,6 +1,5 @@
-use Rattle.ring_slots.proofs.Words.{rules, ◌<◌, ◌≤◌, ◌^◌, ◌+◌, ◌-◌, ◌≡◌, ℕ, arith}
+use Rattle.ring_slots.proofs.Words.{pow_mono, rules, ◌<◌, ◌≤◌, ◌^◌, ◌+◌, ◌-◌, ◌≡◌, ℕ, arith}
 use Rattle.std.proofs.Math.Decide.{dec_lt}
-use Rattle.std.proofs.Math.Pow.{pow_mono}
 use Rattle.std.proofs.lemmas.Nat.{and_mask}
 use Rattle.std.specs.Int.{IsPowerOfTwo}
 use Rattle.ring_slots.proofs.place.masked.Goals as goal

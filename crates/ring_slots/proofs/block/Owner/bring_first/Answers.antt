@@ -1,5 +1,4 @@
-use Rattle.ring_slots.proofs.Words.{arith, ◌∙◌, ◌-◌}
-use mathlib.Core.Logic.{inr}
+use Rattle.ring_slots.proofs.Words.{inr, arith, ◌∙◌, ◌-◌}
 use Rattle.ring_slots.proofs.MovedDown.{brought, last_item, stretch_filled}
 use Rattle.ring_slots.proofs.block.Owner.bring_first.Goals as goal
 

@@ -1,5 +1,4 @@
-use Rattle.ring_slots.proofs.Words.{IsSync}
-use denote.Param.Send.{whole-keyless}
+use Rattle.ring_slots.proofs.Words.{whole-keyless, IsSync}
 use Rattle.ring_slots.specs.contracts.change_count.ChangeCount.{the_row}
 use Rattle.ring_slots.proofs.change_count.ChangeCount.TheSendSync.Send.{send}
 

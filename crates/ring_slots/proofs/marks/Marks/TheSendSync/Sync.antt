@@ -1,5 +1,4 @@
-use Rattle.ring_slots.proofs.Words.{IsSync}
-use denote.Param.Send.{whole-keyless}
+use Rattle.ring_slots.proofs.Words.{whole-keyless, IsSync}
 use Rattle.ring_slots.specs.contracts.marks.Marks.{the_row}
 use Rattle.ring_slots.proofs.marks.Marks.TheSendSync.Send.{send}
 
