@@ -1,5 +1,5 @@
 -- Cells that hold every element of a list but one, which is in hand. It goes into a cell beside the gap, and that cell's own is in hand then.
-use Rattle.ring_slots.proofs.Words.{◌∙◌, ◌≡◌, refl, ap, sym, List, [], ◌∷◌, ◌++◌, ℕ, zero, suc, ◌<◌, arith, length, map, take, cut, get_or, set, Option, IsSome, Some, subst, common_steps}
+use Rattle.ring_slots.proofs.Words.{slice_get_cases, ◌≡◌, refl, ap, sym, List, [], ◌∷◌, ◌++◌, ℕ, zero, suc, ◌<◌, arith, length, map, take, cut, get_or, set, Option, IsSome, Some, common_steps}
 
 module _ {X : Type 0} where
   -- the list without its element at a place
@@ -25,15 +25,9 @@ module _ {X : Type 0} where
     pub one_down : cells ≡ without all j → put ≡ get_or all j e → (set cells i put ≡ without all i) × (taken ≡ get_or all i e)
     one_down are is = (rw (are, is, next) (moved_down all i e within), grind (arith, common_steps))
 
--- of full cells each holds an item
-each_full : {X : Type 0} (xs : List X) (i : ℕ) (d : Option X) → i < length (map Some xs) → IsSome (get_or (map Some xs) i d)
-each_full [] i d within = absurd (omega (arith, within))
-each_full (x ∷ xs) zero d within = refl
-each_full (x ∷ xs) (suc i) d within = each_full xs i d (omega (arith, within))
-
 module _ {X : Type 0} (xs : List X) (all : List (Option X)) (full : all ≡ map Some xs) where
   full_at : (i : ℕ) (d x : Option X) → i < length all → get_or all i d ≡ x → IsSome x
-  full_at i d x within is = subst IsSome (ap (λ l. get_or l i d) (sym full) ∙ is) (each_full xs i d (subst (λ l. i < length l) full within))
+  full_at i d x within is = let some = slice_get_cases xs i in rw (sym is, full) (grind (arith, common_steps, some))
 
   pub full_above : (cells : List (Option X)) (i : ℕ) (d : Option X) → suc i < length all → cells ≡ without all i → IsSome (get_or cells i d)
   full_above cells i d within are = full_at (suc i) d (get_or cells i d) within (rw are (grind (arith, common_steps)))

@@ -1,5 +1,5 @@
 -- A stretch of slots of a row is taken out and put back, and a row is made of memory and gives it back.
-use Rattle.ring_slots.proofs.Words.{◌≡◌, refl, sym, ap, ◌∙◌, false, List, [], ◌∷◌, ℕ, zero, suc, ◌+◌, ◌*◌, ◌^◌, ◌<◌, ◌≤◌, zero-mul, suc-mul, mul-le-mul_right, arith, T, eqb, length, get_or, replicate, Ura, full_share, ent, sep, Fml, Lft, fsep, fat, froom, Ty, ty_array, Val, has_ty, WT, Logic, sem, ‵, ◌⊛◌, some, ◌$◌, ◌∵◌, !, qed, by, move, keep, drop, use1, use2, pick, split, rewrite, fsplit, fjoin, frame, done, Typed, mem, cells, part_at, layout, param, RattleType, nothing, capped_is, capped, part_out, Option, Some, None, IsSome, type_size, ◌++◌, cut, take, take-append-drop, length-take, length-drop, map, elements_shared, length-map, HoldsStretch, IsFullStretch, slot, row, row_shown, common_steps}
+use Rattle.ring_slots.proofs.Words.{drop-cons, ◌≡◌, refl, sym, ap, ◌∙◌, false, List, [], ◌∷◌, ℕ, zero, suc, ◌+◌, ◌*◌, ◌^◌, ◌<◌, ◌≤◌, zero-mul, suc-mul, mul-le-mul_right, arith, T, eqb, length, get_or, replicate, Ura, full_share, ent, sep, Fml, Lft, fsep, fat, froom, Ty, ty_array, Val, has_ty, WT, Logic, sem, ‵, ◌⊛◌, some, ◌$◌, ◌∵◌, !, qed, by, move, keep, drop, use1, use2, pick, split, rewrite, fsplit, fjoin, frame, done, Typed, mem, cells, part_at, layout, param, RattleType, nothing, capped_is, capped, part_out, Option, Some, None, IsSome, type_size, ◌++◌, cut, take, take-append-drop, length-take, length-drop, map, elements_shared, length-map, HoldsStretch, IsFullStretch, slot, row, row_shown, common_steps}
 use types.SemTy.{SemTy}
 use Rattle.std.proofs.lemmas.Bool.Decides.{nat_tests}
 use Rattle.core.specs.contracts.option.Option as option
@@ -16,10 +16,8 @@ full_within cs i x holds = grind (arith, common_steps)
 
 -- a full slot is a stretch of one
 pub full_stretch : {A : Type 0} (cs : List (Option A)) (i : ℕ) → IsSome (get_or cs i None) → IsFullStretch cs i 1
-full_stretch [] i full = cc
-full_stretch (None ∷ cs) zero full = cc
-full_stretch (Some x ∷ cs) zero full = (omega arith, (x ∷ [], refl))
-full_stretch (c ∷ cs) (suc i) full = let rest = full_stretch cs i full in (omega (arith, rest.0), rest.1)
+full_stretch cs i full =
+    let (x, is) = item_of (get_or cs i None) full in let low = full_within cs i x is in (omega (arith, low), (x ∷ [], ap (take 1) (drop-cons cs i None low) ∙ ap (λ c. c ∷ []) is))
 
 -- where n sizes fit a block, so do a stretch of slots, and the way to it
 pub stretch_fits : (from len n bytes : ℕ) → from + len ≤ n → n * bytes < 2 ^ 63 → (from * bytes < 2 ^ 64) × (len * bytes < 2 ^ 63)
