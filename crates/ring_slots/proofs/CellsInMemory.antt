@@ -79,7 +79,8 @@ module _ (X : RattleType) (n : ℕ) {M : Type 1} {𝓤 : Ura M} (𝓛 : Logic �
   abbrev pub Rest : SProp 𝓤
   Rest = sep 𝓤 (sem 𝓛 (around (mem R) b d.xs from len o)) (Shell X n 𝓛 b o)
 
-  pub stretch_out : from + len ≤ length d.xs → ent 𝓤 (sep 𝓤 (sem 𝓛 (cells (mem R) d.xs b o)) (Shell X n 𝓛 b o)) (sep 𝓤 (sem 𝓛 (cells (mem R) stretch b (from * (mem R).size + o))) Rest)
+  pub stretch_out : from + len ≤ length d.xs
+      → ent 𝓤 (sep 𝓤 (sem 𝓛 (cells (mem R) d.xs b o)) (Shell X n 𝓛 b o)) (sep 𝓤 (sem 𝓛 (cells (mem R) stretch b (from * (mem R).size + o))) Rest)
   stretch_out within =
       qed 𝓛 (‵ (cells (mem R) d.xs b o) ∷ raw (Shell X n 𝓛 b o) ∷ []) ∵
       use1 𝓛 (‵ (cells (mem R) stretch b (from * (mem R).size + o)) ⊛ ‵ (around (mem R) b d.xs from len o)) (taken_out (mem R) b 𝓛 d.xs from len o within) $ split ! $ done !

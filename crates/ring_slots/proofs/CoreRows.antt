@@ -1,5 +1,5 @@
 -- The slots of an owner become a row of core's, and a row becomes slots.
-use Rattle.ring_slots.proofs.Words.{min, is_some, ◌≡◌, refl, Bool, true, false, List, [], ◌∷◌, ℕ, zero, suc, ◌+◌, ◌<◌, ◌≤◌, arith, length, map, get_or, Ura, ent, emp, id⊢, Fml, Logic, sem, ‵, ◌$◌, ◌∵◌, !, qed, use1, frame, by, layout, froom, RattleType, Option, Some, None, row, slot, mono_r, Laws, block_ptr, if◌then◌else◌, slice_get}
+use Rattle.ring_slots.proofs.Words.{ap, is_some, ◌≡◌, refl, Bool, true, false, List, [], ◌∷◌, ℕ, zero, suc, ◌+◌, ◌<◌, ◌≤◌, arith, length, map, get_or, Ura, ent, emp, id⊢, Fml, Logic, sem, ‵, ◌$◌, ◌∵◌, !, qed, use1, frame, by, layout, froom, RattleType, Option, Some, None, row, slot, mono_r, Laws, block_ptr, if◌then◌else◌, slice_get}
 use Rattle.core.specs.Mem.Slots.Ownership.{slots}
 use Rattle.std_alloc.proofs.VecSteps.El.{El, no_al}
 use Rattle.ring_slots.proofs.SlotsInMemory.{R, bytes, room_of}
@@ -21,11 +21,11 @@ module _ {A : Type 0} where
   slots_to zero (x ∷ xs) (f ∷ fs) = None ∷ slots_to zero xs fs
   slots_to (suc n) (x ∷ xs) (f ∷ fs) = (if f then Some x else None) ∷ slots_to n xs fs
 
-  pub length-slots_to : (n : ℕ) (xs : List A) (fs : List Bool) → length (slots_to n xs fs) ≡ min (length fs) (length xs)
-  length-slots_to n [] fs = omega arith
-  length-slots_to n (x ∷ xs) [] = omega arith
-  length-slots_to zero (x ∷ xs) (f ∷ fs) = omega (arith, length-slots_to zero xs fs)
-  length-slots_to (suc n) (x ∷ xs) (f ∷ fs) = omega (arith, length-slots_to n xs fs)
+  pub length-slots_to : (n : ℕ) (xs : List A) (fs : List Bool) → length fs ≡ length xs → length (slots_to n xs fs) ≡ length xs
+  length-slots_to n [] fs same = refl
+  length-slots_to n (x ∷ xs) [] same = absurd (omega arith)
+  length-slots_to zero (x ∷ xs) (f ∷ fs) same = ap suc (length-slots_to zero xs fs (omega arith))
+  length-slots_to (suc n) (x ∷ xs) (f ∷ fs) same = ap suc (length-slots_to n xs fs (omega arith))
 
   -- a slot holds what its place of the row says
   pub held_in : (x : A) (cs : List (Option A)) (i : ℕ) → get_or cs i None ≡ (if get_or (map is_some cs) i false then slice_get (map (or_this x) cs) i else None)
@@ -34,7 +34,8 @@ module _ {A : Type 0} where
   held_in x (Some y ∷ cs) zero = refl
   held_in x (c ∷ cs) (suc i) = held_in x cs i
 
-  pub held_to : (n : ℕ) (xs : List A) (fs : List Bool) (i : ℕ) → length fs ≡ length xs → (i < n → get_or (slots_to n xs fs) i None ≡ (if get_or fs i false then slice_get xs i else None)) × (n ≤ i → get_or (slots_to n xs fs) i None ≡ None)
+  pub held_to : (n : ℕ) (xs : List A) (fs : List Bool) (i : ℕ) → length fs ≡ length xs
+      → (i < n → get_or (slots_to n xs fs) i None ≡ (if get_or fs i false then slice_get xs i else None)) × (n ≤ i → get_or (slots_to n xs fs) i None ≡ None)
   held_to n [] [] i same = (λ low. refl, λ late. refl)
   held_to n [] (f ∷ fs) i same = absurd (omega arith)
   held_to n (x ∷ xs) [] i same = absurd (omega arith)

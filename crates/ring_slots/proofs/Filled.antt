@@ -41,7 +41,8 @@ refilled_is cs place ys =
     ap (λ l. take place cs ++ (l ++ cut (place + n) cs)) (take_front (map Some ys) (cut (length (map Some ys)) zs) n (omega (arith, length-map ys Some)))
 
 -- slots that hold a row into which items were copied have these items
-pub copied : {X : Type 0} (old new : List (Option X)) (before after : Row X) (size from : ℕ) (xs : List X) → size ≡ length old → from + length xs ≤ length old → HoldsRow old before size → HoldsRow new after size → SamePlaces before after
+pub copied : {X : Type 0} (old new : List (Option X)) (before after : Row X) (size from : ℕ) (xs : List X) → size ≡ length old → from + length xs ≤ length old
+    → HoldsRow old before size → HoldsRow new after size → SamePlaces before after
     → slots_items after ≡ take from (slots_items before) ++ xs ++ cut (from + length xs) (slots_items before) → Filled (slots_filled after) from (from + length xs)
     → SameOutside false (slots_filled before) (slots_filled after) from (from + length xs) → new ≡ filled old from xs
 copied old new before after size from xs all within had has places items full outside =

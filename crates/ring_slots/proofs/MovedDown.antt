@@ -82,5 +82,5 @@ module _ {X : Type 0} (old new : List (Option X)) (before between after : Row X)
 
     pub brought : new ≡ brought_first old from len
     brought =
-        let long = has.size in
-        ext_get_or None new (brought_first old from len) (omega (arith, length-brought old from len, counts, after.ok.0)) (λ i low. grind (arith, has.behind i, in_last i, in_first i, brought-reads old from len (omega arith) (omega arith) i))
+        let long = has.size in let reads = brought-reads old from len (omega arith) (omega arith) in
+        ext_get_or None new (brought_first old from len) (omega (arith, length-brought old from len, counts, after.ok.0)) (λ i low. grind (arith, has.behind i, in_last i, in_first i, reads i))

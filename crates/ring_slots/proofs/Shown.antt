@@ -11,9 +11,11 @@ use Rattle.ring_slots.proofs.SlotsInMemory.{stretch_long}
 pub marks-read : (fs : List Bool) (b : Bool) (from n i : ℕ) → from + n ≤ length fs → let over = take from fs ++ (replicate n b ++ cut (from + n) fs) in
     (i < from → get_or over i false ≡ get_or fs i false) × (from ≤ i → i < from + n → get_or over i false ≡ b) × (from + n ≤ i → get_or over i false ≡ get_or fs i false)
 marks-read fs b from n i room =
-    let (before, within, behind) = over-reads fs (replicate n b) from n i false (length-replicate n b) room in (before, λ late low. within late low ∙ get_or-replicate n (i - from) b false (omega arith), behind)
+    let (before, within, behind) = over-reads fs (replicate n b) from n i false (length-replicate n b) room in
+    (before, λ late low. within late low ∙ get_or-replicate n (i - from) b false (omega arith), behind)
 
-pub copy-reads : {A : Type 0} (xs : List A) (from to n i : ℕ) (d : A) → from + n ≤ length xs → to + n ≤ length xs → let over = take to xs ++ (take n (cut from xs) ++ cut (to + n) xs) in
+pub copy-reads : {A : Type 0} (xs : List A) (from to n i : ℕ) (d : A) → from + n ≤ length xs → to + n ≤ length xs
+    → let over = take to xs ++ (take n (cut from xs) ++ cut (to + n) xs) in
     (i < to → get_or over i d ≡ get_or xs i d) × (to ≤ i → i < to + n → get_or over i d ≡ get_or xs (from + (i - to)) d) × (to + n ≤ i → get_or over i d ≡ get_or xs i d)
 copy-reads xs from to n i d low room =
     let (before, within, behind) = over-reads xs (take n (cut from xs)) to n i d (omega (arith, length-take n (cut from xs), length-drop from xs)) room in
@@ -33,9 +35,9 @@ module _ {X : Type 0} where
   shown-at (f ∷ fs) (x ∷ xs) (suc i) d low = shown-at fs xs i d (omega arith)
 
   -- slots that read so are what is shown
-  pub shown-is : (fs : List Bool) (xs : List X) (cs : List (Option X)) → length fs ≡ length xs → length cs ≡ length xs
+  pub shown-is : (fs : List Bool) (xs : List X) (cs : List (Option X)) → (length fs ≡ length xs) × (length cs ≡ length xs)
       → ((i : ℕ) (d : X) → i < length xs → get_or cs i None ≡ (if get_or fs i false then Some (get_or xs i d) else None)) → shown fs xs ≡ cs
-  shown-is fs xs cs same long reads =
+  shown-is fs xs cs long reads =
       let many = length-shown fs xs in ext_get_or None (shown fs xs) cs (omega arith) (λ i low.
       let within : i < length xs = omega arith in let d = first_item xs (omega arith) in shown-at fs xs i d within ∙ sym (reads i d within))
 
@@ -73,21 +75,21 @@ module _ {X : Type 0} {n : ℕ} (s : Inside X n) (sized : (length s.cells.xs ≡
     full-item x is = let low = within in grind (arith, sized, shown-at fs xs k x)
 
     pub shown-write : (x : X) → shown fs (set xs k x) ≡ set (shown fs xs) k (Some x)
-    shown-write x = let long = size-shown in shown-is _ _ _ (grind (arith, common_steps, sized)) (grind (arith, common_steps, sized)) (λ i d low. grind (arith, common_steps, sized, shown-at fs xs i d, cases_eq i k))
+    shown-write x = let long = size-shown in shown-is _ _ _ (grind (arith, common_steps, sized)) (λ i d low. grind (arith, common_steps, sized, shown-at fs xs i d, cases_eq i k))
 
   -- an item written into a cell whose mark is set to full, and a mark set to empty
   pub shown-put : (k : ℕ) (x : X) → shown (set fs k true) (set xs k x) ≡ set (shown fs xs) k (Some x)
-  shown-put k x = let long = size-shown in shown-is _ _ _ (grind (arith, common_steps, sized)) (grind (arith, common_steps, sized)) (λ i d low. grind (arith, common_steps, sized, shown-at fs xs i d, cases_eq i k))
+  shown-put k x = let long = size-shown in shown-is _ _ _ (grind (arith, common_steps, sized)) (λ i d low. grind (arith, common_steps, sized, shown-at fs xs i d, cases_eq i k))
 
   pub shown-take : (k : ℕ) → shown (set fs k false) xs ≡ set (shown fs xs) k None
-  shown-take k = let long = size-shown in shown-is _ _ _ (grind (arith, common_steps, sized)) (grind (arith, common_steps, sized)) (λ i d low. grind (arith, common_steps, sized, shown-at fs xs i d, cases_eq i k))
+  shown-take k = let long = size-shown in shown-is _ _ _ (grind (arith, common_steps, sized)) (λ i d low. grind (arith, common_steps, sized, shown-at fs xs i d, cases_eq i k))
 
   -- items written over a stretch of cells, whose marks are set to full
   pub shown-filled : (from len : ℕ) (ys : List X) → length ys ≡ len → from + len ≤ n
       → shown (take from fs ++ (replicate len true ++ cut (from + len) fs)) (take from xs ++ (ys ++ cut (from + len) xs)) ≡ filled (shown fs xs) from ys
   shown-filled from len ys many low =
       let long = size-shown in let room : from + length ys ≤ length (shown fs xs) = omega arith in let items = length-over xs ys from len many in
-      shown-is _ _ _ (grind (arith, common_steps, sized)) (grind (arith, common_steps, sized)) (λ i d inside.
+      shown-is _ _ _ (grind (arith, common_steps, sized)) (λ i d inside.
       let old = filled-before (shown fs xs) from ys room i in let new = filled-in (shown fs xs) from ys room i in let old' = filled-behind (shown fs xs) from ys room i in
       grind (arith, sized, old, new, old', slice_get-get_or ys (i - from) d, shown-at fs xs i d, marks-read fs true from len i, over-reads xs ys from len i d))
 
@@ -106,7 +108,8 @@ module _ {X : Type 0} {n : ℕ} (s : Inside X n) (sized : (length s.cells.xs ≡
     stretch-shown =
         let long = size-shown in let items = length-map (take len (cut from xs)) Some in
         ext_get_or None (take len (cut from (shown fs xs))) (map Some (take len (cut from xs))) (grind (arith, common_steps, sized)) (λ i low.
-        let d = first_item xs (omega (arith, sized, full.0, length-take len (cut from (shown fs xs)))) in grind (arith, common_steps, sized, shown-at fs xs (from + i) d, marked-at i))
+        let d = first_item xs (omega (arith, sized, full.0, length-take len (cut from (shown fs xs)))) in
+        grind (arith, common_steps, sized, shown-at fs xs (from + i) d, marked-at i))
 
     -- items pass along it, each by one change: as many go on as stood there
     module _ (passed : List X → List X → Type 0) (keeps : (had has : List X) → passed had has → length has ≡ length had) (marks : List Bool) (new : List X)

@@ -37,7 +37,7 @@ module _ {X : Type 0} {n : ℕ} (s : Inside X n) (sized : (length s.cells.xs ≡
   shown-moved_down to some order full empty =
       let long = size-shown s sized in let mark = length-over fs (replicate count false) from count (length-replicate count false) (omega (arith, sized)) in
       let cell = length-over xs (take count (cut from xs)) to count (cells-long s sized from count full) (omega (arith, sized)) in
-      shown-is _ _ _ (grind (arith, common_steps, sized)) (grind (arith, common_steps, sized)) (λ i d inside.
+      shown-is _ _ _ (grind (arith, common_steps, sized)) (λ i d inside.
       let moved = moved_down-reads slots from to (omega arith) order i in let full' = marked-at s sized from count full (i - to) in let empty' = empty.1 (i - to) in
       let marks = marks-read fs false from count i in let marks' = marks-read emptied true to count i in let cells = copy-reads xs from to count i d in
       grind (arith, sized, marks, marks', cells, moved, full', empty', shown-at fs xs i d, shown-at fs xs (from + (i - to)) d))
@@ -48,9 +48,10 @@ module _ {X : Type 0} {n : ℕ} (s : Inside X n) (sized : (length s.cells.xs ≡
   shown-brought len some room last first empty between new was is =
       let long = size-shown s sized in let mark = length-over fs (replicate count false) from count (length-replicate count false) (omega (arith, sized)) in
       let cell : length between ≡ length xs = rw was (grind (arith, common_steps, sized)) in let cell' : length new ≡ length xs = rw is (grind (arith, common_steps, sized)) in
-      shown-is _ _ _ (grind (arith, common_steps, sized)) (grind (arith, common_steps, sized)) (λ i d inside.
+      shown-is _ _ _ (grind (arith, common_steps, sized)) (λ i d inside.
       let cells = copies-read xs between new from count len i d (omega (arith, sized)) room was is in let moved = brought-reads slots from len (omega arith) room i in let empty' = empty.1 (i - len) in
-      let marks = marks-read fs false from count i in let marks' = marks-read emptied true 0 (count + len) i in let full = marked-at s sized from count last i in let full' = marked-at s sized 0 len first (i - count) in
+      let marks = marks-read fs false from count i in let marks' = marks-read emptied true 0 (count + len) i in
+      let full = marked-at s sized from count last i in let full' = marked-at s sized 0 len first (i - count) in
       grind (arith, sized, cells, moved, empty', marks, marks', full, full', shown-at fs xs i d, shown-at fs xs (from + i) d, shown-at fs xs (i - count) d))
 
   -- the slots once items are written over those of a full stretch
@@ -62,6 +63,6 @@ module _ {X : Type 0} {n : ℕ} (s : Inside X n) (sized : (length s.cells.xs ≡
       let written : refill len (map Some lent) (map Some ws) ≡ map Some ys = grind (arith, common_steps, drop-map, take-map) in
       let is : refilled slots from len ws ≡ take from slots ++ (map Some ys ++ cut (from + len) slots) = rw (stretch-shown s sized from len full, written) refl in
       let cells = length-over xs ys from len many low in let cells' = length-over slots (map Some ys) from len many' full.0 in
-      shown-is _ _ _ (omega (arith, sized)) (omega (arith, sized, ap length is)) (λ i d inside.
-      let k : ℕ = i - from in let reads = ap (λ l. get_or l i None) is in
-      grind (arith, sized, reads, over-reads slots (map Some ys) from len i None, over-reads xs ys from len i d, get_or-map_some ys k, slice_get-get_or ys k d, shown-at fs xs i d, marked-at s sized from len full k))
+      shown-is _ _ _ (omega (arith, sized), omega (arith, sized, ap length is)) (λ i d inside.
+      let k : ℕ = i - from in let reads = ap (λ l. get_or l i None) is in let item = slice_get-get_or ys k d in let mark = marked-at s sized from len full k in
+      grind (arith, sized, reads, over-reads slots (map Some ys) from len i None, over-reads xs ys from len i d, get_or-map_some ys k, item, shown-at fs xs i d, mark))

@@ -78,7 +78,8 @@ module _ (X : RattleType) where
           → ent 𝓤 (sem 𝓛 (row R b o cs)) (sep 𝓤 (sem 𝓛 (row R b (from * bytes + o) (take len (cut from cs)))) (sem 𝓛 (around o cs from len)))
       stretch_out cs from len o within =
           let at = from * bytes + o in let inner = take len (cut from cs) in
-          qed 𝓛 (‵ (row R b o cs) ∷ []) ∵ rewrite ! 0 (λ (f : Fml). ‵ f) (row_is cs o) refl $ use1 𝓛 (‵ (cells Slot inner b at) ⊛ ‵ (around o cs from len)) (stretch.stretch_out Slot b 𝓛 cs from len o within) $ split ! $
+          qed 𝓛 (‵ (row R b o cs) ∷ []) ∵ rewrite ! 0 (λ (f : Fml). ‵ f) (row_is cs o) refl $
+          use1 𝓛 (‵ (cells Slot inner b at) ⊛ ‵ (around o cs from len)) (stretch.stretch_out Slot b 𝓛 cs from len o within) $ split ! $
           rewrite ! 0 (λ (f : Fml). ‵ f) (sym (row_is inner at)) refl $ done !
 
       pub stretch_in : (cs : List (Option X.Denot)) (from len o : ℕ) (new : List (Option X.Denot)) → from ≤ length cs → length new ≡ len

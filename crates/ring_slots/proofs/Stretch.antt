@@ -25,9 +25,9 @@ module _ (T : SemTy) (b : ℕ) where
     pub stretch_out : (xs : List T.rep) (from len o : ℕ) → from + len ≤ length xs
         → ent 𝓤 (sem 𝓛 (cells T xs b o)) (sep 𝓤 (sem 𝓛 (cells T (take len (cut from xs)) b (from * T.size + o))) (sem 𝓛 (around xs from len o)))
     stretch_out xs from len o within =
-        let at = from * T.size + o in
-        qed 𝓛 (‵ (cells T xs b o) ∷ []) ∵ use1 𝓛 (‵ (cells T (take from xs) b o) ⊛ ‵ (cells T (cut from xs) b at)) (cut_at from xs o (omega arith)) $ split ! $ move ! (1 ∷ []) $
-        use1 𝓛 (‵ (cells T (take len (cut from xs)) b at) ⊛ ‵ (cells T (cut len (cut from xs)) b (len * T.size + at))) (cut_at len (cut from xs) at (omega (arith, length-drop from xs))) $ split ! $
+        let at = from * T.size + o in let rest = cut from xs in
+        qed 𝓛 (‵ (cells T xs b o) ∷ []) ∵ use1 𝓛 (‵ (cells T (take from xs) b o) ⊛ ‵ (cells T rest b at)) (cut_at from xs o (omega arith)) $ split ! $ move ! (1 ∷ []) $
+        use1 𝓛 (‵ (cells T (take len rest) b at) ⊛ ‵ (cells T (cut len rest) b (len * T.size + at))) (cut_at len rest at (omega (arith, length-drop from xs))) $ split ! $
         rewrite ! 1 (λ (l : List T.rep). ‵ (cells T l b (len * T.size + at))) (drop-drop len from xs) refl $ move ! (2 ∷ 1 ∷ []) $ fjoin ! $ move ! (1 ∷ 0 ∷ []) $ done !
 
     pub stretch_in : (xs : List T.rep) (from len o : ℕ) (new : List T.rep) → from ≤ length xs → length new ≡ len
@@ -35,4 +35,5 @@ module _ (T : SemTy) (b : ℕ) where
     stretch_in xs from len o new within long =
         let at = from * T.size + o in let behind = cut (from + len) xs in
         qed 𝓛 (‵ (cells T new b at) ∷ ‵ (around xs from len o) ∷ []) ∵ move ! (1 ∷ []) $ fsplit ! $ move ! (2 ∷ 1 ∷ []) $
-        use2 𝓛 (‵ (cells T (new ++ behind) b at)) (join_at len new behind at long) $ move ! (1 ∷ 0 ∷ []) $ by ! (join_at from (take from xs) (new ++ behind) o (omega (arith, length-take from xs)))
+        use2 𝓛 (‵ (cells T (new ++ behind) b at)) (join_at len new behind at long) $ move ! (1 ∷ 0 ∷ []) $
+        by ! (join_at from (take from xs) (new ++ behind) o (omega (arith, length-take from xs)))

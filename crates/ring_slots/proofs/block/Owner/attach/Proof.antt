@@ -1,5 +1,5 @@
 -- The row becomes slots again, which the owner closes over.
-use Rattle.ring_slots.proofs.Words.{arith, Goes-number, stay_number, ◌≡◌, refl, sym, subst, ◌∙◌, List, [], ◌∷◌, ◌++◌, ℕ, ◌*◌, ◌^◌, ◌<◌, length, Fn, a_type, named, inst_fn, Val, vptr, vunit, SProp, Bool, ftrue, flft, WpFn, ‵, raw, ◌⊛◌, given, later, learn, await, prop, at_ret, ◌$◌, ◌∵◌, !, qed, move, keep, drop, use1, use2, split, split3, join, fsplit, fsplit3, fjoin, fjoin3, feq_i, feq_l, flt_l, regoal, suffices, frame, done, unit_lit, of_opd, and_then, no_more, first, blocks, exec, returns, enter, alloc_all, pass_all, free_all, look_at, get, sets, lands_last, env, ◌⊑◌, fact, tables, usize, no, layouts, MutRef, plain, nothing, heard, says, Stays, stay_dropped, stay_ref, Goes-dropped, Goes-ref, walk_of, ends_at, calls_at_last, framed, type_size, after, proved_at, row, row_val}
+use Rattle.ring_slots.proofs.Words.{Goes-number, stay_number, ◌≡◌, refl, sym, subst, ◌∙◌, List, [], ◌∷◌, ◌++◌, ℕ, ◌*◌, ◌^◌, ◌<◌, length, Fn, a_type, named, inst_fn, Val, vptr, vunit, SProp, Bool, ftrue, flft, WpFn, ‵, raw, ◌⊛◌, given, later, learn, await, prop, at_ret, ◌$◌, ◌∵◌, !, qed, move, keep, drop, use1, use2, split, split3, join, fsplit, fsplit3, fjoin, fjoin3, feq_i, feq_l, flt_l, regoal, suffices, frame, done, unit_lit, of_opd, and_then, no_more, first, blocks, exec, returns, enter, alloc_all, pass_all, free_all, look_at, get, sets, lands_last, env, ◌⊑◌, fact, tables, usize, no, layouts, MutRef, plain, nothing, heard, says, Stays, stay_dropped, stay_ref, Goes-dropped, Goes-ref, walk_of, ends_at, calls_at_last, framed, type_size, after, proved_at, row, row_val}
 use Rattle.core.specs.Mem.Slots.{slots_counts, slots_filled, slots_items, slots_len, slots_ptr}
 use Rattle.core.specs.contracts.slots.Slots as C
 use Rattle.core.proofs.slots.Opens.{row_had, row_made}
@@ -37,7 +37,7 @@ attach_spec 𝓤 𝓛 𝓜 𝓡 wired X L =
     enter ! _ _ _ _ _ $ alloc_all ! (λ l. pass_all ! refl ((tt, tt), ((tt, (tt, (record { fits = few }, tt))), ((tt, record { fits = fits }), tt))) $
     let z : (Into E 𝓛 𝓜.mem 𝓡.returns).Ghost = at_into E 𝓛 𝓜.mem 𝓡.returns κ q r b o in
     let counts = slots_counts r in let many : length fs ≡ length xs = sym counts.1 ∙ counts.0 in
-    let long : length (slots_to len xs fs) ≡ n = omega (arith, length-slots_to len xs fs, counts, many) in
+    let long : length (slots_to len xs fs) ≡ n = length-slots_to len xs fs many ∙ sym counts.0 in
     let new : (Seen X).Denot = record d { slots = slots_to len xs fs } in
     first ! $ blocks ! $ sets ! (of_opd ! (get ! refl)) refl (tt, (tt, (record { fits = few }, tt))) $
     move ! (1 ∷ []) $ split ! $ move ! (2 ∷ 0 ∷ []) $

@@ -11,8 +11,8 @@ slice_mut-requires g c = (search rules, omega (arith, c.requires.full.0, size-se
 pub invariant_of-self-lent : goal.invariant_of-self-lent
 invariant_of-self-lent g c w =
     let full = rw (sym c.self.view_is) at c.requires.full in let xs = c.self.inside.cells.xs in let from = c.args.from in let len = c.args.len in let lent = take len (cut from xs) in
-    let many = length_refill len lent w (sym (cells-long c.self.inside c.self.invariant from len full)) in
-    (length-over xs (refill len lent w) from len (sym many) (omega (arith, c.requires.full.0, size-seen c.self.inside c.self.invariant c.self.view_is, c.self.invariant)) ∙ c.self.invariant.0, c.self.invariant.1)
+    let many = length_refill len lent w (sym (cells-long c.self.inside c.self.invariant from len full)) in let size = size-seen c.self.inside c.self.invariant c.self.view_is in
+    (length-over xs (refill len lent w) from len (sym many) (omega (arith, c.requires.full.0, size, c.self.invariant)) ∙ c.self.invariant.0, c.self.invariant.1)
 
 -- The marks stay, and all of the stretch is full.
 pub returns : goal.returns

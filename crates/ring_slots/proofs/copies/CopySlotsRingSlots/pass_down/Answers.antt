@@ -8,9 +8,10 @@ pass_down-requires g c = (search rules, omega (arith, c.requires.0, size-seen c.
 
 pub invariant_of-self : goal.invariant_of-self
 invariant_of-self g c =
-    kept c.self.inside c.self.invariant c.args.from c.args.len (rw (sym c.self.view_is) at c.requires) _ (as-many_down c.args.item c.pass_down.result) _ _ c.marked-self-inside.ensures c.pass_down.ensures
+    let keeps = as-many_down c.args.item c.pass_down.result in let full = rw (sym c.self.view_is) at c.requires in
+    kept c.self.inside c.self.invariant c.args.from c.args.len full _ keeps _ _ c.marked-self-inside.ensures c.pass_down.ensures
 
 pub returns : goal.returns
 returns g c =
-    let full = rw (sym c.self.view_is) at c.requires in
-    rw (sym c.self.view_is) (passes c.self.inside c.self.invariant c.args.from c.args.len full _ (as-many_down c.args.item c.pass_down.result) _ _ c.marked-self-inside.ensures c.pass_down.ensures _ c.after-self-inside.ensures)
+    let keeps = as-many_down c.args.item c.pass_down.result in let full = rw (sym c.self.view_is) at c.requires in
+    rw (sym c.self.view_is) (passes c.self.inside c.self.invariant c.args.from c.args.len full _ keeps _ _ c.marked-self-inside.ensures c.pass_down.ensures _ c.after-self-inside.ensures)

@@ -8,9 +8,10 @@ pass_up-requires g c = (search rules, omega (arith, c.requires.0, size-seen c.se
 
 pub invariant_of-self : goal.invariant_of-self
 invariant_of-self g c =
-    kept c.self.inside c.self.invariant c.args.from c.args.len (rw (sym c.self.view_is) at c.requires) _ (as-many_up c.args.item c.pass_up.result) _ _ c.marked-self-inside.ensures c.pass_up.ensures
+    let keeps = as-many_up c.args.item c.pass_up.result in let full = rw (sym c.self.view_is) at c.requires in
+    kept c.self.inside c.self.invariant c.args.from c.args.len full _ keeps _ _ c.marked-self-inside.ensures c.pass_up.ensures
 
 pub returns : goal.returns
 returns g c =
-    let full = rw (sym c.self.view_is) at c.requires in
-    rw (sym c.self.view_is) (passes c.self.inside c.self.invariant c.args.from c.args.len full _ (as-many_up c.args.item c.pass_up.result) _ _ c.marked-self-inside.ensures c.pass_up.ensures _ c.after-self-inside.ensures)
+    let keeps = as-many_up c.args.item c.pass_up.result in let full = rw (sym c.self.view_is) at c.requires in
+    rw (sym c.self.view_is) (passes c.self.inside c.self.invariant c.args.from c.args.len full _ keeps _ _ c.marked-self-inside.ensures c.pass_up.ensures _ c.after-self-inside.ensures)

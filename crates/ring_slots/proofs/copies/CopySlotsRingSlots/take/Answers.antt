@@ -6,7 +6,9 @@ pub at-requires : goal.at-requires
 at-requires g c = (search rules, within c.self.inside c.self.invariant c.args.place (rw (sym c.self.view_is) at c.requires))
 
 pub returns-clause-value : goal.returns-clause-value
-returns-clause-value g c = rw (sym c.self.view_is) (full-item c.self.inside c.self.invariant c.args.place (rw (sym c.self.view_is) at c.requires) c.at.result.now c.at.ensures)
+returns-clause-value g c =
+    let full = rw (sym c.self.view_is) at c.requires in
+    rw (sym c.self.view_is) (full-item c.self.inside c.self.invariant c.args.place full c.at.result.now c.at.ensures)
 
 pub returns-clause-after : goal.returns-clause-after
 returns-clause-after g c =
