@@ -1,9 +1,7 @@
 -- What rings hold that were made of other collections.
-use Rattle.ringbuffer.proofs.Words.{MatchResult, ℕ, suc, ◌-◌, ◌≤◌, All, Bor, IfOk, IsOk, IsSome, IsUtf8, Result, Ok, Err, is_ok, true, chars, List, [], ◌∷◌, length, map, Option, None, Drains, AllZip, YieldsList, YieldsList-turn, YieldsThen, shown_drained, ClonesMeet, somes}
+use Rattle.ringbuffer.proofs.Words.{MatchResult, ℕ, suc, ◌-◌, ◌≤◌, All, Bor, IfOk, IsOk, IsSome, IsUtf8, Result, Ok, Err, is_ok, true, chars, List, [], ◌∷◌, length, map, Option, None, Drains, AllZip, YieldsList, YieldsList-turn, YieldsThen, shown_drained, ClonesMeet, somes, map-id, All-head, All-tail}
 -- the names that the answers of conversions write, too
 pub use Rattle.ringbuffer.proofs.Words.{YieldsList-from_chars, YieldsList-from_rest, YieldsList-from_slice, YieldsList-from_vec, YieldsList-unpacked, chars_rest, held_on_ok, IfOk-weaker, View, keep_last, Some, ◌≡◌, ◌++◌, ◌∙◌, ap, refl, sym, arith, rules}
-use Rattle.std.proofs.lemmas.List.{map-id}
-use Rattle.std.proofs.lemmas.List.Elements.{All-head, All-tail}
 use Rattle.std.proofs.lemmas.Str.{encodes-chars, length-le-encodes}
 
 -- the items of a source that was taken to its end are the list that it yields

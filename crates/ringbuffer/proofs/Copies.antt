@@ -1,7 +1,5 @@
 -- Items put at once into slots side by side, after the last or in place of others.
-use Rattle.ringbuffer.proofs.Words.{[], ◌∷◌, ◌≡◌, ℕ, ◌+◌, ◌-◌, ◌%◌, ◌<◌, ◌≤◌, List, ◌++◌, drop, append_assoc, map, length-map, map-append, length, length-take, get_or, set, take, None, Option, Some, ap, refl, sym, ◌∙◌, arith, length-append, common_steps, slice_get, slice_get_cases, slice_get_past, ◌⊎◌, Slots, changed, after_puts, view_from, SlotsHold, items_from, IsLaidOut, LaysOut, drop_more, slice_get_within, filled, with_items}
-use Rattle.std.proofs.Math.Seq.{set-append_seam}
-use Rattle.ring_slots.proofs.Filled.{filled-before, filled-behind, filled-in, length-filled}
+use Rattle.ringbuffer.proofs.Words.{[], ◌∷◌, ◌≡◌, ℕ, ◌+◌, ◌-◌, ◌%◌, ◌<◌, ◌≤◌, List, ◌++◌, drop, append_assoc, map, length-map, map-append, length, length-take, get_or, set, take, None, Option, Some, ap, refl, sym, ◌∙◌, arith, length-append, common_steps, slice_get, slice_get_cases, slice_get_past, ◌⊎◌, Slots, changed, after_puts, view_from, SlotsHold, items_from, IsLaidOut, LaysOut, drop_more, slice_get_within, filled, with_items, filled-before, filled-behind, filled-in, length-filled, set-append_seam}
 use Rattle.ringbuffer.proofs.SlotsHold.{contiguous_on, wrap}
 use Rattle.ringbuffer.proofs.LaysOut.{LaysOut-items}
 use Rattle.ringbuffer.proofs.Paired.{take_item}

@@ -1,6 +1,5 @@
 -- Items with a gap between them, where some were dropped from an index up to another, which is closed item by item.
-use Rattle.ringbuffer.proofs.Words.{after_cut, common_steps, items_from, subst, view_from, ◌≡◌, ◌≢◌, ℕ, ◌+◌, ◌-◌, ◌%◌, ◌<◌, ◌≤◌, ◌⊎◌, List, length, Option, None, Some, refl, sym, ap, ◌∙◌, arith, get_or, get_or-set_other, get_or-set_same, if◌then◌else◌, length-set, mod-lt, nat_lt, set, slice_get, slice_get_cases, slice_get_past, add-mod_right, dec_lt, mod-eq_of_lt, slot_after, nat_eq, IsSome, Slots, changed, slot_at, Moves, View, IsLaidOut, LaysApart, LaysOut, append-nil, drop-length, inl, inr, take, drop, min, IsFullAt, after_takes, after_truncate, AreFull, Empties, ◌++◌}
-use Rattle.std.proofs.lemmas.Bool.Decides.{nat_tests}
+use Rattle.ringbuffer.proofs.Words.{after_cut, common_steps, items_from, subst, view_from, ◌≡◌, ◌≢◌, ℕ, ◌+◌, ◌-◌, ◌%◌, ◌<◌, ◌≤◌, ◌⊎◌, List, length, Option, None, Some, refl, sym, ap, ◌∙◌, arith, get_or, get_or-set_other, get_or-set_same, if◌then◌else◌, length-set, mod-lt, nat_lt, set, slice_get, slice_get_cases, slice_get_past, add-mod_right, dec_lt, mod-eq_of_lt, slot_after, nat_eq, IsSome, Slots, changed, slot_at, Moves, View, IsLaidOut, LaysApart, LaysOut, append-nil, drop-length, inl, inr, take, drop, min, IsFullAt, after_takes, after_truncate, AreFull, Empties, ◌++◌, nat_tests}
 use Rattle.ringbuffer.proofs.LaysOut.{LaysOut-items, slice_get_some}
 use Rattle.ringbuffer.proofs.RepeatedSteps.{view_is}
 use Rattle.ringbuffer.proofs.SlotsHold.{count_on, same_count, wrap}

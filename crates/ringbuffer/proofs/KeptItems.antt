@@ -1,8 +1,5 @@
 -- What stands while the items of a ring are asked about in turn, and each that is kept moves down after those kept before it.
-use Rattle.ringbuffer.proofs.Words.{◌≡◌, ℕ, ◌+◌, ◌-◌, ◌%◌, ◌<◌, ◌≤◌, Bool, true, false, List, [], ◌∷◌, ◌++◌, if◌then◌else◌, inr, length, drop, nat_lt, None, Some, refl, sym, ap, ◌∙◌, arith, append-nil, common_steps, append_assoc, length-append, length-set, slice_get, slice_get_cases, slot_at, Slots, changed, Moves, View, IsLaidOut, IsFullAt, LaysApart, LaysOut, items_from, view_from, subst}
-use Rattle.std.proofs.lemmas.Bool.Decides.{nat_tests}
-use Rattle.std.proofs.lemmas.List.{places}
-use Rattle.std.specs.List.{items_where_true}
+use Rattle.ringbuffer.proofs.Words.{◌≡◌, ℕ, ◌+◌, ◌-◌, ◌%◌, ◌<◌, ◌≤◌, Bool, true, false, List, [], ◌∷◌, ◌++◌, if◌then◌else◌, inr, length, drop, nat_lt, None, Some, refl, sym, ap, ◌∙◌, arith, append-nil, common_steps, append_assoc, length-append, length-set, slice_get, slice_get_cases, slot_at, Slots, changed, Moves, View, IsLaidOut, IsFullAt, LaysApart, LaysOut, items_from, view_from, subst, nat_tests, places, items_where_true}
 use Rattle.ring_core.proofs.RetainedItems.{Asks, asks_all, asks_more, asks_none, none_left, picked, picked_few, picked_more, rest_more, some_left}
 use Rattle.ringbuffer.specs.Retaining.{Retains}
 use Rattle.ringbuffer.proofs.Gap.{all_before, goes_over, lays_apart, read_set, reads}

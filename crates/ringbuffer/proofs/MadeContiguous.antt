@@ -1,8 +1,6 @@
 -- Items that lie side by side in the slots of a ring.
-use Rattle.ringbuffer.proofs.Words.{◌≡◌, ℕ, ◌*◌, ◌+◌, ◌-◌, ◌<◌, ◌≤◌, List, ◌++◌, length, map, take, drop, Option, None, Some, inl, inr, refl, sym, ◌∙◌, arith, length-append, length-drop, append_assoc, map-append, min, take_all, take-append-drop, rotated, ◌%◌, IsFullStretch, IsLaidOut, replicate, nat_le, if◌then◌else◌, length_refill, refill, common_steps, drop-drop, drop-map, get_or_append_left, get_or-append_right, get_or-replicate, get_or_past, length-map, length-replicate, take-map, slice_get_past, Slots, HoldsStretch, refilled, after_rewrite, SlotsHold, items_from, LaysOut, view_from, IsSound, beside, contiguous_start}
+use Rattle.ringbuffer.proofs.Words.{◌≡◌, ℕ, ◌*◌, ◌+◌, ◌-◌, ◌<◌, ◌≤◌, List, ◌++◌, length, map, take, drop, Option, None, Some, inl, inr, refl, sym, ◌∙◌, arith, length-append, length-drop, append_assoc, map-append, min, take_all, take-append-drop, rotated, ◌%◌, IsFullStretch, IsLaidOut, replicate, nat_le, if◌then◌else◌, length_refill, refill, common_steps, drop-drop, drop-map, get_or_append_left, get_or-append_right, get_or-replicate, get_or_past, length-map, length-replicate, take-map, slice_get_past, Slots, HoldsStretch, refilled, after_rewrite, SlotsHold, items_from, LaysOut, view_from, IsSound, beside, contiguous_start, get_or-map_some, IsEmptyStretch, brought_first, moved_down, with_refilled}
 use Rattle.ringbuffer.proofs.LaysOut.{IsSound-after, LaysOut-items}
-use Rattle.ring_slots.specs.Slots.{IsEmptyStretch, brought_first, moved_down, with_refilled}
-use Rattle.ring_slots.proofs.Filled.{get_or-map_some}
 use Rattle.ringbuffer.proofs.Copies.{empty_behind}
 use Rattle.ringbuffer.proofs.Rotations.{length-rotated}
 use Rattle.ringbuffer.proofs.Stretches.{all_in_two, first_held, second_held}

@@ -1,13 +1,10 @@
 -- Items that one more pushes along by one index: those up to the last slot, and those that go on at the first.
-use Rattle.ringbuffer.proofs.Words.{◌≡◌, ℕ, ◌+◌, ◌-◌, ◌%◌, ◌<◌, ◌≤◌, List, [], ◌∷◌, ◌++◌, ◌⊎◌, Some, ap, append_assoc, arith, common_steps, drop, drop-drop, length, length-append, length-drop, length-take, inl, inr, min, mod-lt, mod_self, refl, rules, slice_get, slice_get-drop, slice_get-take, slice_get_cases, subst, suc, sym, take, take_at, ◌∙◌, HoldsStretch, IsFullStretch, IsLaidOut, IsSound, LaysOut, Slots, View, after_insert, after_pop, after_put_first, after_remove, after_take, after_writes, items_from, view_from}
-use Rattle.std.proofs.Math.Seq.{take-add}
-use Rattle.std.proofs.lemmas.List.{places, same_lists, take-take}
+use Rattle.ringbuffer.proofs.Words.{◌≡◌, ℕ, ◌+◌, ◌-◌, ◌%◌, ◌<◌, ◌≤◌, List, [], ◌∷◌, ◌++◌, ◌⊎◌, Some, ap, append_assoc, arith, common_steps, drop, drop-drop, length, length-append, length-drop, length-take, inl, inr, min, mod-lt, mod_self, refl, rules, slice_get, slice_get-drop, slice_get-take, slice_get_cases, subst, suc, sym, take, take_at, ◌∙◌, HoldsStretch, IsFullStretch, IsLaidOut, IsSound, LaysOut, Slots, View, after_insert, after_pop, after_put_first, after_remove, after_take, after_writes, items_from, view_from, Passes, passed_down, passed_up, take-add, places, same_lists, take-take}
 use Rattle.ringbuffer.proofs.Copies.{LaysOut-filled}
 use Rattle.ringbuffer.proofs.LaysOut.{IsSound-after, LaysOut-then}
 use Rattle.ringbuffer.proofs.RepeatedSteps.{view_is}
 use Rattle.ringbuffer.proofs.SlotsHold.{count_on, contiguous_on}
 use Rattle.ringbuffer.proofs.Stretches.{stretch_is, stretch_of}
-use Rattle.ring_slots.specs.Slots.{Passes, passed_down, passed_up}
 
 -- items of a ring, counted from an index, lie side by side from a place on
 record SideBySide {X : Type 0} (s : Slots X) (start i len place : ℕ) : Type 0 where

@@ -1,8 +1,5 @@
 -- Clones of lists' items: what a ring of a fixed capacity shows after they were pushed, and what two lists have together.
-use Rattle.ringbuffer.proofs.Words.{common_steps, ◌≡◌, ℕ, ◌+◌, ◌-◌, ◌<◌, ◌≤◌, List, ◌++◌, length, take, drop, Some, OnOk, MatchResult, Result, ap, arith, length-append, length-drop, length-take, take-append-add, AllZip, AllZip-join, View, after_extend, keep_last, length_all_zip}
-use Rattle.std.proofs.lemmas.Result.{MatchResult-weaker}
-use Rattle.ring_core.specs.Contents.{ChangesSlots}
-use Rattle.ring_core.proofs.Cloned.{equal_clones_pushed}
+use Rattle.ringbuffer.proofs.Words.{common_steps, ◌≡◌, ℕ, ◌+◌, ◌-◌, ◌<◌, ◌≤◌, List, ◌++◌, length, take, drop, Some, OnOk, MatchResult, Result, ap, arith, length-append, length-drop, length-take, take-append-add, AllZip, AllZip-join, View, after_extend, keep_last, length_all_zip, equal_clones_pushed, ChangesSlots, MatchResult-weaker}
 
 module _ {X E : Type 0} (IsClone : X → X → Type 0) (limit : ℕ) (items : List X) (v w : View X) (P : Type 0) (r : Result (Unit {0}) E)
     (pushed : (over : ℕ) × (ys : List X) × (over ≤ length items - limit) × AllZip IsClone (take (length ys) (drop over items)) ys

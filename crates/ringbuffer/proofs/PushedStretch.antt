@@ -1,7 +1,5 @@
 -- Pushes up to the last slot, or to the capacity: a stretch of places that goes contiguous on.
-use Rattle.ringbuffer.proofs.Words.{◌≡◌, ℕ, ◌<◌, ◌≤◌, ◌+◌, ◌-◌, ◌%◌, Bool, true, false, List, [], ◌∷◌, ◌++◌, if◌then◌else◌, nat_eq, refl, ap, sym, ◌∙◌, arith, length, length-append, mod-eq_of_lt, Slots, Span, View, after_put, after_take, after_extend, after_pushes, view_from, LaysOut, PushesOnto}
-use Rattle.std.proofs.lemmas.Bool.Decides.{nat_tests}
-use Rattle.ringbuffer.specs.Layout.{CanPush}
+use Rattle.ringbuffer.proofs.Words.{◌≡◌, ℕ, ◌<◌, ◌≤◌, ◌+◌, ◌-◌, ◌%◌, Bool, true, false, List, [], ◌∷◌, ◌++◌, if◌then◌else◌, nat_eq, refl, ap, sym, ◌∙◌, arith, length, length-append, mod-eq_of_lt, Slots, Span, View, after_put, after_take, after_extend, after_pushes, view_from, LaysOut, PushesOnto, CanPush, nat_tests}
 use Rattle.ringbuffer.proofs.LaysOut.{LaysOut-none, LaysOut-then}
 use Rattle.ringbuffer.proofs.SlotsHold.{contiguous_on, count_on}
 use Rattle.ringbuffer.proofs.RepeatedSteps.{after_extend-then, after_extend-fits, after_extend-full, after_extend-none, after_push-full}

@@ -1,7 +1,5 @@
 -- Items that go round a ring.
-use Rattle.ringbuffer.proofs.Words.{slice_get_cases, ◌≡◌, ℕ, ◌+◌, ◌-◌, ◌<◌, ◌≤◌, List, [], ◌∷◌, ◌++◌, Some, ap, arith, common_steps, drop, ext_get_or, drop-cons, length, refl, slice_get, sym, take, take-suc, rotated, View, after_pop, after_put, after_put_first, after_take, after_firsts_to_back, after_lasts_to_front, ◌∙◌}
-use Rattle.std.proofs.lemmas.Grind.{elements}
-use Rattle.std.proofs.lemmas.Option.{get_or_from_slice_get}
+use Rattle.ringbuffer.proofs.Words.{slice_get_cases, ◌≡◌, ℕ, ◌+◌, ◌-◌, ◌<◌, ◌≤◌, List, [], ◌∷◌, ◌++◌, Some, ap, arith, common_steps, drop, ext_get_or, drop-cons, length, refl, slice_get, sym, take, take-suc, rotated, View, after_pop, after_put, after_put_first, after_take, after_firsts_to_back, after_lasts_to_front, ◌∙◌, elements, get_or_from_slice_get}
 use Rattle.ringbuffer.proofs.RepeatedSteps.{view_is}
 
 module _ {X : Type 0} where

@@ -1,8 +1,5 @@
 -- Two items of a ring in each other's place.
-use Rattle.ringbuffer.proofs.Words.{◌≡◌, ◌≢◌, ℕ, ◌+◌, ◌%◌, ◌<◌, List, length, refl, sym, ◌∙◌, arith, common_steps, None, Some, if◌then◌else◌, get_or, get_or-set_other, get_or-set_same, length-set, mod-lt, nat_eq, set, slice_get, slice_get_cases, Slots, IsFullAt, changed, slot_at, after_swap, items_from, view_from, IsLaidOut, LaysOut}
-use Rattle.std.proofs.lemmas.Bool.Decides.{nat_tests}
-use Rattle.std.proofs.lemmas.List.Edits.{swap_is}
-use Rattle.std.proofs.lemmas.Option.{get_or_from_slice_get}
+use Rattle.ringbuffer.proofs.Words.{◌≡◌, ◌≢◌, ℕ, ◌+◌, ◌%◌, ◌<◌, List, length, refl, sym, ◌∙◌, arith, common_steps, None, Some, if◌then◌else◌, get_or, get_or-set_other, get_or-set_same, length-set, mod-lt, nat_eq, set, slice_get, slice_get_cases, Slots, IsFullAt, changed, slot_at, after_swap, items_from, view_from, IsLaidOut, LaysOut, nat_tests, swap_is, get_or_from_slice_get}
 use Rattle.ringbuffer.proofs.SlotsHold.{same_count}
 use Rattle.ringbuffer.proofs.LaysOut.{LaysOut-items, slice_get_some}
 

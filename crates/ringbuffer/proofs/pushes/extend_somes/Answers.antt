@@ -1,6 +1,5 @@
 use Rattle.ringbuffer.proofs.Words.{rules, ◌≡◌, ◌+◌, ◌++◌, [], ◌∷◌, MatchOption, refl, sym, ◌∙◌, arith, drop-drop, drop-set-lt, common_steps, keep_last, ℕ, ◌<◌, List, drop, get_or, length, take, Option, None, Some, ap, add-one, append-nil, append_assoc, length-drop, get_or-drop, filter_map-append, take-suc, keep_last-keep_last, somes}
 use Rattle.ringbuffer.proofs.pushes.extend_somes.Goals as goal
-use Rattle.ringbuffer.proofs.pushes.extend_somes.Goals.{in-Some+in_ok-push_item, in_default}
 
 -- one more place of an array of options: its item, if it holds one, came after the others
 somes_turn : {A : Type 0} (limit : Option ℕ) (old now next : List A) (whole left : List (Option A)) (i : ℕ) (o : Option A)
@@ -23,12 +22,12 @@ loop-i-preserved g c =
     let limit = g.R.RingBuffer.limit c.args.ring.now in
     let old = g.R.RingBuffer.contents c.args.ring.now in
     let turn : MatchOption c.take.result (g.R.RingBuffer.contents c.match-take.ring ≡ g.R.RingBuffer.contents c.loop-i.ring) (λ x. g.R.RingBuffer.contents c.match-take.ring ≡ keep_last limit (g.R.RingBuffer.contents c.loop-i.ring ++ x ∷ [])) =
-    elim c.match-take.branch [ in-Some+in_ok-push_item w ↦ grind (arith, common_steps) | in_default w ↦ grind (arith, common_steps) ] in
+    elim c.match-take.branch [ goal.in-Some+in_ok-push_item w ↦ grind (arith, common_steps) | goal.in_default w ↦ grind (arith, common_steps) ] in
     record {
       pushed = somes_turn limit old _ _ c.args.items c.loop-i.items i c.take.result done.pushed done.left (omega arith)
           (rw (c.take.ensures.value ∙ sym c.index-items-i.is) c.index-items-i.is) turn;
       left = rw (drop-set-lt (i + 1) c.loop-i.items i _ (omega arith), ← drop-drop, ← drop-drop, done.left) refl;
-      same_limit = elim c.match-take.branch [ in-Some+in_ok-push_item w ↦ grind (arith, common_steps) | in_default w ↦ grind (arith, common_steps) ];
+      same_limit = elim c.match-take.branch [ goal.in-Some+in_ok-push_item w ↦ grind (arith, common_steps) | goal.in_default w ↦ grind (arith, common_steps) ];
     }
 
 pub loop-i-init : goal.loop-i-init

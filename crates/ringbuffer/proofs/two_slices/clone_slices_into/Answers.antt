@@ -23,4 +23,4 @@ pub returns-in_err-clone_slice_into-2-clause-clones : goal.returns-in_err-clone_
 returns-in_err-clone_slice_into-2-clause-clones g c = let (xs, clones, out, _) = made g c.before.before.before.before.before.before in (xs, clones, out, search rules)
 
 pub returns-clause-clones : goal.returns-clause-clones
-returns-clause-clones g c = let (xs, clones, out, whole) = made g c.before.before.before.before.before in (xs, clones, out, simp c.in_ok-clone_slice_into-2.was at whole)
+returns-clause-clones g c = let (xs, clones, out, whole) = made g c.before.before.before.before.before in (xs, clones, out, omega (arith, simp c.in_ok-clone_slice_into-2.was at whole))

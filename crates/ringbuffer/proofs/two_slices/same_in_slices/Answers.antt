@@ -2,7 +2,6 @@
 use Rattle.ringbuffer.proofs.Words.{◌≡◌, ◌∙◌, ap, arith, ℕ, ◌+◌, ◌-◌, ◌⊎◌, inl, inr, length, List, ◌++◌, take, drop, take-append-drop, length-take-le, length-drop, Bool, ◌&&◌, append_assoc, sym, dec_lt, common_steps, nil_from_length, min, pointwise}
 use Rattle.ringbuffer.proofs.Paired.{pointwise-append}
 use Rattle.ringbuffer.proofs.two_slices.same_in_slices.Goals as goal
-use Rattle.ringbuffer.proofs.two_slices.same_in_slices.Goals.{then-eq, else-eq, then-eq-2, else-eq-2}
 
 -- a middle is compared with what lies beside it in the other list
 pointwise-beside : {A : Type 0} (eq : A → A → Bool) (am ab al bm bb bl : List A) → length am ≡ length bb → length ab ≡ length bm

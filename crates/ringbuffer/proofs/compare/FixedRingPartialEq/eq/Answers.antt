@@ -1,6 +1,5 @@
 -- Where numbers of items are equal, the items are where all their pairs are.
-use Rattle.ringbuffer.proofs.Words.{◌≡◌, arith, length, refl, sym}
-use Rattle.std.proofs.lemmas.Bool.{eq-eqb}
+use Rattle.ringbuffer.proofs.Words.{◌≡◌, arith, length, refl, sym, eq-eqb}
 use Rattle.ringbuffer.proofs.Paired.{pointwise_prefix}
 use Rattle.ringbuffer.proofs.compare.FixedRingPartialEq.eq.Goals as goal
 

@@ -1,9 +1,7 @@
 -- Each step by what stands for it between the turns.
-use Rattle.ringbuffer.proofs.Words.{arith, of_calls}
-use Rattle.std.proofs.lemmas.Fn.{called_at}
+use Rattle.ringbuffer.proofs.Words.{arith, of_calls, called_at}
 use Rattle.ringbuffer.proofs.KeptItems.{closed, closes_none, dropped, full, moved, stayed}
 use Rattle.ringbuffer.proofs.fixed.FixedRing.close_up.Goals as goal
-use Rattle.ringbuffer.proofs.fixed.FixedRing.close_up.Goals.{else-kept-index, then-kept-index}
 
 pub loop-index-init : goal.loop-index-init
 loop-index-init g c = record { callable = c.requires.callable; within = omega arith; closes = closes_none _ _ _ _ c.requires.span.laid_out }
@@ -25,8 +23,8 @@ loop-index-preserved g c =
       callable = search of_calls;
       within = let within = at.within in omega (arith, within);
       closes = elim c.if-kept-index.branch [
-        | then-kept-index w ↦ rw w.slots-is (moved _ _ _ _ laid_out at.closes (omega (arith, c.requires.span.len)) _ c.place_branchless-place.ensures _ c.get.ensures w.if-kept-index.true _ _ answer w.move_item.ensures)
-        | else-kept-index w ↦ let within = at.within in rw w.slots-is (stayed _ _ _ _ laid_out at.closes (omega (arith, c.requires.span.len)) _ c.place_branchless-place.ensures _ c.get.ensures (omega (arith, within, w.if-kept-index.false)) _ answer)
+        | goal.then-kept-index w ↦ rw w.slots-is (moved _ _ _ _ laid_out at.closes (omega (arith, c.requires.span.len)) _ c.place_branchless-place.ensures _ c.get.ensures w.if-kept-index.true _ _ answer w.move_item.ensures)
+        | goal.else-kept-index w ↦ let within = at.within in rw w.slots-is (stayed _ _ _ _ laid_out at.closes (omega (arith, c.requires.span.len)) _ c.place_branchless-place.ensures _ c.get.ensures (omega (arith, within, w.if-kept-index.false)) _ answer)
       ];
     }
 

@@ -1,7 +1,6 @@
 -- The test may be called again, and the items that were asked about close up.
-use Rattle.ringbuffer.proofs.Words.{◌≤◌}
+use Rattle.ringbuffer.proofs.Words.{◌≤◌, CalledAt}
 use denote.Param.Always.{always_mut}
-use Rattle.std.specs.Fn.{CalledAt}
 use Rattle.ringbuffer.proofs.KeptItems.{ClosesUp}
 use Rattle.ringbuffer.proofs.fixed.FixedRing.close_up.Given as goal
 

@@ -1,12 +1,11 @@
 use Rattle.ringbuffer.proofs.Words.{◌≡◌, ◌+◌, ◌*◌, View, after_rewrite, arith, ap, ◌∙◌, refl}
 use Rattle.ringbuffer.proofs.Stretches.{stretch_is}
 use Rattle.ringbuffer.proofs.MadeContiguous.{held_beside, rewritten}
-use Rattle.ringbuffer.proofs.fixed.FixedRing.make_contiguous.Given.{Over}
 use Rattle.ringbuffer.proofs.fixed.FixedRing.make_contiguous.Goals as goal
 use Rattle.ringbuffer.proofs.fixed.FixedRing.make_contiguous.Goals.{After-move_contiguous-start}
 
 -- The slots are counted as the clause says.
-four : (g : Over) (c : After-move_contiguous-start g) → c.after-changes.result.count ≡ (g.S.RingSlots.seen c.self.inside.slots).changes + 4 * c.self.inside.span.len
+four : (g : _) (c : After-move_contiguous-start g) → c.after-changes.result.count ≡ (g.S.RingSlots.seen c.self.inside.slots).changes + 4 * c.self.inside.span.len
 four g c = omega (arith, c.after-changes.ensures, c.after-3.ensures, c.after-2.ensures, c.after.ensures, c.changes.ensures)
 
 -- What is written through the loan leaves a sound ring of as many.

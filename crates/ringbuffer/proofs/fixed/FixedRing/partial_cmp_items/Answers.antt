@@ -1,8 +1,5 @@
-use Rattle.ringbuffer.proofs.Words.{◌≡◌, ◌∙◌, View, ap, arith, length, refl, sym, ℕ, ◌+◌, ◌≤◌, inl, inr, Bool, List, [], ◌∷◌, Option, None, Some, drop, length-drop, min, slice_get, suc, cases_Bool, common_prefix_len-le, common_prefix_len}
-use Rattle.std.proofs.Common.{Ordering, Less, Equal, Greater}
+use Rattle.ringbuffer.proofs.Words.{◌≡◌, ◌∙◌, View, ap, arith, length, refl, sym, ℕ, ◌+◌, ◌≤◌, inl, inr, Bool, List, [], ◌∷◌, Option, None, Some, drop, length-drop, min, slice_get, suc, cases_Bool, common_prefix_len-le, common_prefix_len, Ordering, Less, Equal, Greater, slice_partial_cmp, nat_cmp, partial_ordering_then}
 use Rattle.std.specs.Cmp.{IsPartialOrder, nat_cmp_is}
-use Rattle.std.specs.Cmp.Lexicographic.{slice_partial_cmp}
-use Rattle.std.specs.Ordering.{nat_cmp, partial_ordering_then}
 use Rattle.ringbuffer.proofs.Paired.{drop_item}
 use Rattle.ringbuffer.proofs.fixed.FixedRing.partial_cmp_items.Goals as goal
 

@@ -1,6 +1,4 @@
-use Rattle.std.proofs.Common.{rules}
-use Rattle.std.proofs.lemmas.Iterator.Consumers.{YieldsList-from_copied}
-use Rattle.ringbuffer.proofs.Words.{◌≡◌, YieldsList-from_slice}
+use Rattle.ringbuffer.proofs.Words.{◌≡◌, YieldsList-from_slice, rules, YieldsList-from_copied}
 use Rattle.ringbuffer.proofs.Conversions.{items_drained}
 use Rattle.ringbuffer.proofs.fixed.FixedRing.push_over.Goals as goal
 

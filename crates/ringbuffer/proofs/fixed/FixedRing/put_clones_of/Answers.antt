@@ -1,5 +1,4 @@
-use Rattle.ringbuffer.proofs.Words.{[], ◌∷◌, ◌++◌, arith, length-append, after_put}
-use Rattle.std.proofs.lemmas.List.Elements.{All-push}
+use Rattle.ringbuffer.proofs.Words.{[], ◌∷◌, ◌++◌, arith, length-append, after_put, All-push}
 use Rattle.ringbuffer.proofs.LaysOut.{LaysOut-then}
 use Rattle.ringbuffer.proofs.RepeatedSteps.{after_puts-more}
 use Rattle.ringbuffer.proofs.fixed.FixedRing.put_clones_of.Goals as goal

@@ -1,5 +1,4 @@
-use Rattle.ringbuffer.proofs.Words.{◌≡◌, ◌++◌, after_puts, arith, length, length-append, view_from}
-use Rattle.std.proofs.lemmas.Result.{MatchResult-weaker}
+use Rattle.ringbuffer.proofs.Words.{◌≡◌, ◌++◌, after_puts, arith, length, length-append, view_from, MatchResult-weaker}
 use Rattle.ringbuffer.proofs.LaysOut.{LaysOut-then}
 use Rattle.ringbuffer.proofs.PushedClones.{joined}
 use Rattle.ringbuffer.proofs.RepeatedSteps.{after_puts-then}

@@ -1,5 +1,4 @@
-use Rattle.ringbuffer.proofs.Words.{[], ◌∷◌, ◌++◌, arith, of_calls, length-append, after_put}
-use Rattle.std.proofs.lemmas.Fn.{FoldsTo-push}
+use Rattle.ringbuffer.proofs.Words.{[], ◌∷◌, ◌++◌, arith, of_calls, length-append, after_put, FoldsTo-push}
 use Rattle.ringbuffer.proofs.RepeatedSteps.{after_puts-more}
 use Rattle.ringbuffer.proofs.LaysOut.{LaysOut-then}
 use Rattle.ringbuffer.proofs.fixed.FixedRing.put_results.Goals as goal

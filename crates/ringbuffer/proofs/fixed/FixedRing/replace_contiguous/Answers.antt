@@ -1,5 +1,4 @@
-use Rattle.ringbuffer.proofs.Words.{drop-append-le, drop-drop, take-suc_get, ◌≡◌, ◌+◌, ◌%◌, ◌<◌, ◌≤◌, ◌∙◌, ℕ, IsFullAt, LaysOut, List, None, Slots, Some, View, after_put, after_puts, after_take, after_takes, ap, append-nil, arith, changed, common_steps, slice_get_cases, drop, items_from, length, length-append, length-drop, length-take, mod-eq_of_lt, refl, slice_get, subst, sym, take, take_all, view_from}
-use Rattle.std.proofs.lemmas.Option.{slice_get_read}
+use Rattle.ringbuffer.proofs.Words.{drop-append-le, drop-drop, take-suc_get, ◌≡◌, ◌+◌, ◌%◌, ◌<◌, ◌≤◌, ◌∙◌, ℕ, IsFullAt, LaysOut, List, None, Slots, Some, View, after_put, after_puts, after_take, after_takes, ap, append-nil, arith, changed, common_steps, slice_get_cases, drop, items_from, length, length-append, length-drop, length-take, mod-eq_of_lt, refl, slice_get, subst, sym, take, take_all, view_from, slice_get_read}
 use Rattle.ringbuffer.proofs.LaysOut.{LaysOut-none, LaysOut-replace, LaysOut-then, first_full}
 use Rattle.ringbuffer.proofs.RepeatedSteps.{view_is}
 use Rattle.ringbuffer.proofs.fixed.FixedRing.replace_contiguous.Goals as goal

@@ -1,9 +1,6 @@
-use Rattle.ringbuffer.proofs.Words.{LaysOut, Some, ap, changed, sym, view_from, ◌∙◌}
-use Rattle.std.proofs.lemmas.List.Edits.{length-swap}
+use Rattle.ringbuffer.proofs.Words.{LaysOut, Some, ap, changed, sym, view_from, ◌∙◌, after_swap, length-swap}
 use Rattle.ringbuffer.proofs.LaysOut.{IsSound-after}
 use Rattle.ringbuffer.proofs.Swapped.{LaysOut-swap, other_full}
-use Rattle.ringbuffer.specs.View.{after_swap}
-use Rattle.ringbuffer.proofs.fixed.FixedRing.swap.Given.{Over}
 use Rattle.ringbuffer.proofs.fixed.FixedRing.swap.Goals as goal
 
 pub get_mut-requires : goal.get_mut-requires
@@ -12,7 +9,7 @@ get_mut-requires g c =
     other_full _ _ _ _ _ _ c.self.invariant.laid_out low.first low.second c.if-i-j.false c.place_branchless-a.ensures c.place_branchless-b.ensures _ c.take-first.ensures.after
 
 -- Each of the two lies where the other lay.
-swapped : (g : Over) (c : goal.After-put g) → let s = g.S.RingSlots.seen c.self.inside.slots in let start = c.self.inside.span.start in
+swapped : (g : _) (c : goal.After-put g) → let s = g.S.RingSlots.seen c.self.inside.slots in let start = c.self.inside.span.start in
     LaysOut s (g.S.RingSlots.seen c.put.new.self) start (after_swap c.args.i c.args.j (view_from s start))
 swapped g c =
     let low = rw (sym c.self.view_is) at c.requires in let took = c.take-first in let had = c.replace-second in

@@ -1,6 +1,4 @@
-use Rattle.ringbuffer.proofs.Words.{YieldsList-from_slice, rules}
-use Rattle.std.proofs.lemmas.Iterator.Consumers.{YieldsList-from_copied}
-use Rattle.std.proofs.lemmas.Iterator.Adapters.{items_from_extend}
+use Rattle.ringbuffer.proofs.Words.{YieldsList-from_slice, rules, items_from_extend, YieldsList-from_copied}
 use Rattle.ringbuffer.proofs.grow.GrowableAllocRingBuffer.extend_reserved.Goals as goal
 
 -- the source gives the slice's items

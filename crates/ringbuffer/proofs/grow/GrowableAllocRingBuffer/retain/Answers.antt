@@ -1,4 +1,4 @@
-use Rattle.std.proofs.lemmas.Fn.{filter_same}
+use Rattle.ringbuffer.proofs.Words.{filter_same}
 use Rattle.ringbuffer.proofs.grow.GrowableAllocRingBuffer.retain.Goals as goal
 
 -- Where calls of `keep` leave it as it is, the items that it keeps are a filter's.

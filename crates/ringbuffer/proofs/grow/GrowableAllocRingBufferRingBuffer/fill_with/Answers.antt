@@ -1,5 +1,4 @@
-use Rattle.ringbuffer.proofs.Words.{◌∙◌, ◌≡◌, ℕ, ◌<◌, List, [], take, arith, Result, Ok, Err, OnOk, OnErr, AppendsResults, FoldsTo}
-use Rattle.std.proofs.Math.Seq.{take-nil}
+use Rattle.ringbuffer.proofs.Words.{◌∙◌, ◌≡◌, ℕ, ◌<◌, List, [], take, arith, Result, Ok, Err, OnOk, OnErr, AppendsResults, FoldsTo, take-nil}
 use Rattle.ringbuffer.proofs.grow.GrowableAllocRingBufferRingBuffer.fill_with.Goals as goal
 
 -- what was empty and is filled by calls holds their answers

@@ -1,6 +1,4 @@
-use Rattle.ringbuffer.proofs.Words.{◌≡◌, ℕ, ◌+◌, ◌<◌, ◌≤◌, List, ◌++◌, Some, View, after_extend_from_slice, after_truncate, ap, arith, keep_last, keep_last-keep_last, length, length-append, refl, ◌∙◌}
-use Rattle.ring_core.proofs.Limits.{keep_last_within}
-use Rattle.ringbuffer.specs.View.{after_fill}
+use Rattle.ringbuffer.proofs.Words.{◌≡◌, ℕ, ◌+◌, ◌<◌, ◌≤◌, List, ◌++◌, Some, View, after_extend_from_slice, after_truncate, ap, arith, keep_last, keep_last-keep_last, length, length-append, refl, ◌∙◌, keep_last_within, after_fill}
 use Rattle.ringbuffer.proofs.RepeatedSteps.{view_is}
 use Rattle.ringbuffer.proofs.plain.CopyRingBuffer+T+CAP.copy_into.Goals as goal
 
