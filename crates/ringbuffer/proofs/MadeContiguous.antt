@@ -2,7 +2,6 @@
 use Rattle.ringbuffer.proofs.Words.{◌≡◌, ℕ, ◌*◌, ◌+◌, ◌-◌, ◌<◌, ◌≤◌, List, ◌++◌, length, map, take, drop, Option, None, Some, inl, inr, refl, sym, ◌∙◌, arith, length-append, length-drop, append_assoc, map-append, min, take_all, take-append-drop, rotated, ◌%◌, IsFullStretch, IsLaidOut, replicate, nat_le, if◌then◌else◌, length_refill, refill, common_steps, drop-drop, drop-map, get_or_append_left, get_or-append_right, get_or-replicate, get_or_past, length-map, length-replicate, take-map, slice_get_past, Slots, HoldsStretch, refilled, after_rewrite, SlotsHold, items_from, LaysOut, view_from, IsSound, beside, contiguous_start, get_or-map_some, IsEmptyStretch, brought_first, moved_down, with_refilled}
 use Rattle.ringbuffer.proofs.LaysOut.{IsSound-after, LaysOut-items}
 use Rattle.ringbuffer.proofs.Copies.{empty_behind}
-use Rattle.ringbuffer.proofs.Rotations.{length-rotated}
 use Rattle.ringbuffer.proofs.Stretches.{all_in_two, first_held, second_held}
 use Rattle.ringbuffer.proofs.SlotsHold.{SlotsHold-same, wrap}
 
@@ -58,11 +57,7 @@ module _ {X : Type 0} {s : Slots X} {start len first : ℕ} (laid_out : IsLaidOu
   )
 
   pub moved_down_contiguous : moved_down s.slots start (len - first) ≡ beside (length s.slots) 0 (rotated first (items_from s.slots start))
-  moved_down_contiguous =
-      let fit = laid_out.fit in let size = length s.slots in let items = items_from s.slots start in
-      let long : length (rotated first items) ≡ len = length-rotated first items (omega arith) ∙ sym counted in
-      let left : start - (len - first) ≡ size - (0 + length (rotated first items)) = omega arith in
-      rw (held.0, held.1, left, ← append_assoc (map Some (drop first items)), ← map-append) refl
+  moved_down_contiguous = let fit = laid_out.fit in rw (held.0, held.1) (grind (arith, common_steps))
 
   pub brought_contiguous : len ≤ start → brought_first s.slots start (len - first) ≡ beside (length s.slots) 0 (items_from s.slots start)
   brought_contiguous room =

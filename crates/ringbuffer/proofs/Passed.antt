@@ -1,35 +1,17 @@
 -- Items that one more pushes along by one index: those up to the last slot, and those that go on at the first.
-use Rattle.ringbuffer.proofs.Words.{◌≡◌, ℕ, ◌+◌, ◌-◌, ◌%◌, ◌<◌, ◌≤◌, List, [], ◌∷◌, ◌++◌, ◌⊎◌, Some, ap, append_assoc, arith, common_steps, drop, drop-drop, length, length-append, length-drop, length-take, inl, inr, min, mod-lt, mod_self, refl, rules, slice_get, slice_get-drop, slice_get-take, slice_get_cases, subst, suc, sym, take, take_at, ◌∙◌, HoldsStretch, IsFullStretch, IsLaidOut, IsSound, LaysOut, Slots, View, after_insert, after_pop, after_put_first, after_remove, after_take, after_writes, items_from, view_from, Passes, passed_down, passed_up, take-add, places, same_lists, take-take}
+use Rattle.ringbuffer.proofs.Words.{◌≡◌, ℕ, ◌+◌, ◌-◌, ◌%◌, ◌<◌, ◌≤◌, List, [], ◌∷◌, ◌++◌, ◌⊎◌, Some, ap, append_assoc, arith, common_steps, drop, drop-drop, length, length-append, length-drop, length-take, inl, inr, min, refl, rules, slice_get, slice_get_cases, subst, suc, sym, take, take_at, ◌∙◌, IsFullStretch, IsSound, LaysOut, Slots, View, after_insert, after_pop, after_put_first, after_remove, after_take, after_writes, items_from, view_from, Passes, passed_down, passed_up, places, same_lists, take-take}
 use Rattle.ringbuffer.proofs.Copies.{LaysOut-filled}
 use Rattle.ringbuffer.proofs.LaysOut.{IsSound-after, LaysOut-then}
 use Rattle.ringbuffer.proofs.RepeatedSteps.{view_is}
-use Rattle.ringbuffer.proofs.SlotsHold.{count_on, contiguous_on}
-use Rattle.ringbuffer.proofs.Stretches.{stretch_is, stretch_of}
+use Rattle.ringbuffer.proofs.Stretches.{SideBySide, both_there, first_there, full_there, held_there, second_there, stretch_is}
 
--- items of a ring, counted from an index, lie side by side from a place on
-record SideBySide {X : Type 0} (s : Slots X) (start i len place : ℕ) : Type 0 where
-  laid_out : IsLaidOut s start
-  low : i + len ≤ length (items_from s.slots start)
-  found : 0 < len → place ≡ (start + i) % length s.slots
-  fit : place + len ≤ length s.slots
-
+-- others that are put in the place of items that lie side by side, as many, take their place in the ring
 module _ {X : Type 0} {s : Slots X} {start i len place : ℕ} (at : SideBySide s start i len place) where
-  -- they are a stretch of slots
-  held_there : HoldsStretch s.slots place len (take len (drop i (items_from s.slots start)))
-  held_there =
-      let items = items_from s.slots start in let low = at.low in let fit = at.laid_out.fit in
-      stretch_of s.slots place len (take len (drop i items)) (omega (arith, length-take len (drop i items), length-drop i items)) at.fit (λ k below.
-      grind (arith, at.laid_out.layout (i + k), contiguous_on start i place (length s.slots) k (at.found (omega arith)) (omega arith), slice_get-take, slice_get-drop))
-
-  full_there : IsFullStretch s.slots place len
-  full_there = (at.fit, (_, held_there))
-
-  -- and others put there, as many, take their place in the ring
   passes_there : (new : Slots X) (passed : List X → List X → Type 0) → ((had has : List X) → passed had has → length has ≡ length had) → Passes s new place len passed
       → (xs : List X) × (length xs ≡ len) × passed (take len (drop i (items_from s.slots start))) xs × LaysOut s new start (after_writes i xs (view_from s start))
   passes_there new passed many passes =
       let items = items_from s.slots start in let low = at.low in let enough = at.laid_out.fit in let (had, xs, held, order, after) = passes in
-      let are : had ≡ take len (drop i items) = stretch_is s.slots place len had (take len (drop i items)) held held_there in
+      let are : had ≡ take len (drop i items) = stretch_is s.slots place len had (take len (drop i items)) held (held_there at) in
       let long : length xs ≡ len = omega (arith, many had xs order, ap length are, length-take len (drop i items), length-drop i items) in (
         xs,
         long,
@@ -99,61 +81,50 @@ module _ {X : Type 0} {limit : ℕ → ℕ} (s : Slots X) (start len : ℕ) (sou
   abbrev Whole : (List X → List X → Type 0) → Slots X → Type 0
   Whole passed new = IsSound limit new start len × ((xs : List X) × passed (take count (drop i now.items)) xs × (view_from new start ≡ after_writes i xs now))
 
-  whole : (passed : List X → List X → Type 0) (new : Slots X) (xs : List X) → passed (take count (drop i here)) xs → i + length xs ≤ length here → LaysOut s new start (after_writes i xs v) → Whole passed new
-  whole passed new xs order enough lies = (
-    IsSound-after sound lies (sound.counted ∙ sym (long_writes i xs v enough)) sound.within,
-    subst (λ (w : View X). (xs : List X) × passed (take count (drop i w.items)) xs × (view_from new start ≡ after_writes i xs w)) shows (xs, order, lies.shows),
+  whole : (passed : List X → List X → Type 0) (new : Slots X) (xs ys : List X) → length xs ≡ first → length ys ≡ count - first → passed (take count (drop i here)) (xs ++ ys)
+      → LaysOut s new start (after_writes i (xs ++ ys) v) → Whole passed new
+  whole passed new xs ys long long' order lies = (
+    IsSound-after sound lies (sound.counted ∙ sym (long_writes i (xs ++ ys) v (omega (arith, low, long, long', least, length-append xs ys)))) sound.within,
+    subst (λ (w : View X). (xs : List X) × passed (take count (drop i w.items)) xs × (view_from new start ≡ after_writes i xs w)) shows (xs ++ ys, order, lies.shows),
   )
 
-  within : place < length s.slots
-  within = let starts = sound.laid_out.start_within in rw found (mod-lt (start + i) (omega arith))
+  one : SideBySide s start i first place
+  one = first_there s start sound.laid_out i count place first low found least
 
-  first_there : SideBySide s start i first place
-  first_there = record { laid_out = sound.laid_out; low = omega (arith, low); found = λ some. found; fit = omega (arith, within) }
-
-  second_there : SideBySide s start (i + first) (count - first) 0
-  second_there =
-      let size = length s.slots in let fit = sound.laid_out.fit in
-      let round : 0 < count - first → 0 ≡ (start + (i + first)) % size = λ some. let ends : place + first ≡ size = omega (arith, within) in
-      sym (mod_self size) ∙ ap (λ n. n % size) {x = size} {y = (start + i) % size + first} (omega (arith, found, ends)) ∙ count_on start i first (i + first) size refl in
-      record { laid_out = sound.laid_out; low = omega (arith, low); found = round; fit = omega (arith, low) }
-
-  all_here : take first (drop i here) ++ take (count - first) (drop (i + first) here) ≡ take count (drop i here)
-  all_here = let all : first + (count - first) ≡ count = omega arith in rw (← drop-drop, ← take-add, all) refl
+  other : SideBySide s start (i + first) (count - first) 0
+  other = second_there s start sound.laid_out i count place first low found least
 
   pub first_full : IsFullStretch s.slots place first
-  first_full = full_there first_there
+  first_full = full_there one
 
   pub second_full : IsFullStretch s.slots 0 (count - first)
-  second_full = full_there second_there
+  second_full = full_there other
 
   -- the first ones are passed, and then the others
   module _ (mid : Slots X) (item between : X) (once : Passes s mid place first (passed_up item between)) where
     pub second_full_up : IsFullStretch mid.slots 0 (count - first)
-    second_full_up = full_there (still_other first_there second_there (inl (omega arith)) mid (passed_up item between) (many_up item between) once)
+    second_full_up = full_there (still_other one other (inl (omega arith)) mid (passed_up item between) (many_up item between) once)
 
     pub all_up : (new : Slots X) (over : X) → Passes mid new 0 (count - first) (passed_up between over) → Whole (passed_up item over) new
     all_up new over twice =
         let (xs, ys, long, long', order, order', lies) =
-        both first_there second_there (inl (omega arith)) mid (passed_up item between) (many_up item between) once new (passed_up between over) (many_up between over) twice in
-        let enough : i + first + length ys ≤ length here = omega (arith, long', low, least) in
+        both one other (inl (omega arith)) mid (passed_up item between) (many_up item between) once new (passed_up between over) (many_up between over) twice in
         let ordered : item ∷ take count (drop i here) ≡ (xs ++ ys) ++ over ∷ [] =
-        rw (← all_here, append_assoc, ← order') (ap (λ l. l ++ take (count - first) (drop (i + first) here)) order ∙ append_assoc xs (between ∷ []) _) in
-        whole (passed_up item over) new (xs ++ ys) ordered (omega (arith, enough, long, length-append xs ys)) (subst (LaysOut s new start) (writes_on i first xs ys v (sym long) enough) lies)
+        rw (← both_there s start sound.laid_out i count place first low found least, append_assoc, ← order') (ap (λ l. l ++ take (count - first) (drop (i + first) here)) order ∙ append_assoc xs (between ∷ []) _) in
+        whole (passed_up item over) new xs ys long long' ordered (rw (writes_on i first xs ys v (sym long) (omega (arith, long', low, least))) at lies)
 
   -- the others are passed, and then the first ones
   module _ (mid : Slots X) (item between : X) (once : Passes s mid 0 (count - first) (passed_down item between)) where
     pub first_full_down : IsFullStretch mid.slots place first
-    first_full_down = full_there (still_other second_there first_there (inr (omega arith)) mid (passed_down item between) (many_down item between) once)
+    first_full_down = full_there (still_other other one (inr (omega arith)) mid (passed_down item between) (many_down item between) once)
 
     pub all_down : (new : Slots X) (over : X) → Passes mid new place first (passed_down between over) → Whole (passed_down item over) new
     all_down new over twice =
         let (ys, xs, long, long', order, order', lies) =
-        both second_there first_there (inr (omega arith)) mid (passed_down item between) (many_down item between) once new (passed_down between over) (many_down between over) twice in
-        let enough : i + first + length ys ≤ length here = omega (arith, long, low, least) in
+        both other one (inr (omega arith)) mid (passed_down item between) (many_down item between) once new (passed_down between over) (many_down between over) twice in
         let ordered : take count (drop i here) ++ item ∷ [] ≡ over ∷ (xs ++ ys) =
-        rw (← all_here, append_assoc, order) (sym (append_assoc (take first (drop i here)) (between ∷ []) ys) ∙ ap (λ l. l ++ ys) order') in
-        whole (passed_down item over) new (xs ++ ys) ordered (omega (arith, enough, long', length-append xs ys)) (subst (LaysOut s new start) (writes_back i first xs ys v (sym long') enough) lies)
+        rw (← both_there s start sound.laid_out i count place first low found least, append_assoc, order) (sym (append_assoc (take first (drop i here)) (between ∷ []) ys) ∙ ap (λ l. l ++ ys) order') in
+        whole (passed_down item over) new xs ys long' long ordered (rw (writes_back i first xs ys v (sym long') (omega (arith, long, low, least))) at lies)
 
 -- an item taken from an end, or put there, once the items between are passed
 module _ {X : Type 0} (i : ℕ) (v : View X) (over : X) (xs : List X) where
@@ -166,13 +137,9 @@ module _ {X : Type 0} (i : ℕ) (v : View X) (over : X) (xs : List X) where
 
   module _ (low : i < length all) where
     -- the first one is taken, and those up to the index are passed up
-    up_to : (first : X) (zs : List X) → slice_get zs 0 ≡ Some first → passed_up first over (take i (drop 1 zs)) xs → take (suc i) zs ≡ xs ++ over ∷ []
-    up_to first [] is order = cc
-    up_to first (z ∷ zs) is order = cc
-
     pub take_first_is : (first : X) → slice_get all 0 ≡ Some first → passed_up first over (take i (drop 0 (drop 1 all))) xs → i ≤ length all - 1 - i → after_writes 0 xs (after_take v) ≡ after_remove i v
     take_first_is first is order few =
-        let there = up_to first all is order in let left = take-take i (suc i) all (omega arith) in
+        let there : take (suc i) all ≡ xs ++ over ∷ [] = grind (arith, common_steps, slice_get_cases) in let left = take-take i (suc i) all (omega arith) in
         let long : length xs ≡ i = omega (arith, ap length there, length-take (suc i) all, length-append xs (over ∷ [])) in
         view_is (grind (arith, drop-drop, take_at)) (omega (arith, long)) refl
 

@@ -1,5 +1,5 @@
 -- What a change of one slot does to the items that lie in the slots.
-use Rattle.ringbuffer.proofs.Words.{◌≡◌, ℕ, zero, suc, ◌+◌, ◌-◌, ◌%◌, ◌<◌, ◌≤◌, ◌⊎◌, inl, inr, List, [], ◌∷◌, length, ext_get_or, Option, None, refl, sym, ap, ◌∙◌, arith, add-mod-mod, add-mod_right, mod-add-mod, mod-eq_of_lt, mod-eq-sub-mod, mod-lt, dec_lt, slice_get, filter_map, range_with_len, slot_after, SlotsHold, items_from}
+use Rattle.ringbuffer.proofs.Words.{◌≡◌, ℕ, zero, suc, ◌+◌, ◌-◌, ◌%◌, ◌<◌, ◌≤◌, ◌⊎◌, inl, inr, List, [], ◌∷◌, length, ext_get_or, Option, None, refl, sym, ap, ◌∙◌, arith, add-mod-mod, add-mod_right, mod-add-mod, mod-eq_of_lt, mod-eq-sub-mod, mod-lt, mod_self, dec_lt, slice_get, filter_map, range_with_len, slot_after, SlotsHold, items_from}
 
 -- a place counted round is the sum, less the size where the sum reaches it
 pub wrap : (start k size : ℕ) → start < size → k ≤ size → ((start + k < size) × ((start + k) % size ≡ start + k)) ⊎ ((size ≤ start + k) × ((start + k) % size ≡ start + k - size))
@@ -17,6 +17,14 @@ same_count start j k size within low low' same = grind (arith, wrap start j size
 -- a count from a place that lies k further on is k more from this one
 pub count_on : (start k j n size : ℕ) → k + j ≡ n → ((start + k) % size + j) % size ≡ (start + n) % size
 count_on start k j n size sum = mod-add-mod (start + k) size j ∙ ap (λ p. p % size) {x = start + k + j} {y = start + n} (omega arith)
+
+-- a count of none stays
+pub count_none : (start size : ℕ) → start < size → start ≡ (start + 0) % size
+count_none start size within = grind (arith, mod-eq_of_lt)
+
+-- after the last slot the first one follows
+pub round : (start k place j size : ℕ) → place ≡ (start + k) % size → place + j ≡ size → 0 ≡ (start + (k + j)) % size
+round start k place j size found ends = grind (arith, mod_self, count_on start k j (k + j) size refl)
 
 -- a contiguous way on from the place after len items
 pub contiguous_on : (start len place size i : ℕ) → place ≡ (start + len) % size → place + i < size → place + i ≡ (start + (len + i)) % size

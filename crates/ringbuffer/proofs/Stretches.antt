@@ -1,6 +1,6 @@
 -- The items of a ring are two stretches of full slots: those up to the last slot, and those that go on at the first.
-use Rattle.ringbuffer.proofs.Words.{◌≡◌, ℕ, ◌+◌, ◌-◌, ◌<◌, ◌≤◌, ◌%◌, List, [], ◌∷◌, ◌++◌, length, map, take, drop, get_or, Option, None, Some, refl, sym, ap, ◌∙◌, arith, slice_get, min, mod-eq_of_lt, mod-lt, ext_get_or, get_or-take, get_or-drop, length-map, length-take, length-drop, take_all, slice_get-drop, slice_get-take, Slots, HoldsStretch, IsFullStretch, View, items_from, IsLaidOut, IsSound, somes, view_from, take-add, get_or-map_some}
-use Rattle.ringbuffer.proofs.SlotsHold.{contiguous_on, wrap}
+use Rattle.ringbuffer.proofs.Words.{drop-drop, ◌≡◌, ℕ, ◌+◌, ◌-◌, ◌<◌, ◌≤◌, ◌%◌, List, [], ◌∷◌, ◌++◌, length, map, take, drop, get_or, Option, None, Some, refl, sym, ap, ◌∙◌, arith, slice_get, min, mod-lt, ext_get_or, get_or-take, get_or-drop, length-map, length-take, length-drop, take_all, slice_get-drop, slice_get-take, Slots, HoldsStretch, IsFullStretch, View, items_from, IsLaidOut, IsSound, somes, view_from, take-add, get_or-map_some}
+use Rattle.ringbuffer.proofs.SlotsHold.{contiguous_on, count_none, round}
 
 module _ {X : Type 0} where
   -- items that are known one by one are a stretch
@@ -31,44 +31,62 @@ pub record InTwo {X : Type 0} (cs : List (Option X)) (start n m : ℕ) (items : 
   pub rest : IsFullStretch cs 0 m
   pub whole : (xs ys : List X) → HoldsStretch cs start n xs → HoldsStretch cs 0 m ys → xs ++ ys ≡ items
 
--- the first items of a ring do: those up to the last slot, and those that go on at the first
-module _ {X : Type 0} (s : Slots X) (start : ℕ) (laid_out : IsLaidOut s start) (count first : ℕ)
-    (some : count ≤ length (items_from s.slots start)) (least : first ≡ min count (length s.slots - start)) where
-  front_held : HoldsStretch s.slots start first (take first (items_from s.slots start))
-  front_held =
-      let items = items_from s.slots start in let within = laid_out.start_within in
-      stretch_of s.slots start first (take first items) (omega (arith, length-take first items)) (omega arith) (λ k low. grind (arith, laid_out.layout k, mod-eq_of_lt, slice_get-take))
+-- items of a ring, counted from an index, lie side by side from a place on
+pub record SideBySide {X : Type 0} (s : Slots X) (start i len place : ℕ) : Type 0 where
+  pub laid_out : IsLaidOut s start
+  pub low : i + len ≤ length (items_from s.slots start)
+  pub found : 0 < len → place ≡ (start + i) % length s.slots
+  pub fit : place + len ≤ length s.slots
 
-  rest_held : HoldsStretch s.slots 0 (count - first) (take (count - first) (drop first (items_from s.slots start)))
-  rest_held =
-      let items = items_from s.slots start in let within = laid_out.start_within in let fit = laid_out.fit in let round = λ (k : ℕ). wrap start (first + k) (length s.slots) within in
-      let long = length-take (count - first) (drop first items) in let behind = length-drop first items in
-      stretch_of s.slots 0 (count - first) (take (count - first) (drop first items)) (omega arith) (omega arith)
-      (λ k low. grind (arith, laid_out.layout (first + k), round k, slice_get-take, slice_get-drop))
+module _ {X : Type 0} {s : Slots X} {start i len place : ℕ} (at : SideBySide s start i len place) where
+  -- they are a stretch of slots
+  pub held_there : HoldsStretch s.slots place len (take len (drop i (items_from s.slots start)))
+  held_there =
+      let items = items_from s.slots start in let low = at.low in let fit = at.laid_out.fit in
+      stretch_of s.slots place len (take len (drop i items)) (omega (arith, length-take len (drop i items), length-drop i items)) at.fit (λ k below.
+      grind (arith, at.laid_out.layout (i + k), contiguous_on start i place (length s.slots) k (at.found (omega arith)) (omega arith), slice_get-take, slice_get-drop))
 
-  pub lie_in_two : InTwo s.slots start first (count - first) (take count (items_from s.slots start))
-  lie_in_two =
-      let items = items_from s.slots start in let within = laid_out.start_within in let fit = laid_out.fit in let all : first + (count - first) ≡ count = omega arith in
-      record {
-        front = (omega arith, (take first items, front_held));
-        rest = (omega arith, (take (count - first) (drop first items), rest_held));
-        whole = λ xs ys before after. let one = stretch_is s.slots start first xs _ before front_held in let two = stretch_is s.slots 0 (count - first) ys _ after rest_held in
-            rw (one, two) (sym (take-add first (count - first) items) ∙ ap (λ n. take n items) all);
-      }
+  pub full_there : IsFullStretch s.slots place len
+  full_there = (at.fit, (_, held_there))
 
--- so do all of them
+-- items from an index on do twice: those up to the last slot, and those that go on at the first
+module _ {X : Type 0} (s : Slots X) (start : ℕ) (laid_out : IsLaidOut s start) (i count place first : ℕ) (low : i + count ≤ length (items_from s.slots start))
+    (found : place ≡ (start + i) % length s.slots) (least : first ≡ min count (length s.slots - place)) where
+  within : place < length s.slots
+  within = let starts = laid_out.start_within in rw found (mod-lt (start + i) (omega arith))
+
+  pub first_there : SideBySide s start i first place
+  first_there = record { laid_out = laid_out; low = omega (arith, low); found = λ some. found; fit = omega (arith, within) }
+
+  pub second_there : SideBySide s start (i + first) (count - first) 0
+  second_there =
+      let fit = laid_out.fit in
+      record { laid_out = laid_out; low = omega (arith, low); found = λ some. round start i place first (length s.slots) found (omega (arith, within)); fit = omega (arith, low) }
+
+  pub both_there : take first (drop i (items_from s.slots start)) ++ take (count - first) (drop (i + first) (items_from s.slots start)) ≡ take count (drop i (items_from s.slots start))
+  both_there = let all : first + (count - first) ≡ count = omega arith in rw (← drop-drop, ← take-add, all) refl
+
+  pub lie_in_two : InTwo s.slots place first (count - first) (take count (drop i (items_from s.slots start)))
+  lie_in_two = record {
+    front = full_there first_there;
+    rest = full_there second_there;
+    whole = λ xs ys before after. rw (stretch_is s.slots place first xs _ before (held_there first_there), stretch_is s.slots 0 (count - first) ys _ after (held_there second_there)) both_there;
+  }
+
+-- so do all items
 module _ {X : Type 0} (s : Slots X) (start : ℕ) (laid_out : IsLaidOut s start) (len first : ℕ)
     (counted : len ≡ length (items_from s.slots start)) (least : first ≡ min len (length s.slots - start)) where
   pub first_held : HoldsStretch s.slots start first (take first (items_from s.slots start))
-  first_held = front_held s start laid_out len first (omega (arith, counted)) least
+  first_held = held_there (first_there s start laid_out 0 len start first (omega (arith, counted)) (count_none start (length s.slots) laid_out.start_within) least)
 
   pub second_held : HoldsStretch s.slots 0 (len - first) (drop first (items_from s.slots start))
   second_held =
-      let others = drop first (items_from s.slots start) in let all = take_all (len - first) others (omega (arith, counted, length-drop first (items_from s.slots start))) in
-      rw all at (rest_held s start laid_out len first (omega (arith, counted)) least)
+      let items = items_from s.slots start in let none : 0 + first ≡ first = omega arith in
+      rw (none, take_all (len - first) (drop first items) (omega (arith, counted, length-drop first items)))
+      at (held_there (second_there s start laid_out 0 len start first (omega (arith, counted)) (count_none start (length s.slots) laid_out.start_within) least))
 
   pub all_in_two : InTwo s.slots start first (len - first) (items_from s.slots start)
-  all_in_two = rw (take_all len (items_from s.slots start) (omega (arith, counted))) at (lie_in_two s start laid_out len first (omega (arith, counted)) least)
+  all_in_two = rw (take_all len (items_from s.slots start) (omega (arith, counted))) at (lie_in_two s start laid_out 0 len start first (omega (arith, counted)) (count_none start (length s.slots) laid_out.start_within) least)
 
 -- the n items from an index on lie side by side from a place on
 abbrev pub LieAt : {X : Type 0} → Slots X → View X → (index n place : ℕ) → Type 0
@@ -79,14 +97,12 @@ module _ {X : Type 0} {limit : ℕ → ℕ} (s : Slots X) (start len : ℕ) (sou
   in_two least = rw (sym shows) (all_in_two s start sound.laid_out len _ sound.counted least)
 
   pub firsts_in_two : {count first : ℕ} → count ≤ len → first ≡ min count (length s.slots - start) → InTwo s.slots start first (count - first) (take count v.items)
-  firsts_in_two few least = rw (sym shows) (lie_in_two s start sound.laid_out _ _ (omega (arith, few, sound.counted)) least)
+  firsts_in_two few least =
+      rw (sym shows) (lie_in_two s start sound.laid_out 0 _ start _ (omega (arith, few, sound.counted)) (count_none start (length s.slots) sound.laid_out.start_within) least)
 
   -- the items from an index on lie side by side where they reach no further than the last slot
   pub onward : (index n place : ℕ) → place ≡ (start + index) % length s.slots → (index + n ≤ len) × (n ≤ length s.slots - place) → LieAt s v index n place
-  onward index n place at room =
-      let laid_out = sound.laid_out in let items = items_from s.slots start in let counted = sound.counted in
-      let below = mod-lt (start + index) {m = length s.slots} (omega (arith, laid_out.start_within)) in let fit : place + n ≤ length s.slots = omega (arith, at, below, room) in
-      let long = length-take n (drop index items) in let behind = length-drop index items in
-      let held = stretch_of s.slots place n (take n (drop index items)) (omega arith) fit
-      (λ k low. grind (arith, laid_out.layout (index + k), contiguous_on start index place (length s.slots) k at (omega arith), slice_get-take, slice_get-drop)) in
-      rw (sym shows) (omega arith, fit, held)
+  onward index n place found room =
+      let below = mod-lt (start + index) {m = length s.slots} (omega (arith, sound.laid_out.start_within)) in
+      let at : SideBySide s start index n place = record { laid_out = sound.laid_out; low = omega (arith, sound.counted, room); found = λ some. found; fit = omega (arith, found, below, room) } in
+      rw (sym shows) (at.low, at.fit, held_there at)

@@ -1,16 +1,12 @@
-use Rattle.ringbuffer.proofs.Words.{◌≡◌, ℕ, ◌+◌, ◌%◌, ◌++◌, ap, refl, arith, length, length-append, take-append-drop, mod_self, View, after_puts, items_from}
-use Rattle.ringbuffer.proofs.SlotsHold.{count_on}
+use Rattle.ringbuffer.proofs.Words.{◌≡◌, ◌++◌, ap, arith, length, length-append, take-append-drop, View, after_puts, items_from}
+use Rattle.ringbuffer.proofs.SlotsHold.{round}
 use Rattle.ringbuffer.proofs.LaysOut.{LaysOut-then}
 use Rattle.ringbuffer.proofs.RepeatedSteps.{after_puts-then}
 use Rattle.ringbuffer.proofs.fixed.FixedRing.put_round.Goals as goal
 
--- after the last slot the first one follows
-round : (start len end first size : ℕ) → end ≡ (start + len) % size → end + first ≡ size → 0 ≡ (start + (len + first)) % size
-round start len end first size found all = grind (arith, mod_self, count_on start len first (len + first) size refl)
-
 pub put_copies-requires-2-clause-place : goal.put_copies-requires-2-clause-place
 put_copies-requires-2-clause-place g c =
-    λ more. rw c.put_copies.ensures.same_size (round _ c.args.span.len c.place_after-end.result (length c.split_at.result.0.now) _ c.place_after-end.ensures (omega arith))
+    λ more. rw c.put_copies.ensures.same_size (round _ c.args.span.len _ (length c.split_at.result.0.now) _ c.place_after-end.ensures (omega arith))
 
 pub put_copies-requires-2-clause-span : goal.put_copies-requires-2-clause-span
 put_copies-requires-2-clause-span g c =

@@ -1,6 +1,7 @@
 use Rattle.ringbuffer.proofs.Words.{drop-append-le, drop-drop, take-suc_get, ◌≡◌, ◌+◌, ◌%◌, ◌<◌, ◌≤◌, ◌∙◌, ℕ, IsFullAt, LaysOut, List, None, Slots, Some, View, after_put, after_puts, after_take, after_takes, ap, append-nil, arith, changed, common_steps, slice_get_cases, drop, items_from, length, length-append, length-drop, length-take, mod-eq_of_lt, refl, slice_get, subst, sym, take, take_all, view_from, slice_get_read}
 use Rattle.ringbuffer.proofs.LaysOut.{LaysOut-none, LaysOut-replace, LaysOut-then, first_full}
 use Rattle.ringbuffer.proofs.RepeatedSteps.{view_is}
+use Rattle.ringbuffer.proofs.SlotsHold.{count_none}
 use Rattle.ringbuffer.proofs.fixed.FixedRing.replace_contiguous.Goals as goal
 
 puts_more : {X : Type 0} (v : View X) (xs : List X) (k : ℕ) (x : X) → k < length v.items → slice_get xs k ≡ Some x
@@ -33,8 +34,7 @@ module _ {X : Type 0} (s mid : Slots X) (start k : ℕ) (xs : List X) (full : le
 pub loop-k-init : goal.loop-k-init
 loop-k-init g c =
     let laid_out = c.requires.span.laid_out in let s = g.S.RingSlots.seen c.args.slots.now in
-    let here : (c.args.span.start + 0) % length s.slots ≡ c.args.span.start = ap (λ n. n % length s.slots) {y = c.args.span.start} (omega arith) ∙ mod-eq_of_lt laid_out.start_within in
-    rw here (subst (LaysOut s s c.args.span.start) (view_is (sym (append-nil _)) (omega arith) refl) (LaysOut-none s c.args.span.start laid_out))
+    rw (← count_none c.args.span.start (length s.slots) laid_out.start_within) (subst (LaysOut s s c.args.span.start) (view_is (sym (append-nil _)) (omega arith) refl) (LaysOut-none s c.args.span.start laid_out))
 
 pub discard-requires : goal.discard-requires
 discard-requires g c = oldest_full _ _ _ _ _ (sym c.requires.span.len ∙ c.requires.full (omega (arith, c.loop-k-test.true))) c.requires.contiguous c.loop-k-test.true c.loop-k.invariant
