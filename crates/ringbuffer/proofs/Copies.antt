@@ -5,28 +5,23 @@ use Rattle.ringbuffer.proofs.LaysOut.{LaysOut-items}
 use Rattle.ringbuffer.proofs.Paired.{take_item}
 
 -- one item more, after those put into a stretch
-module _ {X : Type 0} (slots : List (Option X)) (from : ℕ) where
-  filled-more : (ys : List X) (x : X) → from + length ys < length slots → set (filled slots from ys) (from + length ys) (Some x) ≡ filled slots from (ys ++ x ∷ [])
-  filled-more ys x room =
-      let front = take from slots ++ map Some ys in let at = from + length ys in
-      let long : length front ≡ at = omega (arith, length-append (take from slots) (map Some ys), length-take from slots, length-map ys Some) in
-      let next : from + length (ys ++ x ∷ []) ≡ at + 1 = omega (arith, length-append ys (x ∷ [])) in
-      let put = rw (long, ← drop_more slots at None room) at (set-append_seam front (get_or slots at None) (drop (at + 1) slots) (Some x)) in
-      rw (next, map-append) (simp append_assoc (simp append_assoc at put))
-
-  pub filled-next : (xs : List X) → from + length xs ≤ length slots → (k : ℕ) (x : X) → slice_get xs k ≡ Some x
-      → set (filled slots from (take k xs)) (from + k) (Some x) ≡ filled slots from (take (k + 1) xs)
-  filled-next xs within k x is =
-      let low = slice_get_within xs k x is in let few : length (take k xs) ≡ k = omega (arith, length-take k xs) in
-      ap (λ n. set (filled slots from (take k xs)) (from + n) (Some x)) (sym few)
-      ∙ filled-more (take k xs) x (omega (arith, few)) ∙ ap (filled slots from) (sym (take_item xs k x is))
+filled-more : {X : Type 0} (slots : List (Option X)) (from : ℕ) (ys : List X) (x : X) → from + length ys < length slots
+    → set (filled slots from ys) (from + length ys) (Some x) ≡ filled slots from (ys ++ x ∷ [])
+filled-more slots from ys x room =
+    let front = take from slots ++ map Some ys in let at = from + length ys in
+    let long : length front ≡ at = omega (arith, length-append (take from slots) (map Some ys), length-take from slots, length-map ys Some) in
+    let next : from + length (ys ++ x ∷ []) ≡ at + 1 = omega (arith, length-append ys (x ∷ [])) in
+    let put = rw (long, ← drop_more slots at None room) at (set-append_seam front (get_or slots at None) (drop (at + 1) slots) (Some x)) in
+    rw (next, map-append) (simp append_assoc (simp append_assoc at put))
 
 pub with_items-next : {X : Type 0} (s : Slots X) (from : ℕ) (xs : List X) → from + length xs ≤ length s.slots → (k : ℕ) (x : X) → slice_get xs k ≡ Some x
     → changed (with_items s from (take k xs)) (from + k) (Some x) ≡ with_items s from (take (k + 1) xs)
 with_items-next s from xs within k x is =
-    let low = slice_get_within xs k x is in
+    let low = slice_get_within xs k x is in let few : k ≡ length (take k xs) = omega (arith, length-take k xs) in
+    let next = ap (λ n. set (filled s.slots from (take k xs)) (from + n) (Some x)) few
+    ∙ filled-more s.slots from (take k xs) x (omega (arith, few)) ∙ ap (filled s.slots from) (sym (take_item xs k x is)) in
     let counted : s.changes + length (take k xs) + 1 ≡ s.changes + length (take (k + 1) xs) = omega (arith, length-take k xs, length-take (k + 1) xs) in
-    λ i. record { slots = filled-next s.slots from xs within k x is i; changes = counted i; capacity = s.capacity }
+    λ i. record { slots = next i; changes = counted i; capacity = s.capacity }
 
 module _ {X : Type 0} (s : Slots X) (start : ℕ) (laid_out : IsLaidOut s start) (place len : ℕ) where
   abbrev items : List X

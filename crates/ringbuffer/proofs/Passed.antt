@@ -1,5 +1,5 @@
 -- Items that one more pushes along by one index: those up to the last slot, and those that go on at the first.
-use Rattle.ringbuffer.proofs.Words.{◌≡◌, ℕ, ◌+◌, ◌-◌, ◌%◌, ◌<◌, ◌≤◌, List, [], ◌∷◌, ◌++◌, ◌⊎◌, Some, ap, append_assoc, arith, common_steps, drop, drop-drop, length, length-append, length-drop, length-take, inl, inr, min, refl, rules, slice_get, slice_get_cases, subst, suc, sym, take, take_at, ◌∙◌, IsFullStretch, IsSound, LaysOut, Slots, View, after_insert, after_pop, after_put_first, after_remove, after_take, after_writes, items_from, view_from, Passes, passed_down, passed_up, places, same_lists, take-take}
+use Rattle.ringbuffer.proofs.Words.{◌≡◌, ℕ, ◌+◌, ◌-◌, ◌%◌, ◌<◌, ◌≤◌, List, [], ◌∷◌, ◌++◌, ◌⊎◌, Some, ap, append_assoc, arith, common_steps, drop, drop-drop, length, length-append, length-drop, length-take, inl, inr, min, refl, rules, slice_get, slice_get_cases, subst, suc, sym, take, take_at, ◌∙◌, IsFullStretch, IsSound, LaysOut, Slots, View, after_insert, after_pop, after_put, after_put_first, after_remove, after_take, after_writes, items_from, view_from, Passes, passed_down, passed_up, places, same_lists, take-take}
 use Rattle.ringbuffer.proofs.Copies.{LaysOut-filled}
 use Rattle.ringbuffer.proofs.LaysOut.{IsSound-after, LaysOut-then}
 use Rattle.ringbuffer.proofs.RepeatedSteps.{view_is}
@@ -110,7 +110,8 @@ module _ {X : Type 0} {limit : ℕ → ℕ} (s : Slots X) (start len : ℕ) (sou
         let (xs, ys, long, long', order, order', lies) =
         both one other (inl (omega arith)) mid (passed_up item between) (many_up item between) once new (passed_up between over) (many_up between over) twice in
         let ordered : item ∷ take count (drop i here) ≡ (xs ++ ys) ++ over ∷ [] =
-        rw (← both_there s start sound.laid_out i count place first low found least, append_assoc, ← order') (ap (λ l. l ++ take (count - first) (drop (i + first) here)) order ∙ append_assoc xs (between ∷ []) _) in
+        rw (← both_there s start sound.laid_out i count place first low found least, append_assoc, ← order')
+        (ap (λ l. l ++ take (count - first) (drop (i + first) here)) order ∙ append_assoc xs (between ∷ []) _) in
         whole (passed_up item over) new xs ys long long' ordered (rw (writes_on i first xs ys v (sym long) (omega (arith, long', low, least))) at lies)
 
   -- the others are passed, and then the first ones
@@ -123,7 +124,8 @@ module _ {X : Type 0} {limit : ℕ → ℕ} (s : Slots X) (start len : ℕ) (sou
         let (ys, xs, long, long', order, order', lies) =
         both other one (inr (omega arith)) mid (passed_down item between) (many_down item between) once new (passed_down between over) (many_down between over) twice in
         let ordered : take count (drop i here) ++ item ∷ [] ≡ over ∷ (xs ++ ys) =
-        rw (← both_there s start sound.laid_out i count place first low found least, append_assoc, order) (sym (append_assoc (take first (drop i here)) (between ∷ []) ys) ∙ ap (λ l. l ++ ys) order') in
+        rw (← both_there s start sound.laid_out i count place first low found least, append_assoc, order)
+        (sym (append_assoc (take first (drop i here)) (between ∷ []) ys) ∙ ap (λ l. l ++ ys) order') in
         whole (passed_down item over) new xs ys long' long ordered (rw (writes_back i first xs ys v (sym long') (omega (arith, long, low, least))) at lies)
 
 -- an item taken from an end, or put there, once the items between are passed
@@ -134,6 +136,12 @@ module _ {X : Type 0} (i : ℕ) (v : View X) (over : X) (xs : List X) where
   pub put_first_is : (item : X) → i ≤ length all - i → i ≤ length all → passed_down item over (take i (drop 0 all)) xs → after_put_first (after_writes 0 xs v) over ≡ after_insert i item v
   put_first_is item few low order =
       let long : length xs ≡ i = many_down item over (take i all) xs order ∙ omega (arith, length-take i all) in view_is (grind (arith, common_steps)) (omega (arith, long)) refl
+
+  pub put_last_is : (item : X) (behind : ℕ) → behind ≡ length all - i → i ≤ length all → length all - i ≤ i → passed_up item over (take behind (drop i all)) xs
+      → after_put (after_writes i xs v) over ≡ after_insert i item v
+  put_last_is item behind count low few order =
+      let long : length xs ≡ behind = many_up item over (take behind (drop i all)) xs order ∙ omega (arith, length-take behind (drop i all), length-drop i all) in
+      view_is (grind (arith, common_steps)) (omega (arith, long)) refl
 
   module _ (low : i < length all) where
     -- the first one is taken, and those up to the index are passed up

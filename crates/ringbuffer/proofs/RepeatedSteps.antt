@@ -46,9 +46,11 @@ module _ {X : Type 0} where
     -- a slice pushed: the newest items kept that leave room for what the limit leaves of it, and then that put
     pub after_extend_from_slice-by : after_puts newest (after_keep_newest (limit - length newest) v) ≡ after_extend_from_slice limit v xs
     after_extend_from_slice-by =
-        let parts = drop-append (length (v.items ++ xs) - limit) v.items xs in view_is (rw is (grind (arith, common_steps, parts, drop_min))) (rw is (grind (arith, common_steps))) refl
+        let parts = drop-append (length (v.items ++ xs) - limit) v.items xs in
+        view_is (rw is (grind (arith, common_steps, parts, drop_min))) (rw is (grind (arith, common_steps))) refl
 
     -- what the limit leaves of a slice, pushed in order
     pub after_extend-newest : after_extend limit v newest ≡ after_extend_from_slice limit v xs
     after_extend-newest =
-        let parts = drop-append (length (v.items ++ xs) - limit) v.items xs in view_is (rw is (grind (arith, common_steps, parts, drop_min))) (rw is (grind (arith, common_steps))) refl
+        let parts = drop-append (length (v.items ++ xs) - limit) v.items xs in
+        view_is (rw is (grind (arith, common_steps, parts, drop_min))) (rw is (grind (arith, common_steps))) refl

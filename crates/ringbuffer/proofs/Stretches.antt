@@ -63,14 +63,15 @@ module _ {X : Type 0} (s : Slots X) (start : ℕ) (laid_out : IsLaidOut s start)
       let fit = laid_out.fit in
       record { laid_out = laid_out; low = omega (arith, low); found = λ some. round start i place first (length s.slots) found (omega (arith, within)); fit = omega (arith, low) }
 
-  pub both_there : take first (drop i (items_from s.slots start)) ++ take (count - first) (drop (i + first) (items_from s.slots start)) ≡ take count (drop i (items_from s.slots start))
+  pub both_there : let items = items_from s.slots start in take first (drop i items) ++ take (count - first) (drop (i + first) items) ≡ take count (drop i items)
   both_there = let all : first + (count - first) ≡ count = omega arith in rw (← drop-drop, ← take-add, all) refl
 
   pub lie_in_two : InTwo s.slots place first (count - first) (take count (drop i (items_from s.slots start)))
   lie_in_two = record {
     front = full_there first_there;
     rest = full_there second_there;
-    whole = λ xs ys before after. rw (stretch_is s.slots place first xs _ before (held_there first_there), stretch_is s.slots 0 (count - first) ys _ after (held_there second_there)) both_there;
+    whole = λ xs ys before after.
+        rw (stretch_is s.slots place first xs _ before (held_there first_there), stretch_is s.slots 0 (count - first) ys _ after (held_there second_there)) both_there;
   }
 
 -- so do all items
@@ -86,7 +87,9 @@ module _ {X : Type 0} (s : Slots X) (start : ℕ) (laid_out : IsLaidOut s start)
       at (held_there (second_there s start laid_out 0 len start first (omega (arith, counted)) (count_none start (length s.slots) laid_out.start_within) least))
 
   pub all_in_two : InTwo s.slots start first (len - first) (items_from s.slots start)
-  all_in_two = rw (take_all len (items_from s.slots start) (omega (arith, counted))) at (lie_in_two s start laid_out 0 len start first (omega (arith, counted)) (count_none start (length s.slots) laid_out.start_within) least)
+  all_in_two =
+      rw (take_all len (items_from s.slots start) (omega (arith, counted)))
+      at (lie_in_two s start laid_out 0 len start first (omega (arith, counted)) (count_none start (length s.slots) laid_out.start_within) least)
 
 -- the n items from an index on lie side by side from a place on
 abbrev pub LieAt : {X : Type 0} → Slots X → View X → (index n place : ℕ) → Type 0
@@ -104,5 +107,6 @@ module _ {X : Type 0} {limit : ℕ → ℕ} (s : Slots X) (start len : ℕ) (sou
   pub onward : (index n place : ℕ) → place ≡ (start + index) % length s.slots → (index + n ≤ len) × (n ≤ length s.slots - place) → LieAt s v index n place
   onward index n place found room =
       let below = mod-lt (start + index) {m = length s.slots} (omega (arith, sound.laid_out.start_within)) in
-      let at : SideBySide s start index n place = record { laid_out = sound.laid_out; low = omega (arith, sound.counted, room); found = λ some. found; fit = omega (arith, found, below, room) } in
+      let at : SideBySide s start index n place =
+      record { laid_out = sound.laid_out; low = omega (arith, sound.counted, room); found = λ some. found; fit = omega (arith, found, below, room) } in
       rw (sym shows) (at.low, at.fit, held_there at)

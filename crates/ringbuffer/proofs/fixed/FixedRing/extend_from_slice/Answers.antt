@@ -1,4 +1,4 @@
-use Rattle.ringbuffer.proofs.Words.{◌∙◌, View, ap, drop, after_puts}
+use Rattle.ringbuffer.proofs.Words.{arith, common_steps, ◌∙◌, View, ap, drop, after_puts}
 use Rattle.ringbuffer.proofs.RepeatedSteps.{after_extend-newest, after_extend_from_slice-by}
 use Rattle.ringbuffer.proofs.fixed.FixedRing.extend_from_slice.Goals as goal
 
@@ -15,3 +15,6 @@ returns-then-writes_over g c =
     let newest = c.split_at.result.1.now in
     let is = c.split_at.ensures.back ∙ ap (λ n. drop n c.args.items.now) c.saturating_sub.ensures in
     c.push_over.ensures ∙ (rw (c.limit-capacity.ensures.value ∙ ap (λ (v : View _). g.S.RingSlots.limit v.capacity) c.self.view_is) at (after_extend-newest c.limit-capacity.result c.args.self.now c.args.items.now newest is))
+
+pub returns-then-items-eq1 : goal.returns-then-items-eq1
+returns-then-items-eq1 g c = grind (arith, common_steps)

@@ -18,7 +18,8 @@ module _ {X : Type 0} {eq : X → X → Bool} {cmp : X → X → Option Ordering
   ordered [] (y ∷ ys) m n k long other_long = (λ x y at other_at. cc, λ all. ap Some (nat_cmp_is m n Less (omega arith)))
   ordered (x ∷ xs) [] m n k long other_long = (λ x y at other_at. cc, λ all. ap Some (nat_cmp_is m n Greater (omega arith)))
   ordered (x ∷ xs) (y ∷ ys) m n k long other_long = elim (cases_Bool (eq x y)) [
-    | inl same ↦ let (pair, lengths) = ordered xs ys m n (k + 1) (omega arith) (omega arith) in let next : 1 + common_prefix_len eq xs ys ≡ suc (common_prefix_len eq xs ys) = omega arith in
+    | inl same ↦ let (pair, lengths) = ordered xs ys m n (k + 1) (omega arith) (omega arith) in
+        let next : 1 + common_prefix_len eq xs ys ≡ suc (common_prefix_len eq xs ys) = omega arith in
         rw (same, next, (order.matches_eq x y).0 same) (pair, λ all. lengths (omega (arith, all)))
     | inr apart ↦ let differs = λ (tie : cmp x y ≡ Some Equal). absurd (cc ((order.matches_eq x y).1 tie, apart)) in
         rw apart (λ v w at other_at. rw (decided (cmp x y) (slice_partial_cmp cmp xs ys) differs) cc, λ all. absurd (omega (arith, all)))
@@ -27,7 +28,8 @@ module _ {X : Type 0} {eq : X → X → Bool} {cmp : X → X → Option Ordering
 -- The first pair that differs decides.
 pub returns-then-k-min : goal.returns-then-k-min
 returns-then-k-min g c =
-    c.partial_cmp.ensures ∙ sym ((ordered g.met.T.PartialOrd.laws c.args.self.now.items c.args.other.now.items (length c.args.self.now.items) (length c.args.other.now.items) 0 (omega arith) (omega arith)).0 _ _ (rw c.common_prefix_len-k.ensures at c.at.ensures) (rw c.common_prefix_len-k.ensures at c.at-then-k-min.ensures))
+    let xs = c.args.self.now.items in let ys = c.args.other.now.items in let k = c.common_prefix_len-k.ensures in
+    c.partial_cmp.ensures ∙ sym ((ordered g.met.T.PartialOrd.laws xs ys (length xs) (length ys) 0 (omega arith) (omega arith)).0 _ _ (rw k at c.at.ensures) (rw k at c.at-then-k-min.ensures))
 
 -- None does, and the lengths decide.
 pub returns : goal.returns
@@ -35,5 +37,6 @@ returns g c =
     let xs = c.args.self.now.items in let ys = c.args.other.now.items in
     let long : c.self.inside.span.len ≡ length xs = omega (arith, c.self.invariant.counted, ap (λ (v : View _). length v.items) c.self.view_is) in
     let other_long : c.other.inside.span.len ≡ length ys = omega (arith, c.other.invariant.counted, ap (λ (v : View _). length v.items) c.other.view_is) in
-    let all = (ordered g.met.T.PartialOrd.laws xs ys (length xs) (length ys) 0 (omega arith) (omega arith)).1 (omega (arith, c.common_prefix_len-k.ensures, c.if-k-min.false, c.min.ensures, long, other_long)) in
+    let all = (ordered g.met.T.PartialOrd.laws xs ys (length xs) (length ys) 0 (omega arith) (omega arith)).1
+    (omega (arith, c.common_prefix_len-k.ensures, c.if-k-min.false, c.min.ensures, long, other_long)) in
     rw (all, c.cmp.ensures, long, other_long) refl

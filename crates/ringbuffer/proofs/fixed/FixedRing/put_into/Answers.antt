@@ -1,5 +1,5 @@
 use Rattle.ringbuffer.proofs.Words.{View, ◌∙◌, after_put_first, ap, arith, length}
-use Rattle.ringbuffer.proofs.Passed.{put_first_is}
+use Rattle.ringbuffer.proofs.Passed.{put_first_is, put_last_is}
 use Rattle.ringbuffer.proofs.fixed.FixedRing.put_into.Goals as goal
 
 pub returns-then-index-behind : goal.returns-then-index-behind
@@ -7,3 +7,10 @@ returns-then-index-behind g c =
     let len = c.self.invariant.counted ∙ ap (λ (w : View _). length w.items) c.self.view_is in
     let (xs, order, after) = c.pass_down-first.ensures in
     c.put_first.ensures ∙ ap (λ w. after_put_first w c.pass_down-first.result) after ∙ put_first_is c.args.index c.args.self.now _ xs c.args.item (omega (arith, len, c.if-index-behind.true)) c.requires.within order
+
+pub returns-else-index-behind : goal.returns-else-index-behind
+returns-else-index-behind g c =
+    let len = c.self.invariant.counted ∙ ap (λ (w : View _). length w.items) c.self.view_is in let (xs, order, after) = c.pass_up-last.ensures in
+    let is = put_last_is c.args.index c.args.self.now c.pass_up-last.result xs c.args.item _
+    (omega (arith, len)) c.requires.within (omega (arith, len, c.if-index-behind.false)) order in
+    cc

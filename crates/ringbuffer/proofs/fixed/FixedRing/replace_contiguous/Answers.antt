@@ -34,7 +34,8 @@ module _ {X : Type 0} (s mid : Slots X) (start k : ℕ) (xs : List X) (full : le
 pub loop-k-init : goal.loop-k-init
 loop-k-init g c =
     let laid_out = c.requires.span.laid_out in let s = g.S.RingSlots.seen c.args.slots.now in
-    rw (← count_none c.args.span.start (length s.slots) laid_out.start_within) (subst (LaysOut s s c.args.span.start) (view_is (sym (append-nil _)) (omega arith) refl) (LaysOut-none s c.args.span.start laid_out))
+    rw (← count_none c.args.span.start (length s.slots) laid_out.start_within)
+    (subst (LaysOut s s c.args.span.start) (view_is (sym (append-nil _)) (omega arith) refl) (LaysOut-none s c.args.span.start laid_out))
 
 pub discard-requires : goal.discard-requires
 discard-requires g c = oldest_full _ _ _ _ _ (sym c.requires.span.len ∙ c.requires.full (omega (arith, c.loop-k-test.true))) c.requires.contiguous c.loop-k-test.true c.loop-k.invariant
