@@ -31,9 +31,7 @@ module _ {X : Type 0} (s : Slots X) (start : ℕ) (laid_out : IsLaidOut s start)
 
   -- the start holds the first item
   pub first_held : slot_at s start ≡ slice_get (items_from s.slots start) 0
-  first_held =
-      let within = laid_out.start_within in
-      let held = laid_out.layout 0 in grind (arith, held, mod-eq_of_lt)
+  first_held = grind (arith, laid_out.start_within, laid_out.layout 0, mod-eq_of_lt)
 
   -- where there is an item, the start holds one
   pub first_full : 0 < length (items_from s.slots start) → IsFullAt s start

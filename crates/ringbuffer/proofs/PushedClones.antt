@@ -1,5 +1,5 @@
 -- Clones of lists' items: what a ring of a fixed capacity shows after they were pushed, and what two lists have together.
-use Rattle.ringbuffer.proofs.Words.{common_steps, ◌≡◌, ℕ, ◌+◌, ◌-◌, ◌<◌, ◌≤◌, List, ◌++◌, length, take, drop, Some, OnOk, MatchResult, Result, ap, arith, length-append, length-drop, length-take, take-append-add, AllZip, AllZip-join, View, after_extend, keep_last, length_all_zip, equal_clones_pushed, ChangesSlots, MatchResult-weaker}
+use Rattle.ringbuffer.proofs.Words.{common_steps, ◌≡◌, ℕ, ◌+◌, ◌-◌, ◌<◌, ◌≤◌, List, ◌++◌, length, take, drop, Some, OnOk, MatchResult, Result, ap, arith, length-append, take-append-add, AllZip, AllZip-join, View, after_extend, keep_last, length_all_zip, equal_clones_pushed, ChangesSlots, MatchResult-weaker}
 
 module _ {X E : Type 0} (IsClone : X → X → Type 0) (limit : ℕ) (items : List X) (v w : View X) (P : Type 0) (r : Result (Unit {0}) E)
     (pushed : (over : ℕ) × (ys : List X) × (over ≤ length items - limit) × AllZip IsClone (take (length ys) (drop over items)) ys
@@ -13,11 +13,8 @@ module _ {X E : Type 0} (IsClone : X → X → Type 0) (limit : ℕ) (items : Li
   -- Each clone changes its slot, and one more where an item gives way.
   pub few_changes : ChangesSlots v.changes v.items w.changes w.items (length items)
   few_changes =
-      let (over, ys, within, clones, done, is) = pushed in
-      let all = v.items ++ ys in let others = drop over items in
-      let few : length ys ≤ length items = omega (arith, length_all_zip IsClone (take (length ys) others) ys clones, length-take (length ys) others, length-drop over items) in
-      let changes = ap (λ (u : View X). u.changes) is in let long = ap (λ (u : View X). length u.items) is in
-      (omega (arith, changes), omega (arith, changes, long, few, length-append v.items ys, length-drop (length all - limit) all))
+      let (over, ys, within, clones, done, is) = pushed in let all_cloned = length_all_zip IsClone (take (length ys) (drop over items)) ys clones in
+      rw is (grind (arith, common_steps, all_cloned), grind (arith, common_steps, all_cloned))
 
 -- A beginning of two lists is one of the first and one of the second, which is empty unless the first is whole.
 pub both_taken : {A : Type 0} (a b : ℕ) (xs ys : List A) → a ≤ length xs → (a < length xs → b ≡ 0) → take a xs ++ take b ys ≡ take (a + b) (xs ++ ys)

@@ -1,4 +1,4 @@
-use Rattle.ringbuffer.proofs.Words.{drop-append-le, drop-drop, take-suc_get, ◌≡◌, ◌+◌, ◌%◌, ◌<◌, ◌≤◌, ◌∙◌, ℕ, IsFullAt, LaysOut, List, None, Slots, Some, View, after_put, after_puts, after_take, after_takes, ap, append-nil, arith, changed, common_steps, slice_get_cases, drop, items_from, length, length-append, length-drop, length-take, mod-eq_of_lt, refl, slice_get, subst, sym, take, take_all, view_from, slice_get_read}
+use Rattle.ringbuffer.proofs.Words.{drop-append-le, drop-drop, take-suc_get, ◌≡◌, ◌+◌, ◌%◌, ◌<◌, ◌≤◌, ◌∙◌, ℕ, IsFullAt, LaysOut, List, None, Slots, Some, View, after_put, after_puts, after_take, after_takes, ap, append-nil, arith, changed, common_steps, slice_get_cases, drop, items_from, length, length-drop, mod-eq_of_lt, refl, slice_get, subst, sym, take, take_all, view_from, slice_get_read}
 use Rattle.ringbuffer.proofs.LaysOut.{LaysOut-none, LaysOut-replace, LaysOut-then, first_full}
 use Rattle.ringbuffer.proofs.RepeatedSteps.{view_is}
 use Rattle.ringbuffer.proofs.SlotsHold.{count_none}
@@ -17,9 +17,7 @@ module _ {X : Type 0} (s mid : Slots X) (start k : ℕ) (xs : List X) (full : le
   lies = let here : (start + k) % length s.slots ≡ start + k = mod-eq_of_lt (omega arith) in rw here at so_far
 
   still_full : length (items_from mid.slots (start + k)) ≡ length mid.slots
-  still_full =
-      let items = items_from s.slots start in
-      omega (arith, full, lies.same_size, ap (λ (w : View X). length w.items) lies.shows, length-append (drop k items) (take k xs), length-drop k items, length-take k xs)
+  still_full = let long = ap (λ (w : View X). length w.items) lies.shows in grind (arith, common_steps, lies.same_size)
 
   oldest_full : IsFullAt mid (start + k)
   oldest_full = let within = lies.laid_out.start_within in first_full mid (start + k) lies.laid_out (omega (arith, still_full))
