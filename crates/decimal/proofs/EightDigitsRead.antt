@@ -1,5 +1,5 @@
 -- Eight digits read together: as bytes, then in pairs, in fours.
-use Rattle.std.proofs.Common.{◌≡◌, ℕ, ◌+◌, ◌*◌, ◌/◌, ◌%◌, ◌^◌, ◌<◌, ◌||◌, Bool, true, cond, List, [], ◌∷◌, length, get_or, take, ◌≤◌, ◌≢◌, map, min, max, ltb, eqb, refl, sym, ap, ◌∙◌, arith}
+use Rattle.std.proofs.Common.{◌≡◌, ℕ, ◌+◌, ◌*◌, ◌/◌, ◌%◌, ◌^◌, ◌<◌, ◌||◌, Bool, true, cond, List, [], ◌∷◌, length, get_or, take, ◌≤◌, ◌≢◌, map, ltb, eqb, refl, sym, ap, ◌∙◌, arith}
 use Rattle.std.proofs.lemmas.Bool.{agree_below_at}
 use Rattle.std.proofs.lemmas.Bool.Decides.{nat_tests}
 use Rattle.std.proofs.lemmas.Int.Digits.{digits_value_is}
@@ -7,7 +7,7 @@ use Rattle.std.proofs.lemmas.List.{length-take-le}
 use Rattle.std.proofs.lemmas.List.Elements.{All-from_get_or, All-take, recursion_from_All}
 use Rattle.std.proofs.lemmas.Nat.{and_block, and_or_apart, or_comm, xor_block, xor_lt}
 use Rattle.std.proofs.lemmas.Nat.Bits.{and_pow, bit_at_and, bit_at_or, bit_at-zero, same_from_bits}
-use Rattle.std.specs.Int.{bit_at, from_le_bytes, w64}
+use Rattle.std.specs.Int.{from_le_bytes, w64}
 use Rattle.std.specs.Int.Digits.{number_from_digits}
 use Rattle.std.specs.Int.RustNames.{bit_and, bit_or, bit_xor}
 use Rattle.std.specs.Char.{digit_value}
@@ -29,37 +29,28 @@ turned bs = map (λ b. bit_xor b 48) bs
 
 turned_pack : (bs : List ℕ) → Below 256 bs → bit_xor (pack bs) (pack (map (λ _. 48) bs)) ≡ pack (turned bs)
 turned_pack [] h = refl
-turned_pack (b ∷ bs) (h, hs) = xor_block 8 (pack bs) (pack (map (λ _. 48) bs)) b 48 h (omega arith) ∙ ap (λ n. n * 2 ^ 8 + bit_xor b 48) (turned_pack bs hs)
+turned_pack (b ∷ bs) (h, hs) = grind (arith, xor_block 8 (pack bs) (pack (map (λ _. 48) bs)) b 48 h, turned_pack bs hs)
 
 to_digits : (bs : List ℕ) → Below 256 bs → Below 10 (turned bs) → AllDigits 10 bs × (map digit_value bs ≡ turned bs)
 to_digits [] h k = (tt, refl)
-to_digits (b ∷ bs) (h, hs) (k, ks) =
-    let t = turned_tests b h in let same : digit_value b ≡ bit_xor b 48 = grind (arith, nat_tests) in let rest = to_digits bs hs ks in
-    ((omega (arith, same, k), rest.0), cc)
+to_digits (b ∷ bs) (h, hs) (k, ks) = grind (arith, nat_tests, turned_tests b h, to_digits bs hs ks)
 
 from_digits : (bs : List ℕ) → Below 256 bs → AllDigits 10 bs → Below 10 (turned bs)
 from_digits [] h k = tt
-from_digits (b ∷ bs) (h, hs) (k, ks) = (let t = turned_tests b h in grind (arith, nat_tests), from_digits bs hs ks)
+from_digits (b ∷ bs) (h, hs) (k, ks) = grind (arith, nat_tests, turned_tests b h, from_digits bs hs ks)
 
 -- the highest bits
 tops : (bs : List ℕ) → Below 256 bs → bit_and (pack bs) (pack (map (λ _. 128) bs)) ≡ pack (map (λ b. b / 128 * 128) bs)
 tops [] h = refl
-tops (b ∷ bs) (h, hs) =
-    let rest = tops bs hs in let top = and_pow b 7 in
-    and_block 8 (pack bs) (pack (map (λ _. 128) bs)) b 128 h (omega arith) ∙ omega (arith, rest, top)
+tops (b ∷ bs) (h, hs) = grind (arith, tops bs hs, and_pow b 7, and_block 8 (pack bs) (pack (map (λ _. 128) bs)) b 128 h)
 
 no_tops : (bs : List ℕ) → pack (map (λ b. b / 128 * 128) bs) ≡ 0 → Below 128 bs
 no_tops [] e = tt
-no_tops (b ∷ bs) e = (omega (arith, e), no_tops bs (omega (arith, e)))
-
-least : (x y m : ℕ) → min (max x y) m ≡ 0 → min x m ≡ 0
-least x y m h = omega arith
+no_tops (b ∷ bs) e = grind (arith, no_tops bs)
 
 -- no bit is in a mask, where none of it and others is
 masked_off : (x y m : ℕ) → bit_and (bit_or x y) m ≡ 0 → bit_and x m ≡ 0
-masked_off x y m h = same_from_bits _ _ (λ i. bit_at_and x m i
-    ∙ least (bit_at x i) (bit_at y i) (bit_at m i) (ap (λ n. min n (bit_at m i)) (sym (bit_at_or x y i)) ∙ sym (bit_at_and (bit_or x y) m i) ∙ ap (λ n. bit_at n i) h ∙ bit_at-zero i)
-    ∙ sym (bit_at-zero i))
+masked_off x y m h = same_from_bits _ _ (λ i. grind (arith, bit_at_and x m i, bit_at_and (bit_or x y) m i, bit_at_or x y i, bit_at-zero i))
 
 -- the test of all bytes at once, and what is then done to them
 abbrev pub tested : ℕ → ℕ

@@ -1,6 +1,7 @@
 -- The command that begins a line, and what the words of the line say.
-use Rattle.std.proofs.Common.{◌≡◌, ℕ, true, false, cond, List, [], ◌∷◌, ◌++◌, length, take, drop, Option, Some, None, codes, inl, inr, ◌⊎◌, not, ℤ, pos, refl, sym, ap, ◌∙◌, append-nil}
-use Rattle.std.proofs.Math.Seq.{drop-append_seam, take-append_seam}
+use Rattle.std.proofs.Common.{◌≡◌, ℕ, true, false, cond, List, [], ◌∷◌, ◌++◌, length, take, Option, Some, None, codes, inl, inr, ◌⊎◌, not, ℤ, pos, refl, sym, ◌∙◌, arith}
+use Rattle.std.proofs.Math.Seq.{take-append_seam}
+use Rattle.std.proofs.lemmas.Grind.{common_steps}
 use Rattle.std.proofs.lemmas.List.{take-append-drop}
 use Rattle.std.proofs.lemmas.Slice.Eq.{bytes_eq-Decides}
 use Rattle.std.specs.List.{list_all}
@@ -8,12 +9,11 @@ use Rattle.std.specs.Str.{bytes_eq}
 use Rattle.std.specs.Option.{option_and_then, option_map}
 use Rattle.ringbuffer.specs.declared.Command.{Command}
 use Rattle.ringbuffer.specs.declared.Command.TheVariants.{Push, Extend, Dequeue, Skip, Clear}
-use Rattle.decimal.proofs.Cases.{by_cases, some_is}
-use Rattle.ringrun_service.proofs.Lines.{ends_word, past_word, word_at, word_goes_on, words_at, word_first, words_behind_blank, words_behind_blanks}
+use Rattle.ringrun_service.proofs.Lines.{past_word, word_at, word_goes_on, words_at, word_first, words_behind_blank, words_behind_blanks}
 use Rattle.ringrun_service.proofs.Numbers.{behind_number, ends_here, not_at_end, number_in_word, number_of_word, none_passed, no_word, read_here, signed_rest}
 use Rattle.decimal.specs.Numerals.{signed_at}
 use Rattle.ringrun_service.specs.Parsing.{after_blanks, after_end, after_name, number_at, starts_blank, CommandAt, HasNoCommand, NumbersAt}
-use Rattle.ringrun_service.specs.Script.{command_named, commands_of, is_blank, is_line_feed, number_of, numbers_of, plain, words_of}
+use Rattle.ringrun_service.specs.Script.{command_named, commands_of, is_line_feed, number_of, numbers_of, plain, words_of}
 
 -- What the words of the first line say.
 abbrev pub says : List ℕ → Option (List (Command ℤ))
@@ -23,15 +23,13 @@ says text = commands_of (words_at text)
 
 pub line_ended : (text rest : List ℕ) → after_end (after_blanks text) ≡ Some rest → (words_at text ≡ []) × (ends_here text ≡ true)
 unfolding after_blanks words_of
-line_ended [] rest = λ e. (refl, refl)
-line_ended (b ∷ bs) rest = by_cases (is_blank b)
-    (λ h. rw h (λ e. (words_behind_blank b bs h ∙ (line_ended bs rest e).0, refl)))
-    (λ h. rw h (by_cases (is_line_feed b) (λ k. rw k (λ e. (refl, refl))) (λ k. rw k (λ e. absurd (cc)))))
+line_ended [] rest e = (refl, refl)
+line_ended (b ∷ bs) rest e = grind (arith, words_behind_blank b bs, line_ended bs rest)
 
 pub no_blank_left : (text : List ℕ) → starts_blank (after_blanks text) ≡ false
 unfolding after_blanks
 no_blank_left [] = refl
-no_blank_left (b ∷ bs) = by_cases (is_blank b) (λ h. rw h (no_blank_left bs)) (λ h. rw h h)
+no_blank_left (b ∷ bs) = grind (arith, no_blank_left bs)
 
 pub after_blanks_twice : (text : List ℕ) → after_blanks (after_blanks text) ≡ after_blanks text
 after_blanks_twice text = none_passed (after_blanks text) (no_blank_left text)
@@ -39,10 +37,8 @@ after_blanks_twice text = none_passed (after_blanks text) (no_blank_left text)
 -- after a word that has ended and before another stands a blank
 blank_before_word : (text : List ℕ) → after_end (after_blanks text) ≡ None → ends_here text ≡ true → starts_blank text ≡ true
 unfolding after_blanks
-blank_before_word [] e h = absurd (cc)
-blank_before_word (b ∷ bs) e h = by_cases (is_blank b)
-    (λ k. k)
-    (λ k. let feed : is_line_feed b ≡ true = rw k at h in let some : Some bs ≡ None = rw (k, feed) at e in absurd (cc))
+blank_before_word [] e h = grind arith
+blank_before_word (b ∷ bs) e h = grind arith
 
 blank_ends : (text : List ℕ) → starts_blank text ≡ true → ends_here text ≡ true
 blank_ends [] h = refl
@@ -57,12 +53,9 @@ numbers_after (Some (number, rest)) = cond (ends_here rest) (option_map (λ numb
 
 first_number : (text : List ℕ) (read : Option (ℤ × List ℕ)) → signed_at text ≡ read
     → option_and_then (λ number. option_map (λ numbers. number ∷ numbers) (numbers_of (words_at (past_word text)))) (number_of (word_at text)) ≡ numbers_after read
-first_number text None e = rw (number_of_word text, e) (by_cases (ends_here (behind_number text)) (λ h. rw h refl) (λ h. rw h refl))
+first_number text None e = grind (arith, number_of_word text)
 first_number text (Some (n, rest)) e =
-    let behind : behind_number text ≡ rest = sym (signed_rest text n rest e) in
-    rw (number_of_word text, e, behind) (by_cases (ends_here rest)
-    (λ h. let past : past_word text ≡ rest = (word_goes_on text (behind_number text) (number_in_word text)).1 ∙ ap past_word behind ∙ (no_word rest h).1 in rw (h, past) refl)
-    (λ h. rw h refl))
+    grind (arith, number_of_word text, signed_rest text n rest e, (word_goes_on text (behind_number text) (number_in_word text)).1, no_word rest)
 
 -- where a word comes, the words are the numbers that follow
 next_numbers : (text : List ℕ) → starts_blank text ≡ true → after_end (after_blanks text) ≡ None → numbers_of (words_at text) ≡ numbers_after (number_at text)
@@ -78,52 +71,32 @@ Read text [] rest = rest ≡ text
 Read text (number ∷ numbers) rest = (after : List ℕ) × (number_at text ≡ Some (number, after)) × Read after numbers rest
 
 all_read : (numbers : List ℤ) (text rest : List ℕ) → NumbersAt text numbers rest → Read text numbers rest × (number_at rest ≡ None)
-all_read [] text rest (none, same) = (same, ap number_at same ∙ none)
-all_read (n ∷ numbers) text rest (mid, read, more) = let behind = all_read numbers mid rest more in ((mid, read, behind.0), behind.1)
+all_read [] text rest (none, same) = grind arith
+all_read (n ∷ numbers) text rest (mid, read, more) = grind (arith, all_read numbers mid rest more)
 
 -- all words that are left are these numbers
 all_numbers : (numbers : List ℤ) (text rest after : List ℕ) → Read text numbers rest → after_end (after_blanks rest) ≡ Some after → (numbers_of (words_at text) ≡ Some numbers) × (ends_here text ≡ true)
-all_numbers [] text rest after same e =
-    let here : after_end (after_blanks text) ≡ Some after = ap (λ t. after_end (after_blanks t)) (sym same) ∙ e in
-    let end = line_ended text after here in (ap numbers_of end.0, end.1)
+all_numbers [] text rest after same e = grind (arith, line_ended rest after e)
 all_numbers (n ∷ numbers) text rest after (mid, read, more) e =
-    let behind = all_numbers numbers mid rest after more e in let here = read_here text (n, mid) read in
-    (next_numbers text here.0 (not_at_end (after_blanks text) (n, mid) here.1) ∙ rw (read, behind.1, behind.0) refl, blank_ends text here.0)
-
-no_more : {B : Type 0} (f : List ℤ → Option B) (next : Option (ℤ × List ℕ)) → ((m : ℤ) (ms : List ℤ) → f (m ∷ ms) ≡ None) → option_and_then f (numbers_after next) ≡ None
-no_more f None h = refl
-no_more f (Some (m, rest)) h = by_cases (ends_here rest)
-    (λ k. rw k (elim (numbers_of (words_at rest)) as (λ o. option_and_then f (option_map (λ ms. m ∷ ms) o) ≡ None) [ None ↦ refl | Some ms ↦ h m ms ]))
-    (λ k. rw k refl)
-
-map_then : {B : Type 0} (f : List ℤ → Option B) (n : ℤ) (o : Option (List ℤ)) → option_and_then f (option_map (λ ms. n ∷ ms) o) ≡ option_and_then (λ ms. f (n ∷ ms)) o
-map_then f n None = refl
-map_then f n (Some ms) = refl
+    let here = read_here text (n, mid) read in
+    grind (arith, all_numbers numbers mid rest after more e, next_numbers text here.0 (not_at_end (after_blanks text) (n, mid) here.1), blank_ends text here.0)
 
 -- a word that is left is no number, or one too many
 some_other : {B : Type 0} (f : List ℤ → Option B) (numbers : List ℤ) (text rest : List ℕ) → Read text numbers rest → after_end (after_blanks rest) ≡ None → ends_here text ≡ true
     → (number_at rest ≡ None) ⊎ ((m : ℤ) (ms : List ℤ) → f (numbers ++ m ∷ ms) ≡ None) → option_and_then f (numbers_of (words_at text)) ≡ None
-some_other f [] text rest same e h wanted =
-    let here : after_end (after_blanks text) ≡ None = ap (λ t. after_end (after_blanks t)) (sym same) ∙ e in
-    let next = next_numbers text (blank_before_word text here h) here in
-    elim wanted [ inl none ↦ rw (next, ap number_at (sym same) ∙ none) refl | inr more ↦ rw next (no_more f (number_at text) more) ]
+some_other f [] text rest same e h wanted = grind (arith, blank_before_word text, next_numbers text)
 some_other f (n ∷ numbers) text rest (mid, read, more) e h wanted =
     let here = read_here text (n, mid) read in
-    rw (next_numbers text here.0 (not_at_end (after_blanks text) (n, mid) here.1), read) (by_cases (ends_here mid)
-    (λ k. rw k (map_then f n (numbers_of (words_at mid)) ∙ some_other (λ ms. f (n ∷ ms)) numbers mid rest more e k wanted))
-    (λ k. rw k refl))
+    grind (arith, next_numbers text here.0 (not_at_end (after_blanks text) (n, mid) here.1), some_other (λ ms. f (n ∷ ms)) numbers mid rest more e)
 
 -- ---- names
 
 pub named : (name text rest : List ℕ) → after_name name text ≡ Some rest → text ≡ name ++ rest
 unfolding after_name
-named name text rest = by_cases (bytes_eq (take (length name) text) name)
-    (λ h. rw h (λ e. sym (take-append-drop (length name) text) ∙ ap (λ t. t ++ drop (length name) text) ((bytes_eq-Decides (take (length name) text) name).0 h) ∙ ap (λ t. name ++ t) (some_is (drop (length name) text) rest e)))
-    (λ h. rw h (λ e. absurd (cc)))
+named name text rest e = grind (arith, take-append-drop (length name) text, bytes_eq-Decides (take (length name) text) name)
 
 none_from : {B : Type 0} (f : List ℤ → Option B) (o : Option (List ℤ)) → ((numbers : List ℤ) → f numbers ≡ None) → option_and_then f o ≡ None
-none_from f None h = refl
-none_from f (Some numbers) h = h numbers
+none_from f o h = grind (arith, h)
 
 abbrev pub name_of : Command ℤ → List ℕ
 name_of (Push number) = codes "push"
@@ -140,11 +113,7 @@ pub record IsName (name : List ℕ) : Type 0 where
 
 pub is_name : (command : Command ℤ) → IsName (name_of command)
 unfolding command_named
-is_name (Push number) = record { inside = refl; words = λ rest. word_first (codes "push" ++ rest) refl refl; longer = λ b bs numbers. refl }
-is_name (Extend items) = record { inside = refl; words = λ rest. word_first (codes "extend" ++ rest) refl refl; longer = λ b bs numbers. refl }
-is_name Dequeue = record { inside = refl; words = λ rest. word_first (codes "dequeue" ++ rest) refl refl; longer = λ b bs numbers. refl }
-is_name Skip = record { inside = refl; words = λ rest. word_first (codes "skip" ++ rest) refl refl; longer = λ b bs numbers. refl }
-is_name Clear = record { inside = refl; words = λ rest. word_first (codes "clear" ++ rest) refl refl; longer = λ b bs numbers. refl }
+is_name command = record { inside = grind arith; words = λ rest. grind (arith, word_first (name_of command ++ rest)); longer = λ b bs numbers. grind arith }
 
 broken_name : (command : Command ℤ) (args : List ℕ) → ends_here args ≡ false → (numbers : List ℤ) → command_named (name_of command ++ word_at args) numbers ≡ None
 broken_name command [] h numbers = absurd (cc)
@@ -156,10 +125,7 @@ line_of name args = cond (ends_here args) (option_map (λ command. command ∷ [
 
 named_line : (command : Command ℤ) (text args : List ℕ) → after_name (name_of command) text ≡ Some args → says text ≡ line_of (name_of command) args
 named_line command text args e =
-    let words = (is_name command).words args in
-    ap says (named (name_of command) text args e) ∙ by_cases (ends_here args)
-    (λ h. rw h (ap commands_of (let none = no_word args h in rw (none.0, none.1, append-nil (name_of command)) at words)))
-    (λ h. rw h (ap commands_of words ∙ ap (option_map (λ command. command ∷ [])) (none_from (command_named (name_of command ++ word_at args)) (numbers_of (words_at (past_word args))) (broken_name command args h))))
+    rw (named (name_of command) text args e) (grind (arith, common_steps, (is_name command).words args, no_word args, broken_name command args))
 
 -- ---- what a line says
 
@@ -177,52 +143,47 @@ unfolding command_named
 called text (Push n) rest (args, name, number) = record { args = args; numbers = n ∷ []; named = name; read = (rest, number, refl); means = refl; alone = inr (λ m ms. refl) }
 called text (Extend items) rest (args, name, read) =
     let all = all_read items.items args rest read in record { args = args; numbers = items.items; named = name; read = all.0; means = refl; alone = inl all.1 }
-called text Dequeue rest name = record { args = rest; numbers = []; named = name; read = refl; means = refl; alone = inr (λ m ms. refl) }
-called text Skip rest name = record { args = rest; numbers = []; named = name; read = refl; means = refl; alone = inr (λ m ms. refl) }
-called text Clear rest name = record { args = rest; numbers = []; named = name; read = refl; means = refl; alone = inr (λ m ms. refl) }
+called text command rest name = record { args = rest; numbers = []; named = grind arith; read = refl; means = grind arith; alone = grind arith }
 
 -- where blanks and a line's end follow the command
 pub said : (text : List ℕ) (command : Command ℤ) (rest after : List ℕ) → CommandAt text command rest → after_end (after_blanks rest) ≡ Some after → says text ≡ Some (plain command ∷ [])
 said text command rest after at e =
-    let c = called text command rest at in let all = all_numbers c.numbers c.args rest after c.read e in
-    named_line command text c.args c.named ∙ rw (all.1, all.0, c.means) refl
+    let c = called text command rest at in
+    grind (arith, all_numbers c.numbers c.args rest after c.read e, named_line command text c.args c.named, c.means)
 
 -- where anything else follows it
 pub unsaid : (text : List ℕ) (command : Command ℤ) (rest : List ℕ) → CommandAt text command rest → after_end (after_blanks rest) ≡ None → says text ≡ None
 unsaid text command rest at e =
     let c = called text command rest at in
-    named_line command text c.args c.named ∙ by_cases (ends_here c.args)
-    (λ h. rw h (ap (option_map (λ command. command ∷ [])) (some_other (command_named (name_of command)) c.numbers c.args rest c.read e h c.alone)))
-    (λ h. rw h refl)
+    grind (arith, named_line command text c.args c.named, some_other (command_named (name_of command)) c.numbers c.args rest c.read e)
 
 word_and_past : (text : List ℕ) → text ≡ word_at text ++ past_word text
 word_and_past [] = refl
-word_and_past (b ∷ bs) = by_cases (ends_word b) (λ h. rw h refl) (λ h. rw h (ap (λ t. b ∷ t) (word_and_past bs)))
-
-named_again : (name rest : List ℕ) → after_name name (name ++ rest) ≡ Some rest
-unfolding after_name
-named_again name rest =
-    let same : bytes_eq name name ≡ true = (bytes_eq-Decides name name).1 refl in
-    rw (take-append_seam name rest, same, drop-append_seam name rest) refl
+word_and_past (b ∷ bs) = grind (arith, word_and_past bs)
 
 -- the word that begins a text is no name that doesn't
 not_word : (name text : List ℕ) → after_name name text ≡ None → bytes_eq (word_at text) name ≡ false
-not_word name text e = by_cases (bytes_eq (word_at text) name)
-    (λ h. let is : text ≡ name ++ past_word text = word_and_past text ∙ ap (λ w. w ++ past_word text) ((bytes_eq-Decides (word_at text) name).0 h) in
-    let some : None ≡ Some (past_word text) = sym e ∙ ap (after_name name) is ∙ named_again name (past_word text) in absurd (cc))
-    (λ h. h)
+unfolding after_name
+not_word name text e =
+    grind (arith, word_and_past text, bytes_eq-Decides (word_at text) name, bytes_eq-Decides name name, take-append_seam name (past_word text))
 
 no_push : (args : List ℕ) → number_at args ≡ None → ends_here args ≡ true → option_and_then (command_named (codes "push")) (numbers_of (words_at args)) ≡ None
 unfolding command_named
-no_push args none h = elim (after_end (after_blanks args)) as (λ o. after_end (after_blanks args) ≡ o → option_and_then (command_named (codes "push")) (numbers_of (words_at args)) ≡ None)
-    [ Some after ↦ λ e. rw (line_ended args after e).0 refl | None ↦ λ e. some_other (command_named (codes "push")) [] args args refl e h (inl none) ] refl
+no_push args none h = grind (arith, line_ended args, some_other (command_named (codes "push")) [] args args refl)
 
 -- where no command comes first
 pub unsaid_unnamed : (text : List ℕ) → HasNoCommand text → starts_blank text ≡ false → after_end text ≡ None → says text ≡ None
 unfolding command_named
-unsaid_unnamed text (inr (args, name, none)) s e = named_line (Push (pos 0)) text args name ∙ by_cases (ends_here args)
-    (λ h. rw h (ap (option_map (λ command. command ∷ [])) (no_push args none h)))
-    (λ h. rw h refl)
+unsaid_unnamed text (inr (args, name, none)) s e = grind (arith, named_line (Push (pos 0)) text args name, no_push args none)
 unsaid_unnamed text (inl un) s e =
-    ap commands_of (word_first text s e) ∙ ap (option_map (λ command. command ∷ [])) (none_from (command_named (word_at text)) (numbers_of (words_at (past_word text)))
-    (λ numbers. rw (not_word (codes "push") text un.no_push, not_word (codes "extend") text un.no_extend, not_word (codes "dequeue") text un.no_dequeue, not_word (codes "skip") text un.no_skip, not_word (codes "clear") text un.no_clear) refl))
+    let none = none_from (command_named (word_at text)) (numbers_of (words_at (past_word text))) in
+    grind (
+      arith,
+      none,
+      word_first text s e,
+      not_word (codes "push") text un.no_push,
+      not_word (codes "extend") text un.no_extend,
+      not_word (codes "dequeue") text un.no_dequeue,
+      not_word (codes "skip") text un.no_skip,
+      not_word (codes "clear") text un.no_clear,
+    )

@@ -1,15 +1,17 @@
 -- What is left of a script once a line is read.
-use Rattle.std.proofs.Common.{◌≡◌, ℕ, ℤ, ◌+◌, ◌-◌, true, List, [], ◌∷◌, ◌++◌, not, length, take, Some, None, Result, Ok, Err, refl, sym, ap, ◌∙◌, arith, append_assoc, length-append}
+use Rattle.std.proofs.Common.{◌≡◌, ℕ, ℤ, ◌+◌, ◌-◌, true, cond, List, [], ◌∷◌, ◌++◌, not, length, take, Some, None, Result, Ok, Err, refl, sym, ap, ◌∙◌, arith, append_assoc}
 use Rattle.std.proofs.Math.Seq.{take-append_seam}
+use Rattle.std.proofs.lemmas.Bool.Decides.{nat_tests}
+use Rattle.std.proofs.lemmas.Grind.{common_steps}
 use Rattle.std.proofs.lemmas.List.Sums.{sum_by-append}
 use Rattle.std.specs.List.{count_by, list_all}
 use Rattle.ringbuffer.specs.declared.Command.{Command}
 use Rattle.ringrun_service.proofs.Commands.{after_blanks_twice, called, is_name, line_ended, name_of, named, no_blank_left, said, says, unsaid, unsaid_unnamed, Read}
-use Rattle.decimal.proofs.Cases.{by_cases, some_is}
-use Rattle.ringrun_service.proofs.Lines.{at_once, line_of_word, lines_first, next_lines, no_feed, one_further, then_follows, words_behind_blanks, InLine}
+use Rattle.decimal.proofs.Cases.{by_cases}
+use Rattle.ringrun_service.proofs.Lines.{at_once, line_of_word, lines_first, next_lines, one_further, then_follows, words_behind_blanks, InLine}
 use Rattle.ringrun_service.proofs.Numbers.{behind_number, number_in_word, read_here, signed_rest}
 use Rattle.ringrun_service.specs.Parsing.{after_blanks, after_end, number_at, CommandAt, HasNoCommand}
-use Rattle.ringrun_service.specs.Script.{commands_of, is_blank, is_line_feed, lines_of, plain, script_from, with_front, with_line, words_of}
+use Rattle.ringrun_service.specs.Script.{commands_of, is_blank, is_line_feed, lines_of, plain, script_from, with_front, words_of}
 
 -- ---- what stands further on in a line
 
@@ -17,7 +19,7 @@ pub blanks_end : (text : List ℕ) → InLine text (after_blanks text)
 unfolding after_blanks
 blanks_end [] = at_once _ []
 blanks_end (b ∷ bs) = by_cases (is_blank b)
-    (λ h. rw h (one_further _ b bs (after_blanks bs) (ap not (no_feed b h)) (blanks_end bs)))
+    (λ h. rw h (one_further _ b bs (after_blanks bs) (grind (arith, nat_tests)) (blanks_end bs)))
     (λ h. rw h (at_once _ (b ∷ bs)))
 
 number_ends : (text : List ℕ) (n : ℤ) (rest : List ℕ) → number_at text ≡ Some (n, rest) → InLine text rest
@@ -36,10 +38,8 @@ command_ends text command rest at =
 
 -- no byte of the front is a line feed
 lines_end : (front rest : List ℕ) → list_all (λ b. not (is_line_feed b)) front ≡ true → (next_lines (front ++ rest) ≡ next_lines rest) × (count_by is_line_feed front ≡ 0)
-lines_end [] rest = λ all. (refl, refl)
-lines_end (b ∷ front) rest = by_cases (is_line_feed b)
-    (λ h. rw h (λ e. absurd (cc)))
-    (λ h. rw h (λ e. lines_end front rest e))
+lines_end [] rest all = (refl, refl)
+lines_end (b ∷ front) rest all = grind (arith, lines_end front rest)
 
 -- ---- a line, and those after it
 
@@ -55,7 +55,7 @@ unfolding lines_of words_of
 no_line number = refl
 
 pub bad_line : (text rest : List ℕ) → says rest ≡ None → left text rest ≡ Err (number_in text rest)
-bad_line text rest none = rw (lines_first rest) (ap (λ o. with_line (number_in text rest) o (script_from (number_in text rest + 1) (next_lines rest))) none)
+bad_line text rest none = grind (arith, lines_first rest)
 
 -- the rest that begins after the line
 pub record LineRead (text rest after : List ℕ) (commands : List (Command ℤ)) : Type 0 where
@@ -64,42 +64,39 @@ pub record LineRead (text rest after : List ℕ) (commands : List (Command ℤ))
   pub script : left text rest ≡ with_front commands (left text after)
 
 number_is : (text front rest : List ℕ) → text ≡ front ++ rest → number_in text rest ≡ count_by is_line_feed front + 1
-number_is text front rest is =
-    let long : length text - length rest ≡ length front = omega (arith, ap length is, length-append front rest) in
-    ap (λ xs. count_by is_line_feed xs + 1) (ap (λ n. take n text) long ∙ ap (take (length front)) is ∙ take-append_seam front rest)
+number_is text front rest is = grind (arith, common_steps, take-append_seam front rest)
 
 first_read : (number : ℕ) (rest : List ℕ) (commands : List (Command ℤ)) (behind : List (List ℕ)) → says rest ≡ Some commands → next_lines rest ≡ behind → script_from number (lines_of rest) ≡ with_front commands (script_from (number + 1) behind)
-first_read number rest commands behind good e =
-    rw (lines_first rest) (ap (λ o. with_line number o (script_from (number + 1) (next_lines rest))) good ∙ ap (λ ls. with_front commands (script_from (number + 1) ls)) e)
+first_read number rest commands behind good e = rw (lines_first rest, good, e) refl
 
 feed_first : (b : ℕ) (bs after : List ℕ) → after_end (b ∷ bs) ≡ Some after → (is_line_feed b ≡ true) × (after ≡ bs) × (next_lines (b ∷ bs) ≡ lines_of bs)
 unfolding lines_of
-feed_first b bs after = by_cases (is_line_feed b)
-    (λ h. rw h (λ e. (refl, sym (some_is bs after e), refl)))
-    (λ h. rw h (λ e. absurd (cc)))
+feed_first b bs after e = grind arith
 
 line_read : (text front rest end after : List ℕ) (commands : List (Command ℤ)) → text ≡ front ++ rest → InLine rest end → after_end end ≡ Some after → says rest ≡ Some commands → LineRead text rest after commands
 line_read text front rest [] after commands is ends e good =
-    let none : after ≡ [] = sym (some_is [] after e) in
-    let last : next_lines rest ≡ [] = ap next_lines ends.is ∙ (lines_end ends.front [] ends.all).0 in
+    let last = lines_end ends.front [] ends.all in
     record {
       front = front ++ ends.front;
-      is = is ∙ ap (λ t. front ++ t) (ends.is ∙ ap (λ t. ends.front ++ t) (sym none)) ∙ sym (append_assoc front ends.front after);
-      script = first_read (number_in text rest) rest commands [] good last ∙ ap (with_front commands) (sym (ap (left text) none ∙ no_line (number_in text [])));
+      is = grind (arith, common_steps, ends.is);
+      script = grind (arith, common_steps, ends.is, last.0, first_read (number_in text rest) rest commands [] good, no_line (number_in text []));
     }
 line_read text front rest (b ∷ bs) after commands is ends e good =
     let feed = feed_first b bs after e in let end = lines_end ends.front (b ∷ bs) ends.all in
-    let behind : next_lines rest ≡ lines_of after = ap next_lines ends.is ∙ end.0 ∙ feed.2 ∙ ap lines_of (sym feed.1) in
     let passed = front ++ (ends.front ++ b ∷ []) in
-    let parts : text ≡ passed ++ after = is ∙ ap (λ t. front ++ t) (ends.is ∙ ap (λ t. ends.front ++ b ∷ t) (sym feed.1)) ∙ sym (simp append_assoc) in
-    let found : count_by is_line_feed passed ≡ count_by is_line_feed front + 1 =
-    sum_by-append _ front (ends.front ++ b ∷ []) ∙ ap (λ n. count_by is_line_feed front + n) (sum_by-append _ ends.front (b ∷ []) ∙ rw (end.1, feed.0) refl) in
-    let more : number_in text after ≡ number_in text rest + 1 = number_is text passed after parts ∙ omega (arith, found, number_is text front rest is) in
-    record {
-      front = passed;
-      is = parts;
-      script = first_read (number_in text rest) rest commands (lines_of after) good behind ∙ ap (λ n. with_front commands (script_from n (lines_of after))) (sym more);
-    }
+    let parts : text ≡ passed ++ after = grind (arith, common_steps, ends.is, feed.1) in
+    let feeds : ℕ → ℕ = λ b. cond (is_line_feed b) 1 0 in
+    let more : number_in text after ≡ number_in text rest + 1 = grind (
+      arith,
+      number_is text passed after parts,
+      number_is text front rest is,
+      sum_by-append feeds front (ends.front ++ b ∷ []),
+      sum_by-append feeds ends.front (b ∷ []),
+      end.1,
+      feed.0,
+    ) in
+    let script = first_read (number_in text rest) rest commands (lines_of after) good in
+    record { front = passed; is = parts; script = grind (arith, script, ends.is, end.0, feed.1, feed.2, more) }
 
 -- ---- a line, as the functions read it
 
@@ -128,10 +125,6 @@ other_bad text rest none e =
 
 -- ---- scripts
 
-pub with_front-append : (xs ys : List (Command ℤ)) (script : Result (List (Command ℤ)) ℕ) → with_front xs (with_front ys script) ≡ with_front (xs ++ ys) script
-with_front-append xs ys (Ok commands) = ap Ok (sym (append_assoc xs ys commands))
-with_front-append xs ys (Err number) = refl
-
 -- nothing is left
 pub left_empty : (text rest : List ℕ) → length rest ≡ 0 → left text rest ≡ Ok []
 left_empty text [] e = no_line (number_in text [])
@@ -139,8 +132,8 @@ left_empty text (b ∷ bs) e = absurd (omega (arith, e))
 
 -- a text from its front
 pub left_whole : (text : List ℕ) → left text text ≡ script_from 1 (lines_of text)
-left_whole text = ap (λ n. script_from n (lines_of text)) (number_is text [] text refl)
+left_whole text = rw (number_is text [] text refl) refl
 
 pub step_passed : (before : Result (List (Command ℤ)) ℕ) (xs : List (Command ℤ)) (between : Result (List (Command ℤ)) ℕ) (ys : List (Command ℤ)) (after : Result (List (Command ℤ)) ℕ)
     → before ≡ with_front xs between → between ≡ with_front ys after → before ≡ with_front (xs ++ ys) after
-step_passed before xs between ys after e f = e ∙ ap (with_front xs) f ∙ with_front-append xs ys after
+step_passed before xs between ys after e f = grind (arith, append_assoc)

@@ -1,12 +1,11 @@
 -- Runs of the script's commands, one by one, and what they print.
-use Rattle.std.proofs.Common.{◌≡◌, ℕ, ℤ, ◌-◌, ◌^◌, ◌≤◌, List, [], ◌∷◌, ◌++◌, length, flat_map, Option, refl, sym, ap, ◌∙◌, arith, append-nil}
-use Rattle.std.proofs.lemmas.Grind.{flat_map-append}
+use Rattle.std.proofs.Common.{◌≡◌, ℕ, ℤ, ◌-◌, ◌^◌, ◌≤◌, List, [], ◌∷◌, ◌++◌, length, flat_map, Option, refl, sym, ◌∙◌, arith, append-nil}
+use Rattle.std.proofs.lemmas.Grind.{common_steps}
 use Rattle.std.proofs.lemmas.List.{take_all}
-use Rattle.ringbuffer.specs.Contents.{keep_last, IsWithin}
+use Rattle.ringbuffer.specs.Contents.{IsWithin}
 use Rattle.ringbuffer.specs.History.{MeaningsAgree}
 use Rattle.ringbuffer.specs.Meaning.{after_all, after_one, replies_to, reply_to, RunsJoin}
 use Rattle.ringbuffer.specs.declared.Command.{Command}
-use Rattle.ringbuffer.specs.declared.Command.TheVariants.{Push, Extend, Dequeue, Skip, Clear}
 use Rattle.ringbuffer.specs.declared.Reply.{Reply}
 use Rattle.ringrun_service.specs.Program.{printed_on}
 use Rattle.ringrun_service.specs.Replies.{items_line, reply_line}
@@ -17,17 +16,12 @@ unfolding vector_of
 in_full numbers few = take_all (2 ^ 63 - 1) numbers few
 
 plain_same : (limit : Option ℕ) (l : List ℤ) (c : Command ℤ) → (after_one limit l (plain c) ≡ after_one limit l c) × (reply_to limit l (plain c) ≡ reply_to limit l c)
-plain_same limit l (Push x) = (refl, refl)
-plain_same limit l (Extend items) = (ap (λ xs. keep_last limit (l ++ xs)) (in_full items.items (omega (arith, items.ok.0, items.ok.1, items.small))), refl)
-plain_same limit l Dequeue = (refl, refl)
-plain_same limit l Skip = (refl, refl)
-plain_same limit l Clear = (refl, refl)
+plain_same limit l c = grind (arith, in_full)
 
 -- one command alone
 pub one_reply : (limit : Option ℕ) (l : List ℤ) (command : Command ℤ) (reply : Reply ℤ) (old new : List ℕ) → reply ≡ reply_to limit l command → new ≡ old ++ reply_line reply
     → new ≡ old ++ flat_map reply_line (replies_to limit l (plain command ∷ []))
-one_reply limit l command reply old new said more =
-    more ∙ ap (λ t. old ++ t) (ap reply_line (said ∙ sym (plain_same limit l command).1) ∙ sym (append-nil (reply_line (reply_to limit l (plain command)))))
+one_reply limit l command reply old new said more = grind (arith, append-nil, plain_same limit l command)
 
 pub one_contents : (limit : Option ℕ) (l after : List ℤ) (command : Command ℤ) → after ≡ after_one limit l command → after ≡ after_all limit l (plain command ∷ [])
 one_contents limit l after command there = there ∙ sym (plain_same limit l command).0
@@ -36,9 +30,7 @@ one_contents limit l after command there = there ∙ sym (plain_same limit l com
 pub line_run : RunsJoin ℤ → (limit kept_limit : Option ℕ) (start now after : List ℤ) (done line : List (Command ℤ)) (old new : List ℕ) → kept_limit ≡ limit
     → now ≡ after_all limit start done → old ≡ flat_map reply_line (replies_to limit start done) → new ≡ old ++ flat_map reply_line (replies_to kept_limit now line) → after ≡ after_all kept_limit now line
     → (new ≡ flat_map reply_line (replies_to limit start (done ++ line))) × (after ≡ after_all limit start (done ++ line))
-line_run join limit kept_limit start now after done line old new same here text more there =
-    let both = join limit start done line in
-    (more ∙ rw (text, same, here, both.1, flat_map-append) refl, there ∙ rw (same, here, both.0) refl)
+line_run join limit kept_limit start now after done line old new same here text more there = grind (arith, common_steps, join limit start done line)
 
 -- the items after the replies
 pub printed : MeaningsAgree ℤ → (limit : Option ℕ) (start now : List ℤ) (done : List (Command ℤ)) (old new : List ℕ) → IsWithin start limit

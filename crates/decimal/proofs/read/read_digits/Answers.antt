@@ -1,8 +1,9 @@
 -- The bytes so far are the digits at the front where the next is none.
-use Rattle.std.proofs.Common.{◌≡◌, ◌^◌, ◌%◌, ◌*◌, ◌+◌, refl, get_or, length, take, arith, ap, sym, ◌∙◌}
-use Rattle.decimal.proofs.Digits.{all_from, all_more, below_length, digits_done, less, told, wraps}
+use Rattle.std.proofs.Common.{◌≡◌, ◌^◌, ◌%◌, refl, get_or, length, take, arith, ap, sym, ◌∙◌}
+use Rattle.decimal.proofs.Digits.{all_from, below_length, digit, digits_done, told}
 use Rattle.std.proofs.lemmas.Int.Digits.{digits_value_more}
 use Rattle.std.proofs.lemmas.List.{length-take, length-take-le}
+use Rattle.std.proofs.lemmas.List.Folds.{list_all_more}
 use Rattle.std.specs.Str.Parse.{digits_value}
 use Rattle.decimal.specs.Numerals.{digits_at}
 use Rattle.decimal.proofs.read.read_digits.Goals as goal
@@ -22,7 +23,7 @@ loop-at-init c = elim c.match-first_eight.branch [
 stops : (c : goal.Then-digit-gt9) → digits_at c.args.text.now ≡ take c.loop-at.at c.args.text.now
 stops c =
     let b = get_or c.args.text.now c.loop-at.at 0 in
-    let byte = told b _ (c.type_inv.text c.loop-at.at).fits (less c.from.result c.from-in-loop-at.result b c.from.ensures c.from-in-loop-at.ensures) in
+    let byte = told b _ _ _ (c.type_inv.text c.loop-at.at).fits c.from.ensures c.from-in-loop-at.ensures refl in
     digits_done c.args.text.now c.loop-at.at c.loop-at.invariant.digits (λ _. byte.0 c.if-digit-gt9.true)
 
 pub returns-then-digit-gt9-clause-size : goal.returns-then-digit-gt9-clause-size
@@ -35,14 +36,11 @@ returns-then-digit-gt9-clause-count c =
 pub loop-at-preserved : goal.loop-at-preserved
 loop-at-preserved c =
     let text = c.args.text.now in let at = c.loop-at.at in let b = get_or text at 0 in
-    let e = less c.from.result c.from-in-loop-at.result b c.from.ensures c.from-in-loop-at.ensures in
-    let byte = (told b _ (c.type_inv.text at).fits e).1 (omega (arith, c.if-digit-gt9.false)) in
+    let byte = (told b _ _ _ (c.type_inv.text at).fits c.from.ensures c.from-in-loop-at.ensures refl).1 (omega (arith, c.if-digit-gt9.false)) in
     record {
       within = omega (arith, c.loop-at-test.true);
-      digits = all_more text at c.loop-at-test.true c.loop-at.invariant.digits byte.0;
-      size = wraps (digits_value 10 (take at text)) c.loop-at.size _ c.loop-at.invariant.size
-          ∙ ap (λ d. (digits_value 10 (take at text) * 10 + d) % 2 ^ 64) byte.1
-          ∙ ap (λ n. n % 2 ^ 64) (sym (digits_value_more 10 text at c.loop-at-test.true));
+      digits = rw (list_all_more digit text at 0 c.loop-at-test.true, c.loop-at.invariant.digits, byte.0) refl;
+      size = omega (arith, c.loop-at.invariant.size, byte.1, digits_value_more 10 text at c.loop-at-test.true);
     }
 
 all : (c : goal.After-loop-at) → (c.loop-at.at ≡ length c.args.text.now) × (digits_at c.args.text.now ≡ take c.loop-at.at c.args.text.now)
