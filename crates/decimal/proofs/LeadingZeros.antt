@@ -1,10 +1,11 @@
 -- Digits without the zeros in front are the text of their number.
+use Rattle.decimal.proofs.BitParts.{low_or_high}
 use Rattle.std.proofs.Common.{◌≡◌, ℕ, zero, suc, ◌+◌, ◌-◌, ◌*◌, ◌/◌, ◌%◌, ◌^◌, ◌<◌, ◌≤◌, List, [], ◌∷◌, ◌++◌, length, get_or, take, drop, map, max, refl, sym, ap, ◌∙◌, subst, arith}
 use Rattle.std.proofs.lemmas.Bool.Decides.{nat_tests}
 use Rattle.std.proofs.lemmas.Grind.{common_steps}
 use Rattle.std.proofs.lemmas.Fmt.{decimal-digits_value, decimal_nonempty, digits_decimal, digits_value-decimal, first_decimal}
-use Rattle.std.proofs.lemmas.List.{append_assoc, drop-map, length-drop, take-append-le, take_at}
-use Rattle.std.proofs.lemmas.List.Elements.{All-drop, All-from_recursion, recursion_from_All}
+use Rattle.std.proofs.lemmas.List.{append_assoc, drop-map, length-drop, take-append-le, take_at, get_or-drop, get_or-map, length-append, length-map, length-replicate}
+use Rattle.std.proofs.lemmas.List.Elements.{All-drop, All-from_recursion, recursion_from_All, All-append, All-replicate}
 use Rattle.std.proofs.Math.ListN.{replicate}
 use Rattle.std.proofs.Math.Seq.{take-append-add}
 use borrow.Rule.Slice.PartMut.{post_of, put_mid}
@@ -42,8 +43,8 @@ text_is ds n all some first value small = grind (arith, decimal-digits_value (nu
 
 bit_of : (ds : List ℕ) (t i j : ℕ) → t ≡ 8 * i + j → j < 8 → Below 256 ds → bit_at (pack ds) t ≡ bit_at (get_or ds i 0) j
 bit_of [] t i j e l h = bit_at-zero t ∙ sym (bit_at-zero j)
-bit_of (d ∷ ds) t zero j e l (h, hs) = grind (arith, bit_at_cat_low (pack ds) 8 d t)
-bit_of (d ∷ ds) t (suc i) j e l (h, hs) = grind (arith, bit_at_cat_high (pack ds) 8 d t h, bit_of ds (t - 8) i j)
+bit_of (d ∷ ds) t zero j e l (h, hs) = let same : t ≡ j = omega (arith, e) in bit_at_cat_low (pack ds) 8 d t (omega (arith, e, l)) ∙ ap (bit_at d) same
+bit_of (d ∷ ds) t (suc i) j e l (h, hs) = bit_at_cat_high (pack ds) 8 d t h (omega (arith, e)) ∙ bit_of ds (t - 8) i j (omega (arith, e)) l hs
 
 -- that of the first digit other than a zero, where the last counts as one in any case
 pub record Place (ds : List ℕ) (k : ℕ) : Type 0 where
@@ -52,7 +53,9 @@ pub record Place (ds : List ℕ) (k : ℕ) : Type 0 where
   here : get_or ds k 0 ≡ 0 → k ≡ 7
 
 bytes_small : (ds : List ℕ) → Below 256 ds → (i : ℕ) → get_or ds i 0 < 256
-bytes_small ds h i = grind (arith, common_steps)
+bytes_small [] h i = omega arith
+bytes_small (d ∷ ds) (h, hs) zero = h
+bytes_small (d ∷ ds) (h, hs) (suc i) = bytes_small ds hs i
 
 place_of : (ds : List ℕ) → Below 256 ds → pack ds < 2 ^ 64 → Place ds (trailing_zeros w64 (bit_or (pack ds) (2 ^ 56)) / 8)
 place_of ds h small =
@@ -60,12 +63,17 @@ place_of ds h small =
     let bit : (i : ℕ) → bit_at m i ≡ max (bit_at (pack ds) i) (bit_at (2 ^ 56) i) = bit_at_or (pack ds) (2 ^ 56) in
     let some : 0 < m = omega (arith, le_or_r (pack ds) (2 ^ 56)) in
     let is = bit_at-trailing_zeros w64 m some (or_lt 64 (pack ds) (2 ^ 56) small (omega arith)) in
-    let low : t ≤ 56 = grind (arith, is.2 56, bit 56, bit_at-pow_same 56) in
+    let low : t ≤ 56 = low_or_high 57 t (λ l. omega (arith, l)) (λ l. let none = is.2 56 (omega (arith, l)) in absurd (omega (arith, none, bit 56, bit_at-pow_same 56))) in
     record {
       within = omega (arith, low);
       zeros = λ i l. same_from_bits_below 8 _ 0 (bytes_small ds h i) (omega arith) (λ j k.
-          grind (arith, is.2 (8 * i + j), bit (8 * i + j), bit_of ds (8 * i + j) i j refl k h, bit_at-zero j));
-      here = λ e. grind (arith, bit_at-pow_other 56 t, bit t, bit_of ds t (t / 8) (t % 8), bit_at-zero (t % 8), is.1);
+          let none = is.2 (8 * i + j) (omega (arith, l, k)) in let b = bit (8 * i + j) in
+          sym (bit_of ds (8 * i + j) i j refl k h) ∙ omega (arith, none, b) ∙ sym (bit_at-zero j));
+      here = λ e. low_or_high 56 t
+          (λ l. let other = bit_at-pow_other 56 t (omega (arith, l)) in let b = bit t in
+          let none = bit_of ds t (t / 8) (t % 8) (omega arith) (omega arith) h ∙ ap (λ d. bit_at d (t % 8)) e ∙ bit_at-zero (t % 8) in
+          absurd (omega (arith, is.1, b, other, none)))
+          (λ l. omega (arith, l, low));
     }
 
 -- zeros in front write nothing
@@ -77,8 +85,11 @@ front (suc k) (d ∷ ds) zeros = let none = zeros 0 (omega arith) in grind (arit
 text_from : (ds : List ℕ) (k n : ℕ) → Below 10 ds → length ds ≡ 8 → Place ds k → number_from_digits 10 ds ≡ n → n < 2 ^ 64 → drop k (ascii ds) ≡ decimal n
 text_from ds k n h long place value small =
     let kept = drop k ds in let below = recursion_from_All (λ d. d < 10) kept (All-drop (λ d. d < 10) k ds (All-from_recursion (λ d. d < 10) ds h)) in
+    let lengths : length (ascii kept) ≡ 8 - k = length-map kept (λ d. 48 + d) ∙ length-drop k ds ∙ ap (λ n. n - k) long in
+    let first : get_or (ascii kept) 0 0 ≡ 48 + get_or ds k 0 = get_or-map (λ d. 48 + d) kept 0 0 0 (omega (arith, length-drop k ds, long, place.within))
+    ∙ ap (λ d. 48 + d) (get_or-drop k ds 0 0 ∙ ap (λ i. get_or ds i 0) (omega arith)) in
     drop-map (λ d. 48 + d) k ds
-    ∙ text_is (ascii kept) n (are_digits kept below) (grind (arith, common_steps, place.within)) (grind (arith, common_steps, place.within, place.here))
+    ∙ text_is (ascii kept) n (are_digits kept below) (omega (arith, lengths, place.within)) (λ e. let last = place.here (omega (arith, first, e)) in omega (arith, lengths, last))
     (write_number 0 kept below ∙ front k ds place.zeros ∙ value) small
 
 -- ---- eight digits
@@ -87,7 +98,9 @@ text_from ds k n h long place value small =
 pack_drop : (k : ℕ) (bs : List ℕ) → Below 256 bs → pack bs / 2 ^ (8 * k) ≡ pack (drop k bs)
 pack_drop zero bs h = omega arith
 pack_drop (suc k) [] h = omega (arith, shr_le 0 (8 * suc k))
-pack_drop (suc k) (b ∷ bs) (h, hs) = grind (arith, shr-shr (pack (b ∷ bs)) 8 (8 * k), shr_high (pack bs) 8 b h, pack_drop k bs hs)
+pack_drop (suc k) (b ∷ bs) (h, hs) =
+    let place : 8 * suc k ≡ 8 + 8 * k = omega arith in
+    rw place (sym (shr-shr (pack (b ∷ bs)) 8 (8 * k)) ∙ ap (λ n. n / 2 ^ (8 * k)) (shr_high (pack bs) 8 b h) ∙ pack_drop k bs hs)
 
 pack_zeros : (bs : List ℕ) (k : ℕ) → pack (bs ++ replicate k 0) ≡ pack bs
 pack_zeros [] zero = refl
@@ -100,10 +113,10 @@ pack_is = by_eight (λ bs. pack bs ≡ from_le_bytes w64 bs) (λ b0 b1 b2 b3 b4 
 shifted_out : (k : ℕ) (bs more : List ℕ) → k ≤ 8 → length bs ≡ 8 → Below 256 bs → take (8 - k) (to_le_bytes w64 (from_le_bytes w64 bs / 2 ^ (8 * k)) ++ more) ≡ drop k bs
 shifted_out k bs more within long h =
     let kept = drop k bs ++ replicate k 0 in
-    let small : (i : ℕ) → get_or kept i 0 < 256 = λ i. grind (arith, common_steps, bytes_small bs h (k + i)) in
-    let wide : length kept ≡ 8 = grind (arith, common_steps) in
+    let small = All-append (λ b. b < 256) (drop k bs) (replicate k 0) (All-drop (λ b. b < 256) k bs (All-from_recursion (λ b. b < 256) bs h)) (All-replicate (λ b. b < 256) k 0 (omega arith)) in
+    let wide : length kept ≡ 8 = omega (arith, length-append (drop k bs) (replicate k 0), length-drop k bs, length-replicate {A = ℕ}, long) in
     let value = ap (λ n. n / 2 ^ (8 * k)) (sym (pack_is bs long)) ∙ pack_drop k bs h ∙ sym (pack_zeros (drop k bs) k) ∙ pack_is kept wide in
-    ap (λ l. take (8 - k) (l ++ more)) (le_bytes_8 kept _ wide small value)
+    ap (λ l. take (8 - k) (l ++ more)) (le_bytes_8 kept _ wide (bytes_small kept (recursion_from_All (λ b. b < 256) kept small)) value)
     ∙ ap (take (8 - k)) (append_assoc (drop k bs) (replicate k 0) more) ∙ take_at (drop k bs) (replicate k 0 ++ more) (8 - k) (length-drop k bs ∙ ap (λ n. n - k) long)
 
 -- a number's eight digits as characters
