@@ -1,5 +1,4 @@
 -- Digits without the zeros in front are the text of their number.
-use Rattle.decimal.proofs.BitParts.{low_or_high}
 use Rattle.std.proofs.Common.{◌≡◌, ℕ, zero, suc, ◌+◌, ◌-◌, ◌*◌, ◌/◌, ◌%◌, ◌^◌, ◌<◌, ◌≤◌, List, [], ◌∷◌, ◌++◌, length, get_or, take, drop, map, max, refl, sym, ap, ◌∙◌, subst, arith}
 use Rattle.std.proofs.lemmas.Bool.Decides.{nat_tests}
 use Rattle.std.proofs.lemmas.Grind.{common_steps}
@@ -18,6 +17,7 @@ use Rattle.std.specs.Int.Digits.{number_from_digits, number_from_digits_after}
 use Rattle.std.specs.Int.RustNames.{bit_or}
 use Rattle.std.specs.Str.Parse.{AllDigits, digits_value, digits_value_after}
 use Rattle.decimal.proofs.Bytes.{Below, by_eight, mapped, pack}
+use Rattle.decimal.proofs.BitParts.{low_or_high}
 use Rattle.decimal.proofs.Digits.{value_after-append}
 use Rattle.decimal.proofs.EightDigitsWritten.{below_ten, number_is}
 use Rattle.decimal.specs.LastEight.{last_eight}
