@@ -1,26 +1,18 @@
 -- Items put at once into slots side by side, after the last or in place of others.
-use Rattle.ringbuffer.proofs.Words.{[], ◌∷◌, ◌≡◌, ℕ, ◌+◌, ◌-◌, ◌%◌, ◌<◌, ◌≤◌, List, ◌++◌, drop, append_assoc, map, length-map, map-append, length, length-take, get_or, set, take, None, Option, Some, ap, refl, sym, ◌∙◌, arith, length-append, common_steps, slice_get, slice_get_cases, slice_get_past, ◌⊎◌, Slots, changed, after_puts, view_from, SlotsHold, items_from, IsLaidOut, LaysOut, drop_more, slice_get_within, filled, with_items, filled-before, filled-behind, filled-in, length-filled, set-append_seam}
+use Rattle.ringbuffer.proofs.Words.{slice_get-take, ext_get_or, get_or-set_same, get_or-set_other, ◌≡◌, ℕ, ◌+◌, ◌-◌, ◌%◌, ◌<◌, ◌≤◌, List, ◌++◌, length, length-take, get_or, set, take, None, Some, ap, refl, ◌∙◌, arith, length-append, common_steps, slice_get, slice_get_cases, slice_get_past, ◌⊎◌, Slots, changed, after_puts, view_from, SlotsHold, items_from, IsLaidOut, LaysOut, slice_get_within, filled, with_items, filled-before, filled-behind, filled-in, length-filled}
 use Rattle.ringbuffer.proofs.SlotsHold.{contiguous_on, wrap}
 use Rattle.ringbuffer.proofs.LaysOut.{LaysOut-items}
-use Rattle.ringbuffer.proofs.Paired.{take_item}
-
--- one item more, after those put into a stretch
-filled-more : {X : Type 0} (slots : List (Option X)) (from : ℕ) (ys : List X) (x : X) → from + length ys < length slots
-    → set (filled slots from ys) (from + length ys) (Some x) ≡ filled slots from (ys ++ x ∷ [])
-filled-more slots from ys x room =
-    let front = take from slots ++ map Some ys in let at = from + length ys in
-    let long : length front ≡ at = omega (arith, length-append (take from slots) (map Some ys), length-take from slots, length-map ys Some) in
-    let next : from + length (ys ++ x ∷ []) ≡ at + 1 = omega (arith, length-append ys (x ∷ [])) in
-    let put = rw (long, ← drop_more slots at None room) at (set-append_seam front (get_or slots at None) (drop (at + 1) slots) (Some x)) in
-    rw (next, map-append) (simp append_assoc (simp append_assoc at put))
 
 pub with_items-next : {X : Type 0} (s : Slots X) (from : ℕ) (xs : List X) → from + length xs ≤ length s.slots → (k : ℕ) (x : X) → slice_get xs k ≡ Some x
     → changed (with_items s from (take k xs)) (from + k) (Some x) ≡ with_items s from (take (k + 1) xs)
 with_items-next s from xs within k x is =
-    let low = slice_get_within xs k x is in let few : k ≡ length (take k xs) = omega (arith, length-take k xs) in
-    let next = ap (λ n. set (filled s.slots from (take k xs)) (from + n) (Some x)) few
-    ∙ filled-more s.slots from (take k xs) x (omega (arith, few)) ∙ ap (filled s.slots from) (sym (take_item xs k x is)) in
-    let counted : s.changes + length (take k xs) + 1 ≡ s.changes + length (take (k + 1) xs) = omega (arith, length-take k xs, length-take (k + 1) xs) in
+    let low = slice_get_within xs k x is in let a = s.slots in let ys = take k xs in let zs = take (k + 1) xs in
+    let few : from + length ys ≤ length a = grind (arith, length-take) in let more : from + length zs ≤ length a = grind (arith, length-take) in
+    let next : set (filled a from ys) (from + k) (Some x) ≡ filled a from zs = ext_get_or None _ _ (grind (arith, common_steps)) (λ q below.
+    let low_was = filled-before a from ys few q in let was = filled-in a from ys few q in let late_was = filled-behind a from ys few q in
+    let low_is = filled-before a from zs more q in let put = filled-in a from zs more q in let late_is = filled-behind a from zs more q in
+    grind (arith, length-take, get_or-set_same, get_or-set_other, length-filled a from ys few, low_was, was, late_was, low_is, put, late_is, slice_get-take)) in
+    let counted : s.changes + length (take k xs) + 1 ≡ s.changes + length (take (k + 1) xs) = grind (arith, common_steps) in
     λ i. record { slots = next i; changes = counted i; capacity = s.capacity }
 
 module _ {X : Type 0} (s : Slots X) (start : ℕ) (laid_out : IsLaidOut s start) (place len : ℕ) where

@@ -1,5 +1,5 @@
 -- Items with a gap between them, where some were dropped from an index up to another, which is closed item by item.
-use Rattle.ringbuffer.proofs.Words.{after_cut, common_steps, items_from, subst, view_from, ◌≡◌, ◌≢◌, ℕ, ◌+◌, ◌-◌, ◌%◌, ◌<◌, ◌≤◌, ◌⊎◌, List, length, Option, None, Some, refl, sym, ap, ◌∙◌, arith, get_or, get_or-set_other, get_or-set_same, if◌then◌else◌, length-set, mod-lt, nat_lt, set, slice_get, slice_get_cases, slice_get_past, add-mod_right, dec_lt, mod-eq_of_lt, slot_after, nat_eq, IsSome, Slots, changed, slot_at, Moves, View, IsLaidOut, LaysApart, LaysOut, append-nil, drop-length, inl, inr, take, drop, min, IsFullAt, after_takes, after_truncate, AreFull, Empties, ◌++◌, nat_tests}
+use Rattle.ringbuffer.proofs.Words.{after_cut, common_steps, items_from, subst, view_from, ◌≡◌, ◌≢◌, ℕ, ◌+◌, ◌-◌, ◌%◌, ◌<◌, ◌≤◌, ◌⊎◌, List, length, Option, None, Some, refl, sym, ap, ◌∙◌, arith, get_or-set_other, get_or-set_same, if◌then◌else◌, length-set, mod-lt, nat_lt, set, slice_get, slice_get_cases, slice_get_past, add-mod_right, mod-eq_of_lt, slot_after, nat_eq, IsSome, Slots, changed, slot_at, Moves, View, IsLaidOut, LaysApart, LaysOut, append-nil, drop-length, take, drop, min, IsFullAt, after_takes, after_truncate, AreFull, Empties, ◌++◌, nat_tests}
 use Rattle.ringbuffer.proofs.LaysOut.{LaysOut-items, slice_get_some}
 use Rattle.ringbuffer.proofs.RepeatedSteps.{view_is}
 use Rattle.ringbuffer.proofs.SlotsHold.{count_on, same_count, wrap}
@@ -81,12 +81,8 @@ module _ {X : Type 0} where
       all_behind none =
           let starts = laid_out.start_within in let same = apart.same_size in let size = length s.slots in let next = (start + gap) % size in
           subst (LaysOut s a next) (view_is refl apart.counted (sym same_capacity)) (LaysOut-items s start laid_out a next v.items same apart.same_capacity (mod-lt (start + gap) (omega arith)) (omega arith) (λ k low.
-          let here = count_on start gap k (gap + k) size refl in
-          rw (same, here) (elim (dec_lt (gap + k) size) [
-            | yes more ↦ grind (arith, nat_tests, none, same, reads (gap + k))
-            | no round ↦ let far = count_on start size (gap + k - size) (gap + k) size (omega arith) in let once = ap (λ n. (n + (gap + k - size)) % size) (add-mod_right start size) in
-                grind (arith, nat_tests, none, same, far, once, mod-eq_of_lt, reads (gap + k - size), slice_get_past)
-          ])))
+          let far = count_on start size (gap + k - size) (gap + k) size in let once = ap (λ n. (n + (gap + k - size)) % size) (add-mod_right start size) in
+          rw (same, count_on start gap k (gap + k) size refl) (grind (arith, nat_tests, none, same, far, once, mod-eq_of_lt, reads (gap + k), reads (gap + k - size), slice_get_past))))
 
 -- what a cut leaves is read
 read_cut : {X : Type 0} (xs : List X) (from to k : ℕ) → from ≤ to → to ≤ length xs → slice_get (take from xs ++ drop to xs) k ≡ (if nat_lt k from then slice_get xs k else slice_get xs (k + (to - from)))
@@ -102,21 +98,16 @@ module _ {X : Type 0} (s : Slots X) (start : ℕ) (laid_out : IsLaidOut s start)
 
   -- a place is full if it lies j places after the start and item j is there
   full : (place j : ℕ) → j < to → (start + j) % size ≡ place → IsFullAt s place
-  full place j low found =
-      let fit = laid_out.fit in
-      rw (ap (λ p. get_or s.slots p None) (sym found) ∙ laid_out.layout j (omega arith)) (slice_get_some items j (omega arith))
+  full place j low found = let fit = laid_out.fit in let held = laid_out.layout j (omega arith) in rw (sym found, held) (slice_get_some items j (omega arith))
 
   -- the items lie in two stretches
   pub first_emptied : AreFull s (start + min from room) (start + min to room)
-  first_emptied place after low =
-      let starts = laid_out.start_within in
-      full place (place - start) (omega arith) (elim (wrap start (place - start) size starts (omega arith)) [ inl a ↦ omega arith | inr a ↦ omega arith ])
+  first_emptied place after low = full place (place - start) (omega arith) (grind (arith, wrap start (place - start) size laid_out.start_within))
 
   module _ (mid : Slots X) (first : Empties s mid (start + min from room) (start + min to room)) where
     pub second_emptied : AreFull mid (from - room) (to - room)
     second_emptied place after low =
-        let starts = laid_out.start_within in let fit = laid_out.fit in
-        rw (first.before place (omega arith)) (full place (room + place) (omega arith) (elim (wrap start (room + place) size starts (omega arith)) [ inl a ↦ omega arith | inr a ↦ omega arith ]))
+        let fit = laid_out.fit in rw (first.before place (omega arith)) (full place (room + place) (omega arith) (grind (arith, wrap start (room + place) size laid_out.start_within)))
 
     module _ (new : Slots X) (second : Empties mid new (from - room) (to - room)) where
       -- the slot of each item in the range is empty, and every other slot is as it was

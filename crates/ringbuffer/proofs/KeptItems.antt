@@ -5,10 +5,6 @@ use Rattle.ringbuffer.specs.Retaining.{Retains}
 use Rattle.ringbuffer.proofs.Gap.{all_before, goes_over, lays_apart, read_set, reads}
 use Rattle.ringbuffer.proofs.LaysOut.{slice_get_some}
 
--- the rest begins with what comes first after the others
-first_after : {A : Type 0} (xs rest : List A) (x : A) → 0 < length rest → slice_get (xs ++ rest) (length xs) ≡ Some x → rest ≡ x ∷ drop 1 rest
-first_after xs rest x some is = grind (arith, common_steps, slice_get_cases)
-
 -- the items after one that is taken come a place before
 one_less : {A : Type 0} (xs ys : List A) (y : A) (k : ℕ) → slice_get (xs ++ ys) k ≡ (if nat_lt k (length xs) then slice_get (xs ++ y ∷ ys) k else slice_get (xs ++ y ∷ ys) (k + 1))
 one_less xs ys y k = grind (arith, nat_tests, places, slice_get_cases)
@@ -46,10 +42,8 @@ module _ {A P : Type 0} (R : P → A → Bool → P → Type 0) (p : P) (s : Slo
     -- those kept, the gap and the rest are as many as there were
     fits : (length (kept ++ at.asks.rest) + (turns - count) ≡ length (items_from s.slots start)) × (length (kept ++ at.asks.rest) + (turns - count) ≤ length s.slots)
     fits =
-        let fit = laid_out.fit in
-        let all : length (kept ++ at.asks.rest) + (turns - count) ≡ length (items_from s.slots start) =
-        omega (arith, within, at.counted, length-append kept at.asks.rest, ap length at.asks.parts, length-append at.asks.asked at.asks.rest, at.asks.counted) in
-        (all, omega arith)
+        let fit = laid_out.fit in let parts = ap length at.asks.parts in
+        (grind (arith, common_steps, within, at.counted, at.asks.counted), grind (arith, common_steps, within, at.counted, at.asks.counted))
 
     -- all were asked about
     pub closed : length (items_from s.slots start) ≡ turns → (v : View A) × LaysOut s a start v × Retains R p (view_from s start) v × (count ≡ length v.items)
@@ -77,7 +71,7 @@ module _ {A P : Type 0} (R : P → A → Bool → P → Type 0) (p : P) (s : Slo
         rest = drop 1 at.asks.rest
 
         next : at.asks.rest ≡ x ∷ rest
-        next = first_after kept at.asks.rest x (some_left R at.asks more) (ap (slice_get (kept ++ at.asks.rest)) at.counted ∙ sym held ∙ is)
+        next = let some = some_left R at.asks more in let first = sym held ∙ is in grind (arith, common_steps, slice_get_cases, at.counted)
 
         before : LaysApart s a start count (turns - count) (shown a (kept ++ x ∷ rest))
         before = subst (λ l. LaysApart s a start count (turns - count) (shown a (kept ++ l))) next at.apart

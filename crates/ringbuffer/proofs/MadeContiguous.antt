@@ -1,5 +1,5 @@
 -- Items that lie side by side in the slots of a ring.
-use Rattle.ringbuffer.proofs.Words.{◌≡◌, ℕ, ◌*◌, ◌+◌, ◌-◌, ◌<◌, ◌≤◌, List, ◌++◌, length, map, take, drop, Option, None, Some, inl, inr, refl, sym, ◌∙◌, arith, length-append, length-drop, append_assoc, map-append, min, take_all, take-append-drop, rotated, ◌%◌, IsFullStretch, IsLaidOut, replicate, nat_le, if◌then◌else◌, length_refill, refill, common_steps, drop-drop, drop-map, get_or_append_left, get_or-append_right, get_or-replicate, get_or_past, length-map, length-replicate, take-map, slice_get_past, Slots, HoldsStretch, refilled, after_rewrite, SlotsHold, items_from, LaysOut, view_from, IsSound, beside, contiguous_start, get_or-map_some, IsEmptyStretch, brought_first, moved_down, with_refilled}
+use Rattle.ringbuffer.proofs.Words.{◌≡◌, ℕ, ◌*◌, ◌+◌, ◌-◌, ◌<◌, ◌≤◌, List, ◌++◌, length, map, take, drop, Option, None, Some, refl, sym, ◌∙◌, arith, length-append, length-drop, append_assoc, map-append, min, take_all, take-append-drop, rotated, ◌%◌, IsFullStretch, IsLaidOut, replicate, nat_le, if◌then◌else◌, length_refill, refill, common_steps, drop-drop, drop-map, get_or_append_left, get_or-append_right, get_or-replicate, get_or_past, length-map, length-replicate, take-map, slice_get_past, Slots, HoldsStretch, refilled, after_rewrite, SlotsHold, items_from, LaysOut, view_from, IsSound, beside, contiguous_start, get_or-map_some, IsEmptyStretch, brought_first, moved_down, with_refilled}
 use Rattle.ringbuffer.proofs.LaysOut.{IsSound-after, LaysOut-items}
 use Rattle.ringbuffer.proofs.Copies.{empty_behind}
 use Rattle.ringbuffer.proofs.Stretches.{all_in_two, first_held, second_held}
@@ -24,11 +24,9 @@ module _ {X : Type 0} (size start : ℕ) (xs : List X) (fit : start + length xs 
   -- and with others in their place, as many, they are these side by side
   pub beside-refilled : (ys : List X) → refilled (beside size start xs) start (length xs) ys ≡ beside size start (refill (length xs) xs ys)
   beside-refilled ys =
-      let n = length xs in let zs = refill n xs ys in let row = beside size start xs in
-      let first : take start row ≡ replicate start None = grind (arith, common_steps) in
-      let last : drop (start + n) row ≡ replicate (size - (start + n)) None = rw (← drop-drop, from_start) (grind (arith, common_steps)) in
-      let middle : refill n (map Some xs) (map Some ys) ≡ map Some zs = grind (arith, common_steps, drop-map, take-map) in
-      rw (first, beside-stretch, last, middle, sym (length_refill n xs ys refl)) refl
+      let n = length xs in let first : take start (beside size start xs) ≡ replicate start None = grind (arith, common_steps) in
+      let middle : refill n (map Some xs) (map Some ys) ≡ map Some (refill n xs ys) = grind (arith, common_steps, drop-map, take-map) in
+      rw (first, beside-stretch, ← drop-drop, from_start, middle, sym (length_refill n xs ys refl)) (grind (arith, common_steps))
 
 -- items that reach no further than the last slot lie side by side
 pub contiguous_is : {X : Type 0} (slots : List (Option X)) (start : ℕ) (xs : List X) → start < length slots → start + length xs ≤ length slots → SlotsHold slots start xs → slots ≡ beside (length slots) start xs
@@ -43,11 +41,9 @@ module _ {X : Type 0} {s : Slots X} {start len first : ℕ} (laid_out : IsLaidOu
   pub stretches : IsFullStretch s.slots start (length s.slots - start) × IsFullStretch s.slots 0 (len - first) × IsEmptyStretch s.slots (len - first) (start - (len - first))
   stretches =
       let fit = laid_out.fit in let size = length s.slots in let count : size - start ≡ first = omega arith in
-      let found : len - first ≡ (start + len) % size = elim (wrap start len size laid_out.start_within (omega arith)) [ inl a ↦ let none = a.0 in absurd (omega arith) | inr a ↦ sym (a.1 ∙ omega arith) ] in (
-        rw count (all_in_two s start laid_out len first counted least).front,
-        (all_in_two s start laid_out len first counted least).rest,
-        (omega arith, empty_behind s start laid_out (len - first) len (start - (len - first)) counted (λ _. found) (omega arith) (omega arith)),
-      )
+      let found : len - first ≡ (start + len) % size = grind (arith, wrap start len size laid_out.start_within) in
+      let two = all_in_two s start laid_out len first counted least in
+      (rw count two.front, two.rest, (omega arith, empty_behind s start laid_out (len - first) len (start - (len - first)) counted (λ _. found) (omega arith) (omega arith)))
 
   -- what they hold
   held : (take (len - first) s.slots ≡ map Some (drop first (items_from s.slots start))) × (drop start s.slots ≡ map Some (take first (items_from s.slots start)))
@@ -61,9 +57,8 @@ module _ {X : Type 0} {s : Slots X} {start len first : ℕ} (laid_out : IsLaidOu
 
   pub brought_contiguous : len ≤ start → brought_first s.slots start (len - first) ≡ beside (length s.slots) 0 (items_from s.slots start)
   brought_contiguous room =
-      let fit = laid_out.fit in let size = length s.slots in let items = items_from s.slots start in
-      let left : start - (len - first) ≡ size - (0 + length items) = omega arith in
-      rw (held.0, held.1, left, ← append_assoc (map Some (take first items)), ← map-append, take-append-drop) refl
+      let fit = laid_out.fit in let items = items_from s.slots start in
+      rw (held.0, held.1, ← append_assoc (map Some (take first items)), ← map-append, take-append-drop) (grind (arith, common_steps))
 
 -- the items begin with one of the slots, and end with the last at most
 pub contiguous_fits : (start len size : ℕ) → start < size → len ≤ size → let at = if nat_le (start + len) size then start else 0 in (at < size) × (at + len ≤ size)

@@ -1,5 +1,5 @@
 -- What lists and stretches of full slots hold, read from the front, and compared pair by pair.
-use Rattle.ringbuffer.proofs.Words.{add-one, option_to_list, take-suc_get, ◌≡◌, ℕ, ◌+◌, ◌<◌, ◌≤◌, false, inl, inr, true, zero, min, List, [], ◌∷◌, ◌++◌, Bool, ◌&&◌, length, length-drop, take, take-append-drop, drop, drop-drop, get_or, nat_eq, Option, None, Some, IsSome, refl, sym, subst, ap, ◌∙◌, suc, arith, drop-length, slice_get, pointwise, HoldsStretch, IsFullStretch, cases_Bool, drop_more, common_prefix_len-le, get_or_from_slice_get, slice_get_within, common_prefix_len}
+use Rattle.ringbuffer.proofs.Words.{nat_tests, add-one, option_to_list, take-suc_get, ◌≡◌, ℕ, ◌+◌, ◌<◌, ◌≤◌, false, true, zero, min, List, [], ◌∷◌, ◌++◌, Bool, ◌&&◌, length, length-drop, take, take-append-drop, drop, drop-drop, get_or, nat_eq, Option, None, Some, IsSome, refl, sym, subst, ap, ◌∙◌, suc, arith, drop-length, slice_get, pointwise, HoldsStretch, IsFullStretch, drop_more, common_prefix_len-le, get_or_from_slice_get, slice_get_within, common_prefix_len}
 use Prim.Native.Nat.compare
 use Rattle.std.proofs.Math.Bool.{and_assoc, cond}
 use Rattle.ringbuffer.proofs.LaysOut.{slice_get_some}
@@ -58,15 +58,12 @@ pub pointwise-append : {A : Type 0} (eq : A → A → Bool) (xs ys vs ws : List 
 pointwise-append eq [] [] vs ws same = refl
 pointwise-append eq [] (y ∷ ys) vs ws same = cc
 pointwise-append eq (x ∷ xs) [] vs ws same = cc
-pointwise-append eq (x ∷ xs) (y ∷ ys) vs ws same =
-    ap (λ k. eq x y && k) (pointwise-append eq xs ys vs ws (omega arith)) ∙ rw and_assoc refl
+pointwise-append eq (x ∷ xs) (y ∷ ys) vs ws same = rw (pointwise-append eq xs ys vs ws (omega arith), and_assoc) refl
 
 -- a list that is cut in two is compared part by part
 pub pointwise-cut : {A : Type 0} (eq : A → A → Bool) (xs vs ys front back : List A) (n : ℕ) → front ≡ take n ys → back ≡ drop n ys → length xs ≡ length front
     → pointwise eq (xs ++ vs) ys ≡ (pointwise eq xs front && pointwise eq vs back)
-pointwise-cut eq xs vs ys front back n first second long =
-    let whole : front ++ back ≡ ys = rw (first, second) (take-append-drop n ys) in let parts = pointwise-append eq xs front vs back long in
-    rw whole at parts
+pointwise-cut eq xs vs ys front back n first second long = let parts = pointwise-append eq xs front vs back long in let whole = take-append-drop n ys in cc
 
 module _ {X : Type 0} (eq : X → X → Bool) where
   -- where one of the lists has ended, no pair is left
@@ -79,10 +76,8 @@ module _ {X : Type 0} (eq : X → X → Bool) where
   prefix_parts zero xs ys low other_low = (λ short. absurd (omega (arith, short)), λ long. omega arith)
   prefix_parts (suc n) [] ys low other_low = absurd (omega (arith, low))
   prefix_parts (suc n) (x ∷ xs) [] low other_low = absurd (omega (arith, other_low))
-  prefix_parts (suc n) (x ∷ xs) (y ∷ ys) low other_low = elim (cases_Bool (eq x y)) [
-    | inl same ↦ let rest = prefix_parts n xs ys (omega (arith, low)) (omega (arith, other_low)) in rw same (λ short. omega (arith, short), λ long. omega (arith, long))
-    | inr apart ↦ rw apart (λ short. refl, λ long. absurd (omega (arith, long)))
-  ]
+  prefix_parts (suc n) (x ∷ xs) (y ∷ ys) low other_low =
+      let rest = prefix_parts n xs ys (omega (arith, low)) (omega (arith, other_low)) in (λ short. grind (arith, rest, short), λ long. grind (arith, rest, long))
 
   -- The n pairs after the first k, which are equal, are compared: what follows these counts where all of them are equal.
   abbrev pub GoesOn : (xs ys : List X) (k n more : ℕ) → Type 0
@@ -92,8 +87,7 @@ module _ {X : Type 0} (eq : X → X → Bool) where
   pub prefix_on : (xs ys : List X) (k n more : ℕ) → k + n ≤ length xs → k + n ≤ length ys → common_prefix_len eq xs ys ≡ k + common_prefix_len eq (drop k xs) (drop k ys)
       → more ≡ common_prefix_len eq (take n (drop k xs)) (take n (drop k ys)) → GoesOn xs ys k n more
   prefix_on xs ys k n more low other_low so_far compared =
-      let left = length-drop k xs in let other_left = length-drop k ys in
-      let parts = rw (drop-drop n k xs, drop-drop n k ys, sym compared) at (prefix_parts n (drop k xs) (drop k ys) (omega arith) (omega arith)) in
+      let parts = rw (drop-drop n k xs, drop-drop n k ys, sym compared) at (prefix_parts n (drop k xs) (drop k ys) (grind (arith, length-drop)) (grind (arith, length-drop))) in
       (λ short. omega (arith, so_far, parts.0 short), λ long. omega (arith, so_far, parts.1 long))
 
   -- lists of one length are equal where all their pairs are
@@ -101,8 +95,4 @@ module _ {X : Type 0} (eq : X → X → Bool) where
   pointwise_prefix [] [] same = refl
   pointwise_prefix [] (y ∷ ys) same = absurd (omega (arith, same))
   pointwise_prefix (x ∷ xs) [] same = absurd (omega (arith, same))
-  pointwise_prefix (x ∷ xs) (y ∷ ys) same = elim (cases_Bool (eq x y)) [
-    | inl equal ↦ let one : 1 + common_prefix_len eq xs ys ≡ suc (common_prefix_len eq xs ys) = omega arith in
-        rw (equal, one, compare.suc-suc (common_prefix_len eq xs ys) (length xs)) (pointwise_prefix xs ys (omega (arith, same)))
-    | inr apart ↦ rw (apart, compare.zero-suc) refl
-  ]
+  pointwise_prefix (x ∷ xs) (y ∷ ys) same = grind (arith, nat_tests, pointwise_prefix xs ys (omega (arith, same)))

@@ -12,22 +12,10 @@ module _ {X : Type 0} {s : Slots X} {start i len place : ℕ} (at : SideBySide s
   passes_there new passed many passes =
       let items = items_from s.slots start in let low = at.low in let enough = at.laid_out.fit in let (had, xs, held, order, after) = passes in
       let are : had ≡ take len (drop i items) = stretch_is s.slots place len had (take len (drop i items)) held (held_there at) in
-      let long : length xs ≡ len = omega (arith, many had xs order, ap length are, length-take len (drop i items), length-drop i items) in (
-        xs,
-        long,
-        rw (← are) order,
-        rw after (LaysOut-filled s start at.laid_out place i xs (omega arith) (λ some. at.found (omega arith)) (omega (arith, at.fit)) (take i items ++ (xs ++ drop (i + length xs) items))
-            (λ j below. grind (arith, common_steps, slice_get_cases)) (λ k other. grind (arith, common_steps, slice_get_cases)) (s.changes + length xs) (grind (arith, common_steps))),
-      )
-
-  -- where others were written into a ring, they lie there still
-  still_there : {mid : Slots X} {v : View X} → LaysOut s mid start v → length v.items ≡ length (items_from s.slots start) → SideBySide mid start i len place
-  still_there lies same = record {
-    laid_out = lies.laid_out;
-    low = omega (arith, at.low, same, ap (λ (v : View X). length v.items) lies.shows);
-    found = rw lies.same_size at.found;
-    fit = rw lies.same_size at.fit;
-  }
+      let long : length xs ≡ len = omega (arith, many had xs order, ap length are, length-take len (drop i items), length-drop i items) in
+      let lies = LaysOut-filled s start at.laid_out place i xs (omega arith) (λ some. at.found (omega arith)) (omega (arith, at.fit)) (take i items ++ (xs ++ drop (i + length xs) items))
+      (λ j below. grind (arith, common_steps, slice_get_cases)) (λ k other. grind (arith, common_steps, slice_get_cases)) (s.changes + length xs) (grind (arith, common_steps)) in
+      (xs, long, rw (← are) order, rw after lies)
 
 module _ {X : Type 0} where
   many_up : (item over : X) (had has : List X) → passed_up item over had has → length has ≡ length had
@@ -55,7 +43,10 @@ module _ {X : Type 0} where
 module _ {X : Type 0} {s : Slots X} {start i m place j n place' : ℕ} (one : SideBySide s start i m place) (other : SideBySide s start j n place') (apart : (i + m ≤ j) ⊎ (j + n ≤ i))
     (mid : Slots X) (passed : List X → List X → Type 0) (many : (had has : List X) → passed had has → length has ≡ length had) (once : Passes s mid place m passed) where
   still_other : SideBySide mid start j n place'
-  still_other = let (xs, long, order, lies) = passes_there one mid passed many once in still_there other lies (long_writes i xs (view_from s start) (omega (arith, long, one.low)))
+  still_other =
+      let (xs, long, order, lies) = passes_there one mid passed many once in let same = long_writes i xs (view_from s start) (omega (arith, long, one.low)) in
+      let low : j + n ≤ length (items_from mid.slots start) = omega (arith, other.low, same, ap (λ (v : View X). length v.items) lies.shows) in
+      record { laid_out = lies.laid_out; low = low; found = rw lies.same_size other.found; fit = rw lies.same_size other.fit }
 
   both : (new : Slots X) (passed' : List X → List X → Type 0) → ((had has : List X) → passed' had has → length has ≡ length had) → Passes mid new place' n passed' → let items = items_from s.slots start in
       (xs : List X) × (ys : List X) × (length xs ≡ m) × (length ys ≡ n) × passed (take m (drop i items)) xs
@@ -135,21 +126,19 @@ module _ {X : Type 0} (i : ℕ) (v : View X) (over : X) (xs : List X) where
 
   pub put_first_is : (item : X) → i ≤ length all - i → i ≤ length all → passed_down item over (take i (drop 0 all)) xs → after_put_first (after_writes 0 xs v) over ≡ after_insert i item v
   put_first_is item few low order =
-      let long : length xs ≡ i = many_down item over (take i all) xs order ∙ omega (arith, length-take i all) in view_is (grind (arith, common_steps)) (omega (arith, long)) refl
+      let long = many_down item over (take i all) xs order in view_is (grind (arith, common_steps)) (grind (arith, common_steps)) refl
 
   pub put_last_is : (item : X) (behind : ℕ) → behind ≡ length all - i → i ≤ length all → length all - i ≤ i → passed_up item over (take behind (drop i all)) xs
       → after_put (after_writes i xs v) over ≡ after_insert i item v
   put_last_is item behind count low few order =
-      let long : length xs ≡ behind = many_up item over (take behind (drop i all)) xs order ∙ omega (arith, length-take behind (drop i all), length-drop i all) in
-      view_is (grind (arith, common_steps)) (omega (arith, long)) refl
+      let long = many_up item over (take behind (drop i all)) xs order in view_is (grind (arith, common_steps)) (grind (arith, common_steps)) refl
 
   module _ (low : i < length all) where
     -- the first one is taken, and those up to the index are passed up
     pub take_first_is : (first : X) → slice_get all 0 ≡ Some first → passed_up first over (take i (drop 0 (drop 1 all))) xs → i ≤ length all - 1 - i → after_writes 0 xs (after_take v) ≡ after_remove i v
     take_first_is first is order few =
         let there : take (suc i) all ≡ xs ++ over ∷ [] = grind (arith, common_steps, slice_get_cases) in let left = take-take i (suc i) all (omega arith) in
-        let long : length xs ≡ i = omega (arith, ap length there, length-take (suc i) all, length-append xs (over ∷ [])) in
-        view_is (grind (arith, drop-drop, take_at)) (omega (arith, long)) refl
+        let long = ap length there in view_is (grind (arith, common_steps, drop-drop, take_at)) (grind (arith, common_steps)) refl
 
     -- the last one is taken, and those from the index on are passed down
     pub took_last : (last : X) (behind : ℕ) → behind ≡ length all - 1 - i → slice_get all (length all - 1) ≡ Some last → passed_down last over (take behind (drop i (take (length all - 1) all))) xs

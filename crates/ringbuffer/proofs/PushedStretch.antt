@@ -19,10 +19,9 @@ module _ {X : Type 0} {old : Slots X} {span : Span} {capacity : ℕ} (can : CanP
 
   pub none_yet : (full : Bool) → Pushed old span capacity full old 0 []
   none_yet full =
-      let empty = after_extend-none capacity v (omega (arith, can.len, can.within)) in
-      let within = can.laid_out.start_within in let at = after_pushes full span 0 (length old.slots) in
-      let stays : at.start ≡ span.start = grind (arith, mod-eq_of_lt) in let same : at.len ≡ span.len = grind arith in
-      record { long = refl; pushed = (rw stays (rw empty at (LaysOut-none old span.start can.laid_out)), same ∙ can.len ∙ ap (λ (w : View X). length w.items) empty) }
+      let empty = after_extend-none capacity v (omega (arith, can.len, can.within)) in let within = can.laid_out.start_within in
+      let stays : (after_pushes full span 0 (length old.slots)).start ≡ span.start = grind (arith, mod-eq_of_lt) in
+      record { long = refl; pushed = (rw stays (rw empty at (LaysOut-none old span.start can.laid_out)), grind (arith, can.len, ap (λ (w : View X). length w.items) empty)) }
 
   -- one push more, where so many fit
   pub one_more : {now new : Slots X} {i count : ℕ} {xs : List X} (x : X) (full : Bool) → full ≡ nat_eq span.len capacity → (full ≡ false → count ≤ capacity - span.len)

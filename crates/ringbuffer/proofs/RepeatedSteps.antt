@@ -1,5 +1,5 @@
 -- What steps repeated come to.
-use Rattle.ringbuffer.proofs.Words.{common_steps, ◌≡◌, ℕ, suc, ◌+◌, ◌-◌, ◌<◌, ◌≤◌, List, Some, ap, sym, ◌∙◌, [], ◌++◌, length, take, refl, arith, append_assoc, append-nil, length-append, length-drop, option_to_list, slice_get, drop-length, drop_min, take_all, View, after_put, after_puts, after_take, after_takes, after_clear, after_pop, after_push, after_push_front, after_put_first, after_extend, after_extend_from_slice, after_keep_newest, keep_last, drop-append, take-suc_get, keep_last-keep_last}
+use Rattle.ringbuffer.proofs.Words.{common_steps, ◌≡◌, ℕ, suc, ◌+◌, ◌-◌, ◌<◌, ◌≤◌, List, Some, ap, sym, ◌∙◌, [], ◌++◌, length, take, refl, arith, append_assoc, append-nil, length-append, option_to_list, slice_get, drop-length, drop_min, take_all, View, after_put, after_puts, after_take, after_takes, after_clear, after_pop, after_push, after_push_front, after_put_first, after_extend, after_extend_from_slice, after_keep_newest, keep_last, drop-append, take-suc_get, keep_last-keep_last}
 
 -- two views are equal part by part
 pub view_is : {X : Type 0} {v w : View X} → v.items ≡ w.items → v.changes ≡ w.changes → v.capacity ≡ w.capacity → v ≡ w
@@ -27,9 +27,7 @@ module _ {X : Type 0} where
   -- one extension, and then another
   pub after_extend-then : (capacity : ℕ) (v : View X) (xs ys : List X) → after_extend capacity (after_extend capacity v xs) ys ≡ after_extend capacity v (xs ++ ys)
   after_extend-then capacity v xs ys =
-      let all = v.items ++ xs in
-      view_is (keep_last-keep_last (Some capacity) all ys ∙ ap (keep_last (Some capacity)) (append_assoc v.items xs ys))
-      (omega (arith, length-drop (length all - capacity) all, length-append v.items xs, length-append xs ys)) refl
+      view_is (keep_last-keep_last (Some capacity) (v.items ++ xs) ys ∙ ap (keep_last (Some capacity)) (append_assoc v.items xs ys)) (grind (arith, common_steps)) refl
 
   -- an extension by items that fit
   pub after_extend-fits : (capacity : ℕ) (v : View X) (xs : List X) → length v.items + length xs ≤ capacity → after_puts xs v ≡ after_extend capacity v xs
@@ -46,11 +44,9 @@ module _ {X : Type 0} where
     -- a slice pushed: the newest items kept that leave room for what the limit leaves of it, and then that put
     pub after_extend_from_slice-by : after_puts newest (after_keep_newest (limit - length newest) v) ≡ after_extend_from_slice limit v xs
     after_extend_from_slice-by =
-        let parts = drop-append (length (v.items ++ xs) - limit) v.items xs in
-        view_is (rw is (grind (arith, common_steps, parts, drop_min))) (rw is (grind (arith, common_steps))) refl
+        view_is (rw is (grind (arith, common_steps, drop-append (length (v.items ++ xs) - limit) v.items xs, drop_min))) (rw is (grind (arith, common_steps))) refl
 
     -- what the limit leaves of a slice, pushed in order
     pub after_extend-newest : after_extend limit v newest ≡ after_extend_from_slice limit v xs
     after_extend-newest =
-        let parts = drop-append (length (v.items ++ xs) - limit) v.items xs in
-        view_is (rw is (grind (arith, common_steps, parts, drop_min))) (rw is (grind (arith, common_steps))) refl
+        view_is (rw is (grind (arith, common_steps, drop-append (length (v.items ++ xs) - limit) v.items xs, drop_min))) (rw is (grind (arith, common_steps))) refl

@@ -46,7 +46,7 @@ items_until f (x ∷ xs) from zero fit reads = absurd (omega arith)
 items_until f [] from (suc count) fit reads =
     rw (reads 0 from (omega arith) (omega arith)) (items_until f [] (from + 1) count (omega arith) (λ k place at low. reads (suc k) place (omega arith) (omega arith)))
 items_until f (x ∷ xs) from (suc count) fit reads =
-    rw (reads 0 from (omega arith) (omega arith)) (ap (λ ys. x ∷ ys) (items_until f xs (from + 1) count (omega arith) (λ k place at low. reads (suc k) place (omega arith) (omega arith))))
+    rw (reads 0 from (omega arith) (omega arith), items_until f xs (from + 1) count (omega arith) (λ k place at low. reads (suc k) place (omega arith) (omega arith))) refl
 
 pub items_from-SlotsHold : {X : Type 0} (slots : List (Option X)) (start : ℕ) (xs : List X) → SlotsHold slots start xs → length xs ≤ length slots → items_from slots start ≡ xs
 unfolding items_from

@@ -1,5 +1,5 @@
 -- The items of a ring are two stretches of full slots: those up to the last slot, and those that go on at the first.
-use Rattle.ringbuffer.proofs.Words.{drop-drop, ◌≡◌, ℕ, ◌+◌, ◌-◌, ◌<◌, ◌≤◌, ◌%◌, List, [], ◌∷◌, ◌++◌, length, map, take, drop, get_or, Option, None, Some, refl, sym, ap, ◌∙◌, arith, slice_get, min, mod-lt, ext_get_or, get_or-take, get_or-drop, length-map, length-take, length-drop, take_all, slice_get-drop, slice_get-take, Slots, HoldsStretch, IsFullStretch, View, items_from, IsLaidOut, IsSound, somes, view_from, take-add, get_or-map_some}
+use Rattle.ringbuffer.proofs.Words.{common_steps, drop-drop, ◌≡◌, ℕ, ◌+◌, ◌-◌, ◌<◌, ◌≤◌, ◌%◌, List, [], ◌∷◌, ◌++◌, length, map, take, drop, get_or, Option, None, Some, refl, sym, ap, ◌∙◌, arith, slice_get, min, mod-lt, ext_get_or, get_or-take, get_or-drop, length-map, length-take, length-drop, take_all, slice_get-drop, slice_get-take, Slots, HoldsStretch, IsFullStretch, View, items_from, IsLaidOut, IsSound, somes, view_from, take-add, get_or-map_some}
 use Rattle.ringbuffer.proofs.SlotsHold.{contiguous_on, count_none, round}
 
 module _ {X : Type 0} where
@@ -22,8 +22,7 @@ module _ {X : Type 0} where
       let same = ap (λ (l : List (Option X)). get_or l k None) holds in grind (arith, same, get_or-take, get_or-drop, get_or-map_some)
 
   pub stretch_long : (cs : List (Option X)) (from n : ℕ) (xs : List X) → HoldsStretch cs from n xs → from + n ≤ length cs → length xs ≡ n
-  stretch_long cs from n xs holds fit =
-      omega (arith, ap (λ (l : List (Option X)). length l) holds, length-take n (drop from cs), length-drop from cs, length-map xs Some)
+  stretch_long cs from n xs holds fit = let long = ap (λ (l : List (Option X)). length l) holds in grind (arith, common_steps)
 
 -- items lie in two full stretches: some slots from the start on, and some from the first slot on
 pub record InTwo {X : Type 0} (cs : List (Option X)) (start n m : ℕ) (items : List X) : Type 0 where
@@ -106,7 +105,5 @@ module _ {X : Type 0} {limit : ℕ → ℕ} (s : Slots X) (start len : ℕ) (sou
   -- the items from an index on lie side by side where they reach no further than the last slot
   pub onward : (index n place : ℕ) → place ≡ (start + index) % length s.slots → (index + n ≤ len) × (n ≤ length s.slots - place) → LieAt s v index n place
   onward index n place found room =
-      let below = mod-lt (start + index) {m = length s.slots} (omega (arith, sound.laid_out.start_within)) in
-      let at : SideBySide s start index n place =
-      record { laid_out = sound.laid_out; low = omega (arith, sound.counted, room); found = λ some. found; fit = omega (arith, found, below, room) } in
+      let at = first_there s start sound.laid_out index n place n (omega (arith, sound.counted, room)) found (omega (arith, room)) in
       rw (sym shows) (at.low, at.fit, held_there at)

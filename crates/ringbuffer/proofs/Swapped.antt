@@ -14,9 +14,7 @@ module _ {X : Type 0} (s : Slots X) (start i j a b : ℕ) (laid_out : IsLaidOut 
 
   -- where one is taken, the other is still there
   b_holds : slot_at (changed s a None) b ≡ slice_get items j
-  b_holds =
-      let fit = laid_out.fit in let same = same_count start i j (length s.slots) laid_out.start_within (omega arith) (omega arith) in
-      grind (arith, a_is, b_is, same, apart, laid_out.layout j, get_or-set_other)
+  b_holds = grind (arith, a_is, b_is, laid_out.fit, same_count start i j (length s.slots) laid_out.start_within, apart, laid_out.layout j, get_or-set_other)
 
   pub other_full : (taken : Slots X) → taken ≡ changed s a None → IsFullAt taken b
   other_full taken is = rw (is, b_holds) (slice_get_some items j j_low)

@@ -8,9 +8,7 @@ somes_turn : {A : Type 0} (limit : Option ℕ) (old now next : List A) (whole le
     → next ≡ keep_last limit (old ++ somes (take (i + 1) whole))
 somes_turn {A = A} limit old now next whole left i o so_far same within at moved =
     let long : i < length whole = omega (arith, ap length same, length-drop i left, length-drop i whole) in
-    let before = get_or-drop i whole 0 o in let now_left = get_or-drop i left 0 o in let there : get_or whole i o ≡ o = grind (arith, before, now_left) in
-    let one_more : somes (take (i + 1) whole) ≡ somes (take i whole) ++ somes (o ∷ []) = rw (add-one, take-suc whole i o long, there, filter_map-append) refl in
-    rw one_more (rotated o moved)
+    let there : get_or whole i o ≡ o = grind (arith, get_or-drop i whole 0 o, get_or-drop i left 0 o) in rw (add-one, take-suc whole i o long, there, filter_map-append) (rotated o moved)
   where
     rotated : (p : Option A) → MatchOption p (next ≡ now) (λ x. next ≡ keep_last limit (now ++ x ∷ [])) → next ≡ keep_last limit (old ++ (somes (take i whole) ++ somes (p ∷ [])))
     rotated None stays = rw append-nil (stays ∙ so_far)

@@ -1,4 +1,4 @@
-use Rattle.ringbuffer.proofs.Words.{◌≡◌, ◌+◌, ◌-◌, append_assoc, arith, drop-drop, length, length-take, refl, sym, take}
+use Rattle.ringbuffer.proofs.Words.{length-take-le, ◌≡◌, ◌+◌, ◌-◌, append_assoc, arith, drop-drop, length, refl, sym, take}
 use Rattle.ringbuffer.proofs.Stretches.{InTwo, firsts_in_two}
 use Rattle.ringbuffer.proofs.fixed.FixedRing.copy_stretches.Goals as goal
 use Rattle.ringbuffer.proofs.fixed.FixedRing.copy_stretches.Goals.{After-split_at_mut-front}
@@ -7,8 +7,7 @@ use Rattle.ringbuffer.proofs.fixed.FixedRing.copy_stretches.Goals.{After-split_a
 both : (g : _) (c : After-split_at_mut-front g) → InTwo (g.S.RingSlots.seen c.self.inside.slots).slots c.self.inside.span.start (length c.split_at_mut-front.result.0.now)
     (length (take (c.min-count.result - c.min-first.result) c.split_at_mut-front.result.1.now)) (take c.min-count.result c.args.self.now.items)
 both g c =
-    let others = c.split_at_mut-front.result.1.now in let n = c.min-count.result - c.min-first.result in
-    let places : length (take n others) ≡ n = omega (arith, length-take n others) in
+    let places = length-take-le (c.min-count.result - c.min-first.result) c.split_at_mut-front.result.1.now (omega arith) in
     rw (c.split_at_mut-front.ensures.front_len, places) (firsts_in_two _ _ _ c.self.invariant c.self.view_is (omega arith) (rw c.size.ensures.value at c.min-first.ensures))
 
 pub copy_stretch-requires : goal.copy_stretch-requires

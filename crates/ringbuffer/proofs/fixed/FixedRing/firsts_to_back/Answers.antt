@@ -1,4 +1,4 @@
-use Rattle.ringbuffer.proofs.Words.{◌≡◌, ◌<◌, ◌∙◌, Some, View, after_put, after_take, ap, arith, length, slice_get, sym, rotated, view_from}
+use Rattle.ringbuffer.proofs.Words.{◌∙◌, View, after_put, after_take, ap, arith, slice_get, sym, view_from}
 use Rattle.ringbuffer.proofs.LaysOut.{LaysOut-then}
 use Rattle.ringbuffer.proofs.Rotations.{after_firsts_to_back-more}
 use Rattle.ringbuffer.proofs.fixed.FixedRing.firsts_to_back.Goals as goal
@@ -7,8 +7,6 @@ use Rattle.ringbuffer.proofs.fixed.FixedRing.firsts_to_back.Goals as goal
 pub loop-preserved : goal.loop-preserved
 loop-preserved g c =
     let so_far = c.loop.invariant in let took = c.take_from-next.ensures in let x = c.take_from-next.result.1 in
-    let v = view_from (g.S.RingSlots.seen c.args.slots.now) c.args.span.start in
-    let low : c.loop.counter < length v.items = omega (arith, c.loop-test.true, c.requires.some, c.requires.span.len) in
-    let first : slice_get (rotated c.loop.counter v.items) 0 ≡ Some x = sym (ap (λ (w : View _). slice_get w.items 0) so_far.lays_out.shows) ∙ took.value in
+    let v = view_from (g.S.RingSlots.seen c.args.slots.now) c.args.span.start in let first = sym (ap (λ (w : View _). slice_get w.items 0) so_far.lays_out.shows) ∙ took.value in
     let moved = LaysOut-then (λ w. after_put w x) (LaysOut-then after_take so_far.lays_out took.after) c.put_at.ensures in
-    record { lays_out = rw (after_firsts_to_back-more c.loop.counter v x low first) at moved }
+    record { lays_out = rw (after_firsts_to_back-more c.loop.counter v x (omega (arith, c.loop-test.true, c.requires.some, c.requires.span.len)) first) at moved }

@@ -1,4 +1,4 @@
-use Rattle.ringbuffer.proofs.Words.{◌≡◌, ◌∙◌, append-nil, ap, arith, sym, take_all, flat_map-append, fold-append, flat_map, fold}
+use Rattle.ringbuffer.proofs.Words.{◌∙◌, append-nil, arith, sym, take_all, flat_map-append, fold-append}
 use Rattle.ringbuffer.proofs.Paired.{full_at, take_item}
 use Rattle.ringbuffer.proofs.Stretches.{stretch_at, stretch_long}
 use Rattle.ringbuffer.proofs.fixed.FixedRing.hash_stretch.Goals as goal
@@ -14,5 +14,4 @@ loop-k-preserved g c =
 
 pub returns : goal.returns
 returns g c =
-    λ xs held. let long = stretch_long _ _ _ xs held c.requires.0 in let all : c.loop-k.k ≡ c.args.len = omega (arith, c.loop-k-test.false) in
-    c.loop-k.invariant xs held ∙ ap (λ ys. fold g.H.Hasher.write c.args.state.now (flat_map g.T.Hash.hash_input ys)) (take_all c.loop-k.k xs (omega (arith, long)))
+    λ xs held. rw (take_all c.loop-k.k xs (omega (arith, c.loop-k-test.false, stretch_long _ _ _ xs held c.requires.0))) at (c.loop-k.invariant xs held)

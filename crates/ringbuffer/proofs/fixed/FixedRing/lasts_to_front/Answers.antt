@@ -1,4 +1,4 @@
-use Rattle.ringbuffer.proofs.Words.{◌≡◌, ◌-◌, ◌<◌, Some, View, after_pop, after_put_first, ap, arith, length, slice_get, rotated, view_from}
+use Rattle.ringbuffer.proofs.Words.{◌-◌, View, after_pop, after_put_first, ap, arith, view_from}
 use Rattle.ringbuffer.proofs.LaysOut.{LaysOut-then}
 use Rattle.ringbuffer.proofs.Rotations.{after_lasts_to_front-more}
 use Rattle.ringbuffer.proofs.fixed.FixedRing.lasts_to_front.Goals as goal
@@ -7,7 +7,7 @@ use Rattle.ringbuffer.proofs.fixed.FixedRing.lasts_to_front.Goals as goal
 pub loop-preserved : goal.loop-preserved
 loop-preserved g c =
     let so_far = c.loop.invariant in let (x, last, step) = c.last_to_first-start.ensures in
-    let v = view_from (g.S.RingSlots.seen c.args.slots.now) c.args.span.start in let n = c.loop.counter in
-    let low : n < length v.items = omega (arith, c.loop-test.true, c.requires.some, c.requires.span.len) in
-    let is : slice_get (rotated (length v.items - n) v.items) (length v.items - 1) ≡ Some x = rw (ap (λ (w : View _). w.items) so_far.lays_out.shows, c.requires.span.len) at last in
-    record { lays_out = rw (after_lasts_to_front-more n v x low is) at (LaysOut-then (λ w. after_put_first (after_pop w) x) so_far.lays_out step) }
+    let v = view_from (g.S.RingSlots.seen c.args.slots.now) c.args.span.start in
+    let is = rw (ap (λ (w : View _). w.items) so_far.lays_out.shows, c.requires.span.len) at last in
+    let more = after_lasts_to_front-more c.loop.counter v x (omega (arith, c.loop-test.true, c.requires.some, c.requires.span.len)) is in
+    record { lays_out = rw more at (LaysOut-then (λ w. after_put_first (after_pop w) x) so_far.lays_out step) }

@@ -19,10 +19,9 @@ pub returns-clause-contiguous : goal.returns-clause-contiguous
 returns-clause-contiguous g c =
     let s = g.S.RingSlots.seen c.args.slots.now in let start = c.args.span.start in let len = c.args.span.len in let size = length s.slots in let items = items_from s.slots start in
     let after = c.close_gap-moved.ensures in let n = c.close_gap-moved.result.0 in let next = c.close_gap-moved.result.1 in let xs = rotated n items in
-    let low : n ≤ length items = omega (arith, after.moved, c.requires.span.len) in
-    let long = length-rotated n items low in let enough = c.requires.span.laid_out.fit in
-    let fit : next + length xs ≤ size = rw after.start (omega (arith, long, (contiguous_fits start len size c.requires.span.laid_out.start_within (omega (arith, c.requires.span.len))).1, c.requires.span.len)) in
-    let counted : c.args.span.len ≡ length xs = omega (arith, c.requires.span.len, long) in
+    let low : n ≤ length items = omega (arith, after.moved, c.requires.span.len) in let long = length-rotated n items low in let at = c.requires.span.laid_out in
+    let counted = c.requires.span.len ∙ sym long in
+    let fit : next + length xs ≤ size = rw (after.start, sym counted) (contiguous_fits start len size at.start_within (omega (arith, at.fit, c.requires.span.len))).1 in
     let held = stretch_is _ next _ _ xs c.slice_mut.ensures.value (rw (after.contiguous, counted) (beside-stretch size next xs fit)) in
     let back : c.rotate_right.new.self ≡ items = c.rotate_right.ensures.after ∙ rotated_back n items _ low held in
     let seen = g.met.S.LendsRows.sees_row c.close_gap-moved.new.slots next c.args.span.len c.after-changes.result.count c.rotate_right.new.self in

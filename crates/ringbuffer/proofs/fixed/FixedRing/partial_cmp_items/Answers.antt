@@ -28,15 +28,14 @@ module _ {X : Type 0} {eq : X → X → Bool} {cmp : X → X → Option Ordering
 -- The first pair that differs decides.
 pub returns-then-k-min : goal.returns-then-k-min
 returns-then-k-min g c =
-    let xs = c.args.self.now.items in let ys = c.args.other.now.items in let k = c.common_prefix_len-k.ensures in
-    c.partial_cmp.ensures ∙ sym ((ordered g.met.T.PartialOrd.laws xs ys (length xs) (length ys) 0 (omega arith) (omega arith)).0 _ _ (rw k at c.at.ensures) (rw k at c.at-then-k-min.ensures))
+    let k = c.common_prefix_len-k.ensures in
+    c.partial_cmp.ensures ∙ sym ((ordered g.met.T.PartialOrd.laws _ _ _ _ 0 refl refl).0 _ _ (rw k at c.at.ensures) (rw k at c.at-then-k-min.ensures))
 
 -- None does, and the lengths decide.
 pub returns : goal.returns
 returns g c =
-    let xs = c.args.self.now.items in let ys = c.args.other.now.items in
-    let long : c.self.inside.span.len ≡ length xs = omega (arith, c.self.invariant.counted, ap (λ (v : View _). length v.items) c.self.view_is) in
-    let other_long : c.other.inside.span.len ≡ length ys = omega (arith, c.other.invariant.counted, ap (λ (v : View _). length v.items) c.other.view_is) in
-    let all = (ordered g.met.T.PartialOrd.laws xs ys (length xs) (length ys) 0 (omega arith) (omega arith)).1
-    (omega (arith, c.common_prefix_len-k.ensures, c.if-k-min.false, c.min.ensures, long, other_long)) in
-    rw (all, c.cmp.ensures, long, other_long) refl
+    let long = c.self.invariant.counted ∙ ap (λ (v : View _). length v.items) c.self.view_is in
+    let other_long = c.other.invariant.counted ∙ ap (λ (v : View _). length v.items) c.other.view_is in
+    let all = (ordered g.met.T.PartialOrd.laws c.args.self.now.items c.args.other.now.items c.self.inside.span.len c.other.inside.span.len 0 (omega (arith, long)) (omega (arith, other_long))).1
+    (omega (arith, c.common_prefix_len-k.ensures, c.if-k-min.false, c.min.ensures)) in
+    rw (all, c.cmp.ensures) refl

@@ -12,8 +12,7 @@ pushed g c =
     let (ys, long, _, clones, so_far) = c.loop-done.invariant in let (zs, many, more, refused, stretch) = c.push_clone_stretch.ensures.pushed in
     let items = c.args.items.now in let i = c.loop-done.done in let y = c.in-Ok.clone in let IsClone = g.T.Clone.is_clone in
     let one = all_zip_more IsClone items ys i _ y (omega arith) c.index-items-done.is clones c.in-Ok.ensures.cases in
-    let rest = rw (take_all (length items - (i + 1)) (drop (i + 1) items) (omega (arith, length-drop (i + 1) items))) at more in
-    let all = AllZip-join IsClone (take (i + 1) items) (take (length zs) (drop (i + 1) items)) (ys ++ y ∷ []) zs one rest in
+    let rest = rw (take_all (length items - (i + 1)) (drop (i + 1) items) (grind (arith, length-drop))) at more in let all = AllZip-join IsClone _ _ (ys ++ y ∷ []) zs one rest in
     let both : length ((ys ++ y ∷ []) ++ zs) ≡ i + 1 + length zs = omega (arith, long, length-append ys (y ∷ []), length-append (ys ++ y ∷ []) zs) in
     let next = PushesOnto-then c.args.span _ ys (y ∷ []) so_far (c.push_from-old.ensures.after, c.push_from-old.ensures.len) in
     ((ys ++ y ∷ []) ++ zs, omega arith, rw (both, take-add (i + 1) (length zs) items) all, refused, PushesOnto-then c.args.span _ (ys ++ y ∷ []) zs next stretch)

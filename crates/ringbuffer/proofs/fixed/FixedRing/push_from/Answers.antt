@@ -1,4 +1,4 @@
-use Rattle.ringbuffer.proofs.Words.{◌≡◌, ◌+◌, ◌-◌, ◌∙◌, [], ◌∷◌, arith, length, length-append, length-drop, refl, slice_get-take, sym, view_from}
+use Rattle.ringbuffer.proofs.Words.{common_steps, ◌≡◌, ◌+◌, ◌-◌, ◌∙◌, [], ◌∷◌, arith, length, length-append, length-drop, refl, slice_get-take, sym, view_from}
 use Rattle.ringbuffer.proofs.RepeatedSteps.{after_extend-fits, after_push-full}
 use Rattle.ringbuffer.proofs.fixed.FixedRing.push_from.Goals as goal
 
@@ -14,8 +14,5 @@ returns-then-len-capacity g c =
 -- The item goes after the last.
 pub returns-else-len-capacity : goal.returns-else-len-capacity
 returns-else-len-capacity g c =
-    let v = view_from (g.S.RingSlots.seen c.args.slots.now) c.args.span.start in let none : length v.items + 1 - c.args.capacity ≡ 0 = omega arith in record {
-      after = rw (after_extend-fits c.args.capacity v (c.args.item ∷ []) (omega arith)) at c.put_at.ensures;
-      len = simp (length-drop, length-append) (omega arith);
-      value = rw none refl;
-    }
+    let v = view_from (g.S.RingSlots.seen c.args.slots.now) c.args.span.start in let none : length v.items + 1 - c.args.capacity ≡ 0 = omega arith in
+    record { after = rw (after_extend-fits c.args.capacity v (c.args.item ∷ []) (omega arith)) at c.put_at.ensures; len = grind (arith, common_steps); value = rw none refl }

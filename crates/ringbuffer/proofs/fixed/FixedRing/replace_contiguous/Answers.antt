@@ -7,8 +7,8 @@ use Rattle.ringbuffer.proofs.fixed.FixedRing.replace_contiguous.Goals as goal
 puts_more : {X : Type 0} (v : View X) (xs : List X) (k : ℕ) (x : X) → k < length v.items → slice_get xs k ≡ Some x
     → after_put (after_take (after_puts (take k xs) (after_takes k v))) x ≡ after_puts (take (k + 1) xs) (after_takes (k + 1) v)
 puts_more v xs k x low is =
-    let rest = drop k v.items in let left = length-drop k v.items in let taken = take-suc_get xs k in let next = drop-drop 1 k v.items in let others = drop-append-le 1 rest (take k xs) (omega arith) in
-    view_is (grind (arith, common_steps, slice_get_cases)) (grind (arith, common_steps, slice_get_cases)) refl
+    let left = length-drop k v.items in let others = drop-append-le 1 (drop k v.items) (take k xs) (omega arith) in
+    view_is (grind (arith, common_steps, slice_get_cases, take-suc_get xs k, drop-drop 1 k v.items)) (grind (arith, common_steps, slice_get_cases)) refl
 
 -- the next slot holds the oldest item still, and one more is put in its place
 module _ {X : Type 0} (s mid : Slots X) (start k : ℕ) (xs : List X) (full : length (items_from s.slots start) ≡ length s.slots) (contiguous : start + length xs ≤ length s.slots) (low : k < length xs)

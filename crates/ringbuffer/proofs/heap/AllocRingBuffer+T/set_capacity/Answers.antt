@@ -13,6 +13,4 @@ at_most_half size (k, is) fits =
 -- The capacity that is there is at most the number of slots, and so not too large.
 pub returns-then-capacity-limit-clause-too_large : goal.returns-then-capacity-limit-clause-too_large
 returns-then-capacity-limit-clause-too_large g c =
-    let fits : c.size.result < 2 ^ 64 = search rules in
-    let half = at_most_half c.size.result c.size.ensures.size.0 fits in
-    λ large. absurd (omega (arith, half, large))
+    let half = at_most_half c.size.result c.size.ensures.size.0 (search rules) in λ large. absurd (omega (arith, half, large))

@@ -1,13 +1,11 @@
-use Rattle.ringbuffer.proofs.Words.{◌≡◌, ℕ, ◌+◌, ◌<◌, ◌≤◌, List, ◌++◌, Some, View, after_extend_from_slice, after_truncate, ap, arith, keep_last, keep_last-keep_last, length, length-append, refl, ◌∙◌, keep_last_within, after_fill}
+use Rattle.ringbuffer.proofs.Words.{common_steps, ◌≡◌, ℕ, ◌+◌, ◌<◌, ◌≤◌, List, ◌++◌, View, after_extend_from_slice, after_truncate, ap, arith, length, length-append, refl, ◌∙◌, after_fill}
 use Rattle.ringbuffer.proofs.RepeatedSteps.{view_is}
 use Rattle.ringbuffer.proofs.plain.CopyRingBuffer+T+CAP.copy_into.Goals as goal
 
 -- Two slices that are pushed onto an emptied ring with room for both are what it holds.
 filled : {X : Type 0} (v : View X) (xs ys all : List X) (n : ℕ) → 0 < n → length xs + length ys ≤ n → xs ++ ys ≡ all → after_extend_from_slice n (after_extend_from_slice n (after_truncate 0 v) xs) ys ≡ after_fill v all
 filled v xs ys all n some room is =
-    let kept : keep_last (Some n) xs ≡ xs = keep_last_within (Some n) xs (some, omega arith) in
-    view_is (keep_last-keep_last (Some n) xs ys ∙ keep_last_within (Some n) (xs ++ ys) (some, omega (arith, length-append xs ys)) ∙ is)
-    (omega (arith, ap length kept, length-append xs ys, ap length is)) refl
+    view_is (grind (arith, common_steps, is)) (grind (arith, common_steps, ap length is)) refl
 
 pub returns : goal.returns
 returns g c =
