@@ -154,9 +154,6 @@ all_empty s start laid_out none =
 -- an empty ring may start at the first slot
 pub restart : {X : Type 0} (old new : Slots X) (start : ℕ) (v : View X) → LaysOut old new start v → v.items ≡ [] → LaysOut old new 0 v
 restart old new start v b none =
-    let nothing = ap (λ (w : View _). w.items) b.shows ∙ none in let empty = all_empty new start b.laid_out nothing in let starts = b.laid_out.start_within in record {
-      laid_out = IsLaidOut-empty new 0 empty (omega arith);
-      same_size = b.same_size;
-      same_capacity = b.same_capacity;
-      shows = view_is (items_from-empty new 0 empty ∙ sym none) (ap (λ (w : View _). w.changes) b.shows) (ap (λ (w : View _). w.capacity) b.shows);
-    }
+    let empty = all_empty new start b.laid_out (ap (λ (w : View _). w.items) b.shows ∙ none) in let starts = b.laid_out.start_within in
+    let shows = view_is (items_from-empty new 0 empty ∙ sym none) (ap (λ (w : View _). w.changes) b.shows) (ap (λ (w : View _). w.capacity) b.shows) in
+    record { laid_out = IsLaidOut-empty new 0 empty (omega arith); same_size = b.same_size; same_capacity = b.same_capacity; shows = shows }

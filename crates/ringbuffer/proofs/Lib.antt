@@ -1,5 +1,4 @@
 pub mod Conversions
-pub mod CopiedOut
 pub mod Copies
 pub mod Gap
 pub mod KeptItems
@@ -10,7 +9,6 @@ pub mod Passed
 pub mod PushedClones
 pub mod PushedStretch
 pub mod RepeatedSteps
-pub mod Rotations
 pub mod SlotsHold
 pub mod Sources
 pub mod Stretches

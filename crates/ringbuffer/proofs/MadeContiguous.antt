@@ -2,8 +2,8 @@
 use Rattle.ringbuffer.proofs.Words.{◌≡◌, ℕ, ◌*◌, ◌+◌, ◌-◌, ◌<◌, ◌≤◌, List, ◌++◌, length, map, take, drop, Option, None, Some, refl, sym, ◌∙◌, arith, length-append, length-drop, append_assoc, map-append, min, take_all, take-append-drop, rotated, ◌%◌, IsFullStretch, IsLaidOut, replicate, nat_le, if◌then◌else◌, length_refill, refill, common_steps, drop-drop, drop-map, get_or_append_left, get_or-append_right, get_or-replicate, get_or_past, length-map, length-replicate, take-map, slice_get_past, Slots, HoldsStretch, refilled, after_rewrite, SlotsHold, items_from, LaysOut, view_from, IsSound, beside, contiguous_start, get_or-map_some, IsEmptyStretch, brought_first, moved_down, with_refilled}
 use Rattle.ringbuffer.proofs.LaysOut.{IsSound-after, LaysOut-items}
 use Rattle.ringbuffer.proofs.Copies.{empty_behind}
-use Rattle.ringbuffer.proofs.Stretches.{all_in_two, first_held, second_held}
-use Rattle.ringbuffer.proofs.SlotsHold.{SlotsHold-same, wrap}
+use Rattle.ringbuffer.proofs.Stretches.{all_in_two, first_there, held_there, second_there}
+use Rattle.ringbuffer.proofs.SlotsHold.{SlotsHold-same, count_none, wrap}
 
 module _ {X : Type 0} (size start : ℕ) (xs : List X) (fit : start + length xs ≤ size) where
   length-beside : length (beside size start xs) ≡ size
@@ -47,10 +47,11 @@ module _ {X : Type 0} {s : Slots X} {start len first : ℕ} (laid_out : IsLaidOu
 
   -- what they hold
   held : (take (len - first) s.slots ≡ map Some (drop first (items_from s.slots start))) × (drop start s.slots ≡ map Some (take first (items_from s.slots start)))
-  held = (
-    second_held s start laid_out len first counted least,
-    sym (take_all first (drop start s.slots) (omega (arith, length-drop start s.slots))) ∙ first_held s start laid_out len first counted least,
-  )
+  held =
+      let items = items_from s.slots start in let all : 0 + len ≤ length items = omega (arith, counted) in let starts = count_none start (length s.slots) laid_out.start_within in
+      let lasts = held_there (first_there s start laid_out 0 len start first all starts least) in let others = held_there (second_there s start laid_out 0 len start first all starts least) in
+      let left = take_all first (drop start s.slots) (omega (arith, length-drop start s.slots)) in let none : 0 + first ≡ first = omega arith in
+      (rw (none, take_all (len - first) (drop first items) (omega (arith, counted, length-drop first items))) at others, sym left ∙ lasts)
 
   pub moved_down_contiguous : moved_down s.slots start (len - first) ≡ beside (length s.slots) 0 (rotated first (items_from s.slots start))
   moved_down_contiguous = let fit = laid_out.fit in rw (held.0, held.1) (grind (arith, common_steps))

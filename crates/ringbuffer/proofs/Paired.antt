@@ -1,5 +1,5 @@
--- What lists and stretches of full slots hold, read from the front, and compared pair by pair.
-use Rattle.ringbuffer.proofs.Words.{nat_tests, add-one, option_to_list, take-suc_get, ◌≡◌, ℕ, ◌+◌, ◌<◌, ◌≤◌, false, true, zero, min, List, [], ◌∷◌, ◌++◌, Bool, ◌&&◌, length, length-drop, take, take-append-drop, drop, drop-drop, get_or, nat_eq, Option, None, Some, IsSome, refl, sym, subst, ap, ◌∙◌, suc, arith, drop-length, slice_get, pointwise, HoldsStretch, IsFullStretch, drop_more, common_prefix_len-le, get_or_from_slice_get, slice_get_within, common_prefix_len}
+-- What lists and stretches of full slots hold, read from the front, copied item by item, and compared pair by pair.
+use Rattle.ringbuffer.proofs.Words.{length-take, slice_get-drop, set, clone_out, nat_tests, add-one, option_to_list, take-suc_get, ◌≡◌, ℕ, ◌+◌, ◌<◌, ◌≤◌, false, true, zero, min, List, [], ◌∷◌, ◌++◌, Bool, ◌&&◌, length, length-drop, take, take-append-drop, drop, drop-drop, get_or, nat_eq, Option, None, Some, IsSome, refl, sym, subst, ap, ◌∙◌, suc, arith, drop-length, slice_get, pointwise, HoldsStretch, IsFullStretch, drop_more, common_prefix_len-le, get_or_from_slice_get, slice_get_within, common_prefix_len}
 use Prim.Native.Nat.compare
 use Rattle.std.proofs.Math.Bool.{and_assoc, cond}
 use Rattle.ringbuffer.proofs.LaysOut.{slice_get_some}
@@ -12,6 +12,18 @@ drop_item xs k x is = drop_more xs k x (slice_get_within xs k x is) ∙ ap (λ y
 -- and the items up to there end with it
 pub take_item : {X : Type 0} (xs : List X) (k : ℕ) (x : X) → slice_get xs k ≡ Some x → take (k + 1) xs ≡ take k xs ++ x ∷ []
 take_item xs k x is = rw add-one (take-suc_get xs k ∙ ap (λ r. take k xs ++ option_to_list r) is)
+
+-- item number n lands after those before it
+pub set-copied : {A : Type 0} (items output : List A) (n : ℕ) (x : A) → slice_get items n ≡ Some x → n < length output
+    → set (take n items ++ drop n output) n x ≡ take (n + 1) items ++ drop (n + 1) output
+set-copied items output n x is room =
+    rw (take_item items n x is) (clone_out output (take n items) n x (omega (arith, length-take n items, slice_get_within items n x is)) room)
+
+-- so does the first of those that are left
+pub set-popped : {A : Type 0} (items output rest : List A) (n : ℕ) (x : A) → drop n items ≡ x ∷ rest → n < length output
+    → set (take n items ++ drop n output) n x ≡ take (n + 1) items ++ drop (n + 1) output
+set-popped items output rest n x first room =
+    set-copied items output n x (ap (λ k. slice_get items k) {x = n} {y = n + 0} (omega arith) ∙ sym (slice_get-drop n 0 items) ∙ ap (λ l. slice_get l 0) first) room
 
 -- the answer for the pair at a place decides what the pairs from there on say
 pub next_pair : {X : Type 0} (eq : X → X → Bool) (xs ys : List X) (k : ℕ) {x y : X} {same : Bool} → slice_get xs k ≡ Some x → slice_get ys k ≡ Some y → same ≡ eq x y

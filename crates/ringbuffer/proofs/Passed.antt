@@ -144,7 +144,5 @@ module _ {X : Type 0} (i : ℕ) (v : View X) (over : X) (xs : List X) where
     pub took_last : (last : X) (behind : ℕ) → behind ≡ length all - 1 - i → slice_get all (length all - 1) ≡ Some last → passed_down last over (take behind (drop i (take (length all - 1) all))) xs
         → (slice_get all i ≡ Some over) × (length all - 1 - i ≤ i → after_writes i xs (after_pop v) ≡ after_remove i v)
     took_last last behind count is order =
-        let there : drop i all ≡ over ∷ xs = grind (arith, common_steps, slice_get_cases) in let rest = drop-drop 1 i all in let long = ap length there in let are = ap (drop 1) there in (
-          grind (arith, common_steps, there, slice_get_cases),
-          λ few. view_is (grind (arith, take-take, length-drop, common_steps)) (omega (arith, long, length-drop i all)) refl,
-        )
+        let there : drop i all ≡ over ∷ xs = grind (arith, common_steps, slice_get_cases) in let rest = drop-drop 1 i all in let long = ap length there in let are = ap (drop 1) there in
+        (grind (arith, common_steps, there, slice_get_cases), λ few. view_is (grind (arith, take-take, length-drop, common_steps)) (omega (arith, long, length-drop i all)) refl)

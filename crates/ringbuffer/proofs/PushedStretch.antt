@@ -1,5 +1,5 @@
 -- Pushes up to the last slot, or to the capacity: a stretch of places that goes contiguous on.
-use Rattle.ringbuffer.proofs.Words.{◌≡◌, ℕ, ◌<◌, ◌≤◌, ◌+◌, ◌-◌, ◌%◌, Bool, true, false, List, [], ◌∷◌, ◌++◌, if◌then◌else◌, nat_eq, refl, ap, sym, ◌∙◌, arith, length, length-append, mod-eq_of_lt, Slots, Span, View, after_put, after_take, after_extend, after_pushes, view_from, LaysOut, PushesOnto, CanPush, nat_tests}
+use Rattle.ringbuffer.proofs.Words.{common_steps, ◌≡◌, ℕ, ◌<◌, ◌≤◌, ◌+◌, ◌-◌, ◌%◌, Bool, true, false, List, [], ◌∷◌, ◌++◌, if◌then◌else◌, nat_eq, refl, ap, sym, ◌∙◌, arith, length, length-append, mod-eq_of_lt, Slots, Span, View, after_put, after_take, after_extend, after_pushes, view_from, LaysOut, PushesOnto, CanPush, nat_tests}
 use Rattle.ringbuffer.proofs.LaysOut.{LaysOut-none, LaysOut-then}
 use Rattle.ringbuffer.proofs.SlotsHold.{contiguous_on, count_on}
 use Rattle.ringbuffer.proofs.RepeatedSteps.{after_extend-then, after_extend-fits, after_extend-full, after_extend-none, after_push-full}
@@ -38,8 +38,7 @@ module _ {X : Type 0} {old : Slots X} {span : Span} {capacity : ℕ} (can : CanP
   one_more {xs = xs} x false is room low so_far step =
       let (after, long) = so_far.pushed in let so_far_long = so_far.long in let held = after_extend capacity v xs in
       let is = after_extend-fits capacity held (x ∷ []) (omega (arith, long, can.within, low, room refl)) ∙ after_extend-then capacity v xs (x ∷ []) in
-      let longer = length-append xs (x ∷ []) in let more = length-append held.items (x ∷ []) in
-      record { long = omega arith; pushed = (rw is at (LaysOut-then (λ w. after_put w x) after step), omega (arith, ap (λ (w : View X). length w.items) is)) }
+      record { long = grind (arith, common_steps); pushed = (rw is at (LaysOut-then (λ w. after_put w x) after step), grind (arith, common_steps, ap (λ (w : View X). length w.items) is)) }
 
 -- Some items are pushed, and then others.
 pub PushesOnto-then : {X : Type 0} {old now new : Slots X} {at last : Span} (was : Span) (capacity : ℕ) (xs ys : List X)

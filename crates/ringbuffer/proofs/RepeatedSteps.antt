@@ -1,5 +1,5 @@
--- What steps repeated come to.
-use Rattle.ringbuffer.proofs.Words.{common_steps, ◌≡◌, ℕ, suc, ◌+◌, ◌-◌, ◌<◌, ◌≤◌, List, Some, ap, sym, ◌∙◌, [], ◌++◌, length, take, refl, arith, append_assoc, append-nil, length-append, option_to_list, slice_get, drop-length, drop_min, take_all, View, after_put, after_puts, after_take, after_takes, after_clear, after_pop, after_push, after_push_front, after_put_first, after_extend, after_extend_from_slice, after_keep_newest, keep_last, drop-append, take-suc_get, keep_last-keep_last}
+-- What steps repeated come to, and items that go round a ring.
+use Rattle.ringbuffer.proofs.Words.{slice_get_cases, ext_get_or, drop-cons, take-suc, rotated, after_firsts_to_back, after_lasts_to_front, elements, get_or_from_slice_get, common_steps, ◌≡◌, ℕ, suc, ◌+◌, ◌-◌, ◌<◌, ◌≤◌, List, Some, ap, sym, ◌∙◌, [], ◌++◌, length, take, refl, arith, append_assoc, append-nil, length-append, option_to_list, slice_get, drop-length, drop_min, take_all, View, after_put, after_puts, after_take, after_takes, after_clear, after_pop, after_push, after_push_front, after_put_first, after_extend, after_extend_from_slice, after_keep_newest, keep_last, drop-append, take-suc_get, keep_last-keep_last}
 
 -- two views are equal part by part
 pub view_is : {X : Type 0} {v w : View X} → v.items ≡ w.items → v.changes ≡ w.changes → v.capacity ≡ w.capacity → v ≡ w
@@ -39,6 +39,25 @@ module _ {X : Type 0} where
   -- a ring that holds as many as it may holds as many after an extension
   pub after_extend-full : (capacity : ℕ) (v : View X) (ys : List X) → capacity ≡ length v.items → length (after_extend capacity v ys).items ≡ capacity
   after_extend-full capacity v ys full = grind (arith, common_steps)
+
+  pub length-rotated : (n : ℕ) (xs : List X) → n ≤ length xs → length (rotated n xs) ≡ length xs
+  length-rotated n xs low = grind (arith, common_steps)
+
+  -- a turn by the others brings each item back
+  pub rotated_back : (n : ℕ) (xs ys : List X) → n ≤ length xs → ys ≡ rotated n xs → rotated (length ys - n) ys ≡ xs
+  rotated_back n xs ys low is = rw is (grind (arith, common_steps))
+
+  pub after_firsts_to_back-more : (n : ℕ) (v : View X) (x : X) → n < length v.items → slice_get (rotated n v.items) 0 ≡ Some x → after_put (after_take (after_firsts_to_back n v)) x ≡ after_firsts_to_back (n + 1) v
+  after_firsts_to_back-more n v x low first =
+      let behind = drop-cons v.items n x low in let before = take-suc v.items n x low in
+      view_is (grind (arith, common_steps, slice_get_cases, behind, before)) (grind (arith, common_steps)) refl
+
+  -- one more item goes from the back to the front
+  pub after_lasts_to_front-more : (n : ℕ) (v : View X) (x : X) → n < length v.items → slice_get (rotated (length v.items - n) v.items) (length v.items - 1) ≡ Some x
+      → after_put_first (after_pop (after_lasts_to_front n v)) x ≡ after_lasts_to_front (n + 1) v
+  after_lasts_to_front-more n v x low last =
+      let is = get_or_from_slice_get (rotated (length v.items - n) v.items) (length v.items - 1) x x last in
+      view_is (ext_get_or x _ _ (grind (arith, common_steps)) (λ k below. grind (arith, elements, is))) (grind (arith, common_steps)) refl
 
   module _ (limit : ℕ) (v : View X) (xs newest : List X) (is : newest ≡ keep_last (Some limit) xs) where
     -- a slice pushed: the newest items kept that leave room for what the limit leaves of it, and then that put

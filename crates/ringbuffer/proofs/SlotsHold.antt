@@ -6,8 +6,7 @@ pub wrap : (start k size : ℕ) → start < size → k ≤ size → ((start + k 
 wrap start k size within low =
     elim (dec_lt (start + k) size) [
       | yes below ↦ inl (below, mod-eq_of_lt below)
-      | no above ↦ let reaches : size ≤ start + k = omega arith in
-          inr (reaches, mod-eq-sub-mod reaches ∙ mod-eq_of_lt (omega arith))
+      | no above ↦ let reaches : size ≤ start + k = omega arith in inr (reaches, mod-eq-sub-mod reaches ∙ mod-eq_of_lt (omega arith))
     ]
 
 -- two counts below the size that reach one place are equal

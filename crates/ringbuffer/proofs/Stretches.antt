@@ -1,13 +1,8 @@
 -- The items of a ring are two stretches of full slots: those up to the last slot, and those that go on at the first.
-use Rattle.ringbuffer.proofs.Words.{common_steps, drop-drop, ◌≡◌, ℕ, ◌+◌, ◌-◌, ◌<◌, ◌≤◌, ◌%◌, List, [], ◌∷◌, ◌++◌, length, map, take, drop, get_or, Option, None, Some, refl, sym, ap, ◌∙◌, arith, slice_get, min, mod-lt, ext_get_or, get_or-take, get_or-drop, length-map, length-take, length-drop, take_all, slice_get-drop, slice_get-take, Slots, HoldsStretch, IsFullStretch, View, items_from, IsLaidOut, IsSound, somes, view_from, take-add, get_or-map_some}
+use Rattle.ringbuffer.proofs.Words.{common_steps, drop-drop, ◌≡◌, ℕ, ◌+◌, ◌-◌, ◌<◌, ◌≤◌, ◌%◌, List, [], ◌∷◌, ◌++◌, length, map, take, drop, get_or, Option, None, Some, refl, sym, ap, ◌∙◌, arith, slice_get, min, mod-lt, ext_get_or, get_or-take, get_or-drop, length-take, take_all, slice_get-drop, slice_get-take, Slots, HoldsStretch, IsFullStretch, View, items_from, IsLaidOut, IsSound, somes, view_from, take-add, get_or-map_some}
 use Rattle.ringbuffer.proofs.SlotsHold.{contiguous_on, count_none, round}
 
 module _ {X : Type 0} where
-  -- items that are known one by one are a stretch
-  pub stretch_of : (cs : List (Option X)) (from n : ℕ) (xs : List X) → length xs ≡ n → from + n ≤ length cs → ((k : ℕ) → k < n → get_or cs (from + k) None ≡ slice_get xs k) → HoldsStretch cs from n xs
-  stretch_of cs from n xs long fit reads =
-      ext_get_or None (take n (drop from cs)) (map Some xs) (omega (arith, long, length-take n (drop from cs), length-drop from cs, length-map xs Some)) (λ k low. grind (arith, reads k, get_or-take, get_or-drop, get_or-map_some, length-take n (drop from cs)))
-
   somes-map : (xs : List X) → somes (map Some xs) ≡ xs
   somes-map [] = refl
   somes-map (x ∷ xs) = ap (λ l. x ∷ l) (somes-map xs)
@@ -41,9 +36,9 @@ module _ {X : Type 0} {s : Slots X} {start i len place : ℕ} (at : SideBySide s
   -- they are a stretch of slots
   pub held_there : HoldsStretch s.slots place len (take len (drop i (items_from s.slots start)))
   held_there =
-      let items = items_from s.slots start in let low = at.low in let fit = at.laid_out.fit in
-      stretch_of s.slots place len (take len (drop i items)) (omega (arith, length-take len (drop i items), length-drop i items)) at.fit (λ k below.
-      grind (arith, at.laid_out.layout (i + k), contiguous_on start i place (length s.slots) k (at.found (omega arith)) (omega arith), slice_get-take, slice_get-drop))
+      let low = at.low in let fit = at.laid_out.fit in let room = at.fit in
+      ext_get_or None (take len (drop place s.slots)) (map Some (take len (drop i (items_from s.slots start)))) (grind (arith, common_steps)) (λ k below. let short = length-take len (drop place s.slots) in
+      grind (arith, at.laid_out.layout (i + k), contiguous_on start i place (length s.slots) k, at.found, get_or-take, get_or-drop, get_or-map_some, slice_get-take, slice_get-drop))
 
   pub full_there : IsFullStretch s.slots place len
   full_there = (at.fit, (_, held_there))
@@ -76,15 +71,6 @@ module _ {X : Type 0} (s : Slots X) (start : ℕ) (laid_out : IsLaidOut s start)
 -- so do all items
 module _ {X : Type 0} (s : Slots X) (start : ℕ) (laid_out : IsLaidOut s start) (len first : ℕ)
     (counted : len ≡ length (items_from s.slots start)) (least : first ≡ min len (length s.slots - start)) where
-  pub first_held : HoldsStretch s.slots start first (take first (items_from s.slots start))
-  first_held = held_there (first_there s start laid_out 0 len start first (omega (arith, counted)) (count_none start (length s.slots) laid_out.start_within) least)
-
-  pub second_held : HoldsStretch s.slots 0 (len - first) (drop first (items_from s.slots start))
-  second_held =
-      let items = items_from s.slots start in let none : 0 + first ≡ first = omega arith in
-      rw (none, take_all (len - first) (drop first items) (omega (arith, counted, length-drop first items)))
-      at (held_there (second_there s start laid_out 0 len start first (omega (arith, counted)) (count_none start (length s.slots) laid_out.start_within) least))
-
   pub all_in_two : InTwo s.slots start first (len - first) (items_from s.slots start)
   all_in_two =
       rw (take_all len (items_from s.slots start) (omega (arith, counted)))

@@ -2,7 +2,7 @@
 -- rings' own.
 pub use Rattle.ring_core.proofs.SourceEnds.{YieldsList-unpacked, shown_drained}
 pub use Rattle.ring_core.proofs.Items.{AllZip-join, drop-append, slice_get-drop, slice_get-take, take-suc_get}
-pub use Rattle.ring_core.proofs.Limits.{keep_last-keep_last, keep_last_within}
+pub use Rattle.ring_core.proofs.Limits.{keep_last-keep_last}
 pub use Rattle.ring_core.specs.Contents.{keep_last, ChangesSlots}
 pub use Rattle.ringbuffer.specs.Conversion.{ClonesMeet}
 pub use Rattle.ringbuffer.specs.Layout.{AreFull, Empties, IsLaidOut, IsSound, LaysApart, LaysOut, Moves, SlotsHold, after_pushes, slot_after, view_from, CanPush}
@@ -17,7 +17,7 @@ pub use Rattle.std.proofs.Common.{All, Bool, Bor, Err, IfOk, IsOk, IsSome, IsUtf
 pub use Rattle.std.proofs.Math.Decide.{dec_lt}
 pub use Rattle.std.proofs.Math.ListN.{set}
 pub use Rattle.std.proofs.Math.Nat.{add-mod-mod, add-mod_right, mod-add-mod, mod-eq-sub-mod, mod-eq_of_lt, mod-lt, mod_self}
-pub use Rattle.std.proofs.Math.Seq.{drop-cons, drop-length, take-append-add, take-suc, take-add, set-append_seam, take-nil}
+pub use Rattle.std.proofs.Math.Seq.{drop-cons, drop-length, take-append-add, take-suc, take-add, take-nil}
 pub use Rattle.std.proofs.lemmas.Grind.{common_steps, flat_map-append, fold-append, elements}
 pub use Rattle.std.proofs.lemmas.Iterator.{YieldsList, YieldsList-from_chars, YieldsList-from_slice}
 pub use Rattle.std.proofs.lemmas.Iterator.Adapters.{YieldsList-from_vec, items_from_extend}
@@ -34,7 +34,7 @@ pub use Rattle.std.specs.Prelude.{IsOk, IsSome, MatchResult, OnErr, Result, min,
 pub use Rattle.std.specs.Str.Iter.{chars_rest}
 pub use Rattle.std.specs.declared.iter.Iterator.{Ghosts}
 pub use Rattle.ring_slots.proofs.Filled.{filled-behind, get_or-map_some, length-filled, filled-before, filled-in}
-pub use Rattle.std.proofs.lemmas.Bool.{cases_Bool, eq-eqb}
+pub use Rattle.std.proofs.lemmas.Bool.{cases_Bool}
 pub use Rattle.ring_core.proofs.Cloned.{clone_out, equal_clones_pushed}
 pub use Rattle.ringbuffer.specs.Pushing.{PushesOnto}
 pub use Rattle.std.specs.VecDeque.{deque_capacity, deque_len}

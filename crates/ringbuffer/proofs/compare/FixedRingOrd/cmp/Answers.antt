@@ -9,5 +9,4 @@ unwrap-requires g c =
 pub returns-in-Equal : goal.returns-in-Equal
 returns-in-Equal g c =
     let answered = c.partial_cmp_items.ensures ∙ lists_agrees g.met.T.Ord.matches_partial_cmp c.args.self.now.items c.args.other.now.items in
-    let tie : nat_cmp (g.S.RingSlots.limit c.args.self.now.capacity) (g.S.RingSlots.limit c.args.other.now.capacity) ≡ Equal = rw (sym c.capacity.ensures.value, sym c.capacity-2.ensures.value) (sym c.cmp.ensures ∙ c.in-Equal.is) in
-    let same = sym c.unwrap.ensures ∙ answered in rw tie cc
+    let tie = sym c.cmp.ensures ∙ c.in-Equal.is in let same = sym c.unwrap.ensures ∙ answered in rw (sym c.capacity.ensures.value, sym c.capacity-2.ensures.value, tie) cc

@@ -1,5 +1,5 @@
 -- Where numbers of items are equal, the items are where all their pairs are.
-use Rattle.ringbuffer.proofs.Words.{nat_tests, ◌≡◌, arith, length, refl, sym, eq-eqb}
+use Rattle.ringbuffer.proofs.Words.{nat_tests, arith}
 use Rattle.ringbuffer.proofs.Paired.{pointwise_prefix}
 use Rattle.ringbuffer.proofs.compare.FixedRingPartialEq.eq.Goals as goal
 

@@ -1,5 +1,5 @@
 use Rattle.ringbuffer.proofs.Words.{arith}
-use Rattle.ringbuffer.proofs.CopiedOut.{set-copied}
+use Rattle.ringbuffer.proofs.Paired.{set-copied}
 use Rattle.ringbuffer.proofs.fixed.FixedRing.copy_each.Goals as goal
 
 -- The next item lands after those that were copied.

@@ -1,6 +1,5 @@
 use Rattle.ringbuffer.proofs.Words.{◌∙◌, sym}
-use Rattle.ringbuffer.proofs.CopiedOut.{set-copied}
-use Rattle.ringbuffer.proofs.Paired.{full_at}
+use Rattle.ringbuffer.proofs.Paired.{full_at, set-copied}
 use Rattle.ringbuffer.proofs.Stretches.{stretch_at}
 use Rattle.ringbuffer.proofs.fixed.FixedRing.copy_stretch.Goals as goal
 

@@ -1,6 +1,6 @@
 use Rattle.ringbuffer.proofs.Words.{◌∙◌, View, after_put, after_take, ap, arith, slice_get, sym, view_from}
 use Rattle.ringbuffer.proofs.LaysOut.{LaysOut-then}
-use Rattle.ringbuffer.proofs.Rotations.{after_firsts_to_back-more}
+use Rattle.ringbuffer.proofs.RepeatedSteps.{after_firsts_to_back-more}
 use Rattle.ringbuffer.proofs.fixed.FixedRing.firsts_to_back.Goals as goal
 
 -- One more item goes from the front to the back.

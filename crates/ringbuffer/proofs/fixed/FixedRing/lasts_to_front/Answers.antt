@@ -1,6 +1,6 @@
 use Rattle.ringbuffer.proofs.Words.{◌-◌, View, after_pop, after_put_first, ap, arith, view_from}
 use Rattle.ringbuffer.proofs.LaysOut.{LaysOut-then}
-use Rattle.ringbuffer.proofs.Rotations.{after_lasts_to_front-more}
+use Rattle.ringbuffer.proofs.RepeatedSteps.{after_lasts_to_front-more}
 use Rattle.ringbuffer.proofs.fixed.FixedRing.lasts_to_front.Goals as goal
 
 -- One more item goes from the back to the front.

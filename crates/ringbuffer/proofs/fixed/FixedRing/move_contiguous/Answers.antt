@@ -1,5 +1,5 @@
 use Rattle.ringbuffer.proofs.Words.{Slots, ◌≡◌, ◌+◌, ◌≤◌, ◌∙◌, ap, arith, beside, drop, items_from, length, sym, take_at, rotated}
-use Rattle.ringbuffer.proofs.Rotations.{length-rotated, rotated_back}
+use Rattle.ringbuffer.proofs.RepeatedSteps.{length-rotated, rotated_back}
 use Rattle.ringbuffer.proofs.Stretches.{stretch_is}
 use Rattle.ringbuffer.proofs.MadeContiguous.{beside-refilled, beside-stretch, brought_contiguous, contiguous_fits, stretches}
 use Rattle.ringbuffer.proofs.fixed.FixedRing.move_contiguous.Goals as goal

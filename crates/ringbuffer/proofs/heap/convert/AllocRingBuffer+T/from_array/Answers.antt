@@ -1,4 +1,4 @@
-use Rattle.ringbuffer.proofs.Conversions.{◌≡◌, Some, ap, arith, refl, sym, ◌∙◌, View, held_on_ok, all_kept, length-somes}
+use Rattle.ringbuffer.proofs.Conversions.{◌≡◌, Some, ap, arith, refl, ◌∙◌, View, held_on_ok, all_kept, length-somes}
 use Rattle.ringbuffer.proofs.heap.convert.AllocRingBuffer+T.from_array.Goals as goal
 
 pub returns : goal.returns
