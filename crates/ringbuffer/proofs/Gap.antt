@@ -110,18 +110,15 @@ module _ {X : Type 0} (s : Slots X) (start : ℕ) (laid_out : IsLaidOut s start)
         let fit = laid_out.fit in rw (first.before place (omega arith)) (full place (room + place) (omega arith) (grind (arith, wrap start (room + place) size laid_out.start_within)))
 
     module _ (new : Slots X) (second : Empties mid new (from - room) (to - room)) where
-      -- the slot of each item in the range is empty, and every other slot is as it was
-      now_at : (j : ℕ) → j < size → slot_after new.slots start j ≡ (if nat_lt j from then slice_get items j else (if nat_lt j to then None else slice_get items j))
-      now_at j low =
-          let starts = laid_out.start_within in let round = wrap start j size starts (omega arith) in let held = laid_out.layout j low in
-          rw (second.same_size ∙ first.same_size) (grind (arith, nat_tests, round, held, first.before, first.emptied, first.behind, second.before, second.emptied, second.behind))
-
       -- the others stay, with a gap between those before and those after
       pub LaysApart-cut : LaysApart s new start from (to - from) (after_cut from to 0 (view_from s start))
       LaysApart-cut =
           let fit = laid_out.fit in let one = first.counted in let two = second.counted in
           lays_apart (second.same_size ∙ first.same_size) (second.same_capacity ∙ first.same_capacity) (omega arith) (omega arith) (λ k low.
-          grind (arith, nat_tests, now_at k low, read_cut items from to k order within, read_cut items from to (k - (to - from)) order within))
+          let held = laid_out.layout k low in let round = wrap start k size laid_out.start_within (omega arith) in
+          let now : slot_after new.slots start k ≡ (if nat_lt k from then slice_get items k else (if nat_lt k to then None else slice_get items k)) =
+          rw (second.same_size ∙ first.same_size) (grind (arith, nat_tests, round, held, first.before, first.emptied, first.behind, second.before, second.emptied, second.behind)) in
+          grind (arith, nat_tests, now, read_cut items from to k order within, read_cut items from to (k - (to - from)) order within))
 
 -- there is no gap where those before it or those after it are none
 module _ {X : Type 0} (s new : Slots X) (start : ℕ) (laid_out : IsLaidOut s start) (from to : ℕ) (order : from ≤ to) (within : to ≤ length (items_from s.slots start))

@@ -147,8 +147,7 @@ module _ {X : Type 0} (s : Slots X) (start : ℕ) (empty : s.slots ≡ replicate
 -- where a ring shows no item, every slot is empty
 pub all_empty : {X : Type 0} (s : Slots X) (start : ℕ) → IsLaidOut s start → items_from s.slots start ≡ [] → s.slots ≡ replicate (length s.slots) None
 all_empty s start laid_out none =
-    let size = length s.slots in
-    let long = length-replicate size None in
+    let size = length s.slots in let long = length-replicate size None in
     SlotsHold-same s.slots start laid_out.start_within (replicate size None) [] (rw none at laid_out.layout) (none_held (record s { slots = replicate size None }) start (rw long refl)) long
 
 -- an empty ring may start at the first slot

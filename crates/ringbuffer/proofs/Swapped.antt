@@ -3,10 +3,6 @@ use Rattle.ringbuffer.proofs.Words.{◌≡◌, ◌≢◌, ℕ, ◌+◌, ◌%◌,
 use Rattle.ringbuffer.proofs.SlotsHold.{same_count}
 use Rattle.ringbuffer.proofs.LaysOut.{LaysOut-items, slice_get_some}
 
--- two items written are read
-read_two : {X : Type 0} (xs : List X) (i j k : ℕ) (x y : X) → i < length xs → j < length xs → slice_get (set (set xs i y) j x) k ≡ (if nat_eq k j then Some x else (if nat_eq k i then Some y else slice_get xs k))
-read_two xs i j k x y low low' = grind (arith, nat_tests, common_steps, slice_get_cases)
-
 module _ {X : Type 0} (s : Slots X) (start i j a b : ℕ) (laid_out : IsLaidOut s start) (i_low : i < length (items_from s.slots start)) (j_low : j < length (items_from s.slots start)) (apart : i ≢ j)
     (a_is : a ≡ (start + i) % length s.slots) (b_is : b ≡ (start + j) % length s.slots) where
   abbrev items : List X
@@ -30,5 +26,6 @@ module _ {X : Type 0} (s : Slots X) (start i j a b : ℕ) (laid_out : IsLaidOut 
       rw (is, gone, ← three, ← swap_is items i j x i_low j_low, y_is, x_is)
       (LaysOut-items s start laid_out (changed (changed (changed s a None) b (Some x)) a (Some y)) start (set (set items i y) j x) (simp length-set) refl starts (simp length-set fit) (λ k within.
       let low : k < size = simp length-set at within in let fields = laid_out.layout k low in
-      let at_i = same_count start k i size starts low in let at_j = same_count start k j size starts low in let read = read_two items i j k x y i_low j_low in
+      let at_i = same_count start k i size starts low in let at_j = same_count start k j size starts low in
+      let read : slice_get (set (set items i y) j x) k ≡ (if nat_eq k j then Some x else (if nat_eq k i then Some y else slice_get items k)) = grind (arith, nat_tests, common_steps, slice_get_cases) in
       simp length-set (grind (arith, nat_tests, a_is, b_is, fields, at_i, at_j, read, mod-lt, length-set, get_or-set_same, get_or-set_other))))
