@@ -1,5 +1,5 @@
 -- Where capacities are equal, a total order of items answers, as `partial_cmp` does.
-use Rattle.ringbuffer.proofs.Words.{◌≡◌, ◌∙◌, refl, sym, Equal, lists_agrees, nat_cmp}
+use Rattle.ringbuffer.proofs.Words.{◌∙◌, refl, sym, Equal, lists_agrees}
 use Rattle.ringbuffer.proofs.compare.FixedRingOrd.cmp.Goals as goal
 
 pub unwrap-requires : goal.unwrap-requires

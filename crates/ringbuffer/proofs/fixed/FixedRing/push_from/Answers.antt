@@ -1,4 +1,4 @@
-use Rattle.ringbuffer.proofs.Words.{common_steps, ◌≡◌, ◌+◌, ◌-◌, ◌∙◌, [], ◌∷◌, arith, length, length-append, length-drop, refl, slice_get-take, sym, view_from}
+use Rattle.ringbuffer.proofs.Words.{common_steps, ◌≡◌, ◌+◌, ◌-◌, ◌∙◌, [], ◌∷◌, arith, length, refl, slice_get-take, sym, view_from}
 use Rattle.ringbuffer.proofs.RepeatedSteps.{after_extend-fits, after_push-full}
 use Rattle.ringbuffer.proofs.fixed.FixedRing.push_from.Goals as goal
 

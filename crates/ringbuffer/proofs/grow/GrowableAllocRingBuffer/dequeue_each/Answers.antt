@@ -1,4 +1,4 @@
-use Rattle.ringbuffer.proofs.Words.{◌≡◌, ◌∷◌, ◌∙◌, arith, common_steps, drop, sym}
+use Rattle.ringbuffer.proofs.Words.{◌∙◌, arith, common_steps, sym}
 use Rattle.ringbuffer.proofs.Paired.{set-popped}
 use Rattle.ringbuffer.proofs.grow.GrowableAllocRingBuffer.dequeue_each.Goals as goal
 
