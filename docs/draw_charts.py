@@ -1,5 +1,5 @@
 #!/usr/bin/env python3
-"""Prints a chart: `draw_charts.py calls` docs/benchmarks.svg, from the instructions in bench/results/counts.csv, and
+"""Prints a chart: `draw_charts.py calls` docs/benchmarks.svg, from the instructions in bench/rivals.tsv, and
 `draw_charts.py jobs` docs/jobs.svg, from the times in docs/PERF.md."""
 
 import math
@@ -7,15 +7,11 @@ import pathlib
 import sys
 
 DOCS = pathlib.Path(__file__).resolve().parent
-COUNTS = DOCS.parent / "bench" / "results" / "counts.csv"
-CAPACITY = "1024"
+COUNTS = DOCS.parent / "bench" / "rivals.tsv"
 # Each ring of this repository, with the others that a program could take in its place.
-RIVALS = {
-    "heap": ["Rust heap", "VecDeque", "Rattle VecDeque", "circular_buffer", "Boost"],
-    "growable": ["Rust growable", "VecDeque", "Rattle VecDeque", "Boost"],
-    "array": ["Rust array"],
-}
-TYPES = {"heap": "AllocRingBuffer", "growable": "GrowableAllocRingBuffer", "array": "ConstGenericRingBuffer"}
+FIXED = ["Rust array", "Rust heap", "VecDeque", "Boost"]
+RIVALS = {"heap": FIXED, "copy": FIXED, "array": FIXED, "growable": ["Rust growable", "growing VecDeque"]}
+TYPES = {"heap": "AllocRingBuffer", "copy": "CopyRingBuffer", "array": "ConstGenericRingBuffer", "growable": "GrowableAllocRingBuffer"}
 
 WIDTH, ROW = 800, 20
 INK, GRID, BETTER, WORSE, PALE = "#1b1f24", "#d8dce0", "#1f5fa8", "#b4491c", "#b9c0c8"
@@ -59,35 +55,34 @@ def across(ratio):
 
 
 def ratios(ring):
-    """Each kind of work with a ring's ratio to the least number that a rival has, and that rival, least ratio first."""
-    numbers = {}
-    for work, capacity, contender, count in (line.split(";") for line in COUNTS.read_text(encoding="utf-8").splitlines()):
-        if capacity == CAPACITY:
-            numbers.setdefault(work, {})[contender] = float(count)
+    """Each call on words with a ring's ratio to the least number that a rival has, and that rival, least ratio first."""
+    (_, *columns), *rows = (line.split("\t") for line in COUNTS.read_text(encoding="utf-8").splitlines())
     found = []
-    for work, counts in numbers.items():
+    for case, *cells in rows:
+        counts = {column: float(cell) for column, cell in zip(columns, cells) if cell != "-"}
         rivals = [rival for rival in RIVALS[ring] if rival in counts]
-        if ring in counts and rivals:
+        item, call, many, held, _ = case.split()
+        if item == "u64" and ring in counts and rivals:
             best = min(rivals, key=counts.get)
-            found.append((counts[ring] / counts[best], work, best))
+            found.append((counts[ring] / counts[best], f"{call} of {held}" if many == "1" else f"{call} {many} of {held}", best))
     return sorted(found)
 
 
 def panel(ring, top):
     """A ring's rows, and where they end."""
-    rows = ratios(ring)
+    calls = ratios(ring)
     first = top + 68
-    bottom = first + ROW * len(rows)
+    bottom = first + ROW * len(calls)
     drawn = [
         text(12, top + 24, TYPES[ring], size=16, weight="bold"),
-        text(262, top + 24, f"instructions at capacity {CAPACITY} over the best rival's; left of 1 is better", size=13),
-        text(12, top + 54, "work", size=12),
+        text(262, top + 24, "instructions of a call on words over the best rival's; left of 1 is better", size=13),
+        text(12, top + 54, "call, and items held", size=12),
         text(656, top + 54, "the best rival", size=12),
     ]
     for ratio, name in NAMED:
         drawn += [line(across(ratio), first - 6, bottom, INK if ratio == 1 else GRID)]
         drawn += [text(across(ratio), top + 54, name, "middle", 12)]
-    for row, (ratio, work, rival) in enumerate(rows):
+    for row, (ratio, work, rival) in enumerate(calls):
         middle = first + ROW * row + ROW // 2
         color = WORSE if ratio > 1.005 else BETTER
         drawn += [text(LEFT - 12, middle + 4, work.replace("&", "&amp;"), "end")]
@@ -110,28 +105,29 @@ def calls():
 def jobs():
     names, rows = table("PERF.md", "Times")
     column = {name: place for place, name in enumerate(names)}
-    kinds = [("Seconds at the start", "start", PALE), ("Seconds now", "now", BETTER), ("Yardstick", "yardstick", INK)]
-    rows.sort(key=lambda cells: float(cells[column["Seconds now"]]) / float(cells[column["Yardstick"]]))
-    most = max(float(cells[column[name]]) for cells in rows for name, _, _ in kinds)
-    left, right, bar = 200, 640, 16
+    seconds = sorted((float(row[column["Seconds now"]]), float(row[column["Yardstick"]]), row[0]) for row in rows)
+    seconds.sort(key=lambda job: job[0] / job[1])
+    most = max(max(ours, rust) for ours, rust, _ in seconds)
+    left, right, bar = 150, 640, 18
     drawn = [
-        text(12, 28, "Six whole jobs, in seconds (shorter is better)", size=16, weight="bold"),
-        text(12, 50, "The yardstick is the same jobs in Rust: over the Rust crate's rings where these have the calls, else over std's types.", size=12),
-        text(WIDTH - 12, 76, "now / yardstick", "end", 12),
+        text(12, 28, "Six whole jobs in seconds (shorter is better)", size=16, weight="bold"),
+        text(12, 50, "In Rust over the Rust crate's rings where these have the calls, else over std's types.", size=12),
+        text(WIDTH - 12, 50, "ours / Rust", "end", 12),
     ]
-    top = 86
-    for cells in rows:
-        drawn.append(text(12, top + 30, cells[0], size=15, weight="bold"))
-        for name, word, color in kinds:
-            seconds = float(cells[column[name]])
-            width = (right - left) * seconds / most
-            drawn.append(text(left - 10, top + 13, word, "end", 12))
-            drawn.append(f'<rect x="{left}" y="{top + 1}" width="{width:.0f}" height="{bar - 2}" fill="{color}"/>')
-            drawn.append(text(left + width + 6, top + 13, cells[column[name]], size=12))
+    top = 64
+    for ours, rust, job in seconds:
+        ratio = ours / rust
+        # Less than a twentieth is no difference on a shared machine.
+        color = INK if abs(ratio - 1) < 0.05 else BETTER if ratio < 1 else WORSE
+        drawn.append(text(12, top + 23, job, size=15, weight="bold"))
+        for value, word, fill in [(ours, "ours", color), (rust, "Rust", PALE)]:
+            width = (right - left) * value / most
+            drawn.append(text(left - 8, top + 13, word, "end", 12))
+            drawn.append(f'<rect x="{left}" y="{top + 1}" width="{width:.0f}" height="{bar - 3}" fill="{fill}"/>')
+            drawn.append(text(left + width + 6, top + 13, f"{value:.3f}", size=12))
             top += bar
-        ratio = float(cells[column["Seconds now"]]) / float(cells[column["Yardstick"]])
-        drawn.append(text(WIDTH - 12, top - 18, f"{ratio:.2f}", "end", 15, WORSE if ratio > 1.005 else BETTER, "bold"))
-        top += 14
+        drawn.append(text(WIDTH - 12, top - 13, f"{ratio:.2f}", "end", 15, color, "bold"))
+        top += 10
     return picture(drawn, top + 2)
 
 

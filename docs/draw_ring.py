@@ -11,9 +11,9 @@ import sys
 ROOT = pathlib.Path(__file__).resolve().parent.parent
 NAMES = {
     "crates/ring_slots/src/place.rt": ["masked", "mask"],
-    "crates/ringbuffer/src/steps.rt": ["put_over", "start", "len"],
-    "crates/ringbuffer/src/slices.rt": ["as_slices"],
-    "crates/ringbuffer/src/ring.rt": ["capacity", "get_signed"],
+    "crates/ringbuffer/src/fixed/steps.rt": ["put_over", "start", "len"],
+    "crates/ringbuffer/src/fixed/slices.rt": ["as_slices"],
+    "crates/ringbuffer/src/fixed/ring_buffer.rt": ["capacity", "get_signed"],
 }
 
 SIZE, CAPACITY, PUSHES = 8, 5, 10

@@ -19,7 +19,7 @@ where
 {
     let (mut items, item): (Vec<T>, T) = (player.items(), player.item());
     let count = items.len().min(ring.len());
-    match player.up_to(5) {
+    match player.up_to(6) {
         0 => ring.extend(items),
         1 => {
             items.iter_mut().zip(ring.iter()).for_each(|(place, item)| *place = *item);
@@ -33,6 +33,13 @@ where
         }
         3 => player.note(ring.contains(&item) as u64),
         4 => {
+            let mut list = ring.to_vec();
+            if player.flip() {
+                player.write(list.last_mut());
+            }
+            player.note(ring.iter().eq(&list) as u64);
+        }
+        5 => {
             let mut twin = ring.clone();
             player.write(twin.lend_signed(-1));
             player.note((twin == *ring) as u64);

@@ -1,4 +1,4 @@
-//! Calls that pick items, which the crate lacks: a filter, a search, and walks over a range.
+//! Calls that pick items, which the crate lacks: a filter, a search, a change of each item, and walks over a range.
 
 use crate::calls::walk;
 use crate::items::Item;
@@ -8,7 +8,7 @@ use ringbuffer::RingBuffer;
 
 /// Makes a call that picks items.
 pub fn play<'a, T: Item<'a>, R: Played<'a, T>>(ring: &mut R, player: &mut Player<'a>) {
-    match player.up_to(3) {
+    match player.up_to(5) {
         0 => {
             let bits = 3 << player.up_to(8);
             ring.as_deque(|items| items.retain(|item| item.read() & bits != bits));
@@ -17,6 +17,13 @@ pub fn play<'a, T: Item<'a>, R: Played<'a, T>>(ring: &mut R, player: &mut Player
             raise(ring, player);
             let sought = player.draw() % 300;
             player.note(ring.iter().take_while(|item| item.rank() < sought).count() as u64);
+        }
+        2 => ring.iter_mut().for_each(|place| *place = T::make(place.read().wrapping_mul(3) % 1000, player.tally)),
+        3 => {
+            let bound = player.draw() % 1000;
+            let count = ring.iter().take_while(|item| item.rank() < bound).count();
+            player.note(count as u64);
+            ring.as_deque(|items| drop(items.drain(..count)));
         }
         _ => walk_range(ring, player),
     }

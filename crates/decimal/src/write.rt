@@ -38,7 +38,7 @@ pub fn push_decimal(text: &mut Vec<u8>, number: i64) -> Result<(), AllocError>
     Ok(())
 }
 
-/// Does what `push_decimal` does, and asks for no more room than the number takes.
+/// Puts a number's text after a text, and asks for no more room than that takes.
 #[inline(never)]
 fn push_exactly(text: &mut Vec<u8>, number: i64) -> Result<(), AllocError>
     ensures appended { OnOk result (text.new.items ≡ text.old.items ++ signed_decimal number) }

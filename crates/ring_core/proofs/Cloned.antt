@@ -1,8 +1,8 @@
 -- What stands while clones of a list's items are pushed.
-use Rattle.ring_core.proofs.Words.{◌≡◌, ℕ, ◌+◌, ◌-◌, ◌<◌, ◌≤◌, List, [], ◌∷◌, ◌++◌, length, take, drop, Option, None, Some, IfSome, IsSome, OnOk, Result, Ok, Err, refl, append_assoc, set-append_seam, slice_set, get_or, ap, sym, ◌∙◌, arith, take_all, drop-drop, drop_min, length-drop, keep_last}
+use Rattle.ring_core.proofs.Words.{◌≡◌, ℕ, ◌+◌, ◌-◌, ◌<◌, ◌≤◌, All, List, [], ◌∷◌, ◌++◌, length, take, drop, Option, None, Some, IfSome, IsSome, OnOk, Result, Ok, Err, refl, append_assoc, set-append_seam, slice_set, get_or, ap, sym, ◌∙◌, arith, take_all, drop-drop, drop_min, length-drop, length-replicate, replicate, keep_last}
 use Rattle.std.proofs.lemmas.Grind.{common_steps}
 use Rattle.std.specs.Prelude.{IfOk}
-use Rattle.std.proofs.lemmas.List.{drop_more}
+use Rattle.std.proofs.lemmas.List.{drop_more, get_or-replicate, same_lists}
 use Rattle.std.proofs.lemmas.List.Elements.{same_from_all_zip}
 use Rattle.ring_core.specs.Extension.{ClonesOut, ExtendsByClones, IsOver}
 use Rattle.ring_core.proofs.Items.{drop-append}
@@ -49,3 +49,11 @@ equal_clones_out IsClone items old new (Ok n) (ys, clones, is, long) same =
 pub keep_last-fitting : {A : Type 0} (limit : Option ℕ) (capacity : ℕ) (xs ys newest : List A) → IsSome limit → IfSome limit (λ n. capacity ≡ n)
     → newest ≡ drop (length ys - capacity) ys → keep_last limit (xs ++ newest) ≡ keep_last limit (xs ++ ys)
 keep_last-fitting limit capacity xs ys newest some is fits = rw fits (keep_last-newest limit (length ys - capacity) xs ys (grind arith))
+
+-- Clones of one item that each equal it fill a ring with that item.
+pub equal_clones_fill : {A E : Type 0} (IsClone : A → A → Type 0) (limit : Option ℕ) (x : A) (xs : List A) (r : Result (Unit {0}) E)
+    → All (IsClone x) xs → OnOk r (IfSome limit (λ n. length xs ≡ n)) → ((x y : A) → IsClone x y → y ≡ x) → OnOk r (IfSome limit (λ n. xs ≡ replicate n x))
+equal_clones_fill IsClone limit x xs (Err e) clones full same = tt
+equal_clones_fill IsClone None x xs (Ok u) clones full same = tt
+equal_clones_fill IsClone (Some n) x xs (Ok u) clones full same =
+    same_lists xs (replicate n x) (grind (arith, full, length-replicate n x)) (λ k d h. same x _ (clones k d h) ∙ sym (get_or-replicate n k x d (omega (arith, full))))

@@ -1,23 +1,17 @@
 //! Calls by a dot on any ring.
 
-ghost use Rattle.std.specs.Prelude.{◌≡◌, ◌+◌, ◌-◌, ◌*◌, ◌≤◌, [], IfOk, IfSome, IsSome, OnErr, OnOk, drop, false, length, map, min, slice_get, take};
-ghost use Rattle.std.specs.Fn.{CalledAt};
-ghost use Rattle.std.specs.List.{prefix_len};
+ghost use Rattle.std.specs.Prelude.{◌≡◌, ◌-◌, ◌*◌, ◌≤◌, [], IfOk, OnErr, OnOk, drop, length, min, take};
 ghost use Rattle.std.specs.Range.Bound.{end_index, start_index};
 ghost use Rattle.ring_core.specs.Contents.{Counts};
-ghost use Rattle.ring_core.specs.Filtering.{PassesFirst};
-ghost use Rattle.ring_core.specs.Mapping.{ByMap, MapsEach};
 ghost use Rattle.ring_core.specs.Walk.{DrainsInOrder, DrainsInReverse, ReadsInOrder, ReadsInReverse, StartsOver, items_between, items_outside, iterator_to_come};
 
 use crate::double_ended::DoubleEndedRing;
 use crate::drain::RingBufferDrainingIterator;
 use crate::iter::RingBufferIterator;
 use crate::iter_mut::RingBufferMutIterator;
-use crate::mapping::map_each;
 use crate::range::range_within;
-use crate::retaining::dequeue_while;
 use crate::ring::RingBuffer;
-use crate::taking::{split_off, take_all, take_between};
+use crate::taking::{move_newest, move_oldest, take_between};
 use std::alloc::{AllocError, Global};
 use std::ops::RangeBounds;
 
@@ -76,40 +70,6 @@ pub trait RingBufferExt<T: Drop>: RingBuffer<T> {
         ensures refused { OnErr result (self.new ≡ self.old) }
         ensures limit { Self.limit self.new ≡ Self.limit self.old }
         ensures changes { Counts Self.limit Self.contents Self.slot_changes self.old self.new 0 };
-
-    /// Calls the function `dequeue_while`: drops the oldest items while `test` returns `true` of them, and returns how
-    /// many.
-    ///
-    /// ```rust
-    /// let _ = events.dequeue_while(|event| event.time < time);
-    /// ```
-    fn dequeue_while<F: FnMut(&T) -> bool>(&mut self, test: F) -> usize
-        requires { F.IsAlwaysCallable test }
-        ensures rest { Self.contents self.new ≡ drop result (Self.contents self.old) }
-        ensures within { result ≤ length (Self.contents self.old) }
-        ensures called { PassesFirst (CalledAt F.FnMut) test result (Self.contents self.old) }
-        ensures value { ByMap (CalledAt F.FnMut) test
-            (λ passes. result ≡ prefix_len passes (Self.contents self.old)) }
-        ensures first { ByMap (CalledAt F.FnMut) test
-            (λ passes. IfSome (slice_get (Self.contents self.new) 0) (λ x. passes x ≡ false)) }
-        ensures limit { Self.limit self.new ≡ Self.limit self.old }
-        ensures changes { Counts Self.limit Self.contents Self.slot_changes self.old self.new 0 };
-
-    /// Calls the function `map_each`: replaces each item by what `f` returns for it, oldest first.
-    ///
-    /// ```rust
-    /// readings.map_each(|x| *x / 2);
-    /// ```
-    fn map_each<F: FnMut(&T) -> T>(&mut self, f: F)
-        requires { F.IsAlwaysCallable f }
-        ensures called { MapsEach (CalledAt F.FnMut) f (Self.contents self.old) (Self.contents self.new) }
-        ensures value { ByMap (CalledAt F.FnMut) f
-            (λ g. Self.contents self.new ≡ map g (Self.contents self.old)) }
-        ensures limit { Self.limit self.new ≡ Self.limit self.old }
-        ensures changes { IsSome (Self.limit self.old)
-            → (Self.slot_changes self.old ≤ Self.slot_changes self.new)
-            × (Self.slot_changes self.new
-            ≤ Self.slot_changes self.old + length (Self.contents self.old)) };
 }
 
 impl<T: Drop, R: RingBuffer<T>> RingBufferExt<T> for R {
@@ -135,17 +95,9 @@ impl<T: Drop, R: RingBuffer<T>> RingBufferExt<T> for R {
 
     #[inline]
     fn take_all(&mut self, alloc: Global) -> Result<Vec<T>, AllocError> {
-        take_all(self, alloc)
-    }
-
-    #[inline]
-    fn dequeue_while<F: FnMut(&T) -> bool>(&mut self, test: F) -> usize {
-        dequeue_while(self, test)
-    }
-
-    #[inline]
-    fn map_each<F: FnMut(&T) -> T>(&mut self, f: F) {
-        map_each(self, f);
+        let len = self.len();
+        let items = Vec::with_capacity(alloc, len)?;
+        Ok(move_oldest(self, len, items))
     }
 }
 
@@ -211,6 +163,8 @@ impl<T: Drop, R: DoubleEndedRing<T>> DoubleEndedRingExt<T> for R {
 
     #[inline]
     fn split_off(&mut self, at: usize, alloc: Global) -> Result<Vec<T>, AllocError> {
-        split_off(self, at, alloc)
+        let count = self.len() - at;
+        let items = Vec::with_capacity(alloc, count)?;
+        Ok(move_newest(self, count, items))
     }
 }

@@ -159,6 +159,7 @@ impl<'rb, T: Drop, RB: RingBuffer<T>> Iterator for RingBufferIterator<'rb, T, RB
 
     fn next(&mut self) -> Option<&'rb T> {
         let at = self.front;
+        // `back` is at most the length, but the struct can't say so: its ring has no bound, and so no length.
         if at >= self.back || at >= self.ring.len() {
             return None;
         }

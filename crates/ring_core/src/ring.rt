@@ -1,17 +1,17 @@
 //! The trait that every ring buffer implements.
 
-ghost use Rattle.std.specs.Prelude.{◌≡◌, ℕ, ◌+◌, ◌-◌, ◌<◌, ◌≤◌, ◌↔◌, ◌++◌, List, [], drop, filter, length, min, take, All, IfErr, IfOk, IfSome, IsNone, IsOk, IsSome, IsTrue, OnErr, OnOk, Option, slice_get, slice_set};
+ghost use Rattle.std.specs.Prelude.{◌≡◌, ℕ, ◌+◌, ◌-◌, ◌<◌, ◌≤◌, ◌↔◌, ◌++◌, List, [], drop, false, filter, length, map, min, replicate, take, All, IfErr, IfOk, IfSome, IsNone, IsOk, IsSome, IsTrue, OnErr, OnOk, Option, slice_get, slice_set};
 ghost use Rattle.std.specs.Borrow.{LendsIf, sem};
 ghost use Rattle.std.specs.Cmp.Lexicographic.{pointwise};
 ghost use Rattle.std.specs.Fn.{CalledAt};
 ghost use Rattle.std.specs.Iterator.{IsFiniteIterable};
-ghost use Rattle.std.specs.List.{AllZip, FoldsTo, IsAnyAnswer, list_any};
+ghost use Rattle.std.specs.List.{AllZip, FoldsTo, IsAnyAnswer, list_any, prefix_len};
 ghost use Rattle.std.specs.List.Retain.{IsFiltered};
 ghost use Rattle.std.specs.Option.{option_copied, option_copied_mut};
 ghost use Rattle.ring_core.specs.Contents.{Counts, IsInRange, IsWithin, Pushes, index_at, index_in_range, keep_last, signed_index_at};
 ghost use Rattle.ring_core.specs.Extension.{ClonesOut, Extends, ExtendsByClones};
-ghost use Rattle.ring_core.specs.Filtering.{FiltersPart};
-ghost use Rattle.ring_core.specs.Mapping.{ByMap};
+ghost use Rattle.ring_core.specs.Filtering.{FiltersPart, PassesFirst};
+ghost use Rattle.ring_core.specs.Mapping.{ByMap, MapsEach};
 
 use std::alloc::{AllocError, Global};
 
@@ -220,6 +220,8 @@ pub trait RingBuffer<T: Drop>: Sized {
         ensures full { OnOk result (IfSome (limit self.old) (λ n. length (contents self.new) ≡ n)) }
         ensures short { OnErr result
             (IfSome (limit self.old) (λ n. length (contents self.new) < n)) }
+        ensures items_if_clones_equal { ((x y : T) → T.is_clone x y → y ≡ x) → OnOk result
+            (IfSome (limit self.old) (λ n. contents self.new ≡ replicate n value)) }
         ensures succeeds { IsSome (limit self.old) → T.is_infallible value → IsOk result }
         ensures limit { limit self.new ≡ limit self.old }
         ensures changes { Counts limit contents slot_changes self.old self.new (length (contents self.new)) }
@@ -268,6 +270,56 @@ pub trait RingBuffer<T: Drop>: Sized {
             }
         }
         Ok(())
+    }
+
+    /// Drops the oldest items while `test` returns `true` of them, and returns how many. It asks about the items in order, and of
+    /// the first that it keeps last. This call is the library's own: the Rust crate has none like it.
+    ///
+    /// ```rust
+    /// let _ = events.dequeue_while(|event| event.time < time);
+    /// ```
+    fn dequeue_while<F: FnMut(&T) -> bool>(&mut self, mut test: F) -> usize
+        requires { F.IsAlwaysCallable test }
+        ensures rest { contents self.new ≡ drop result (contents self.old) }
+        ensures within { result ≤ length (contents self.old) }
+        ensures called { PassesFirst (CalledAt F.FnMut) test result (contents self.old) }
+        ensures value { ByMap (CalledAt F.FnMut) test
+            (λ passes. result ≡ prefix_len passes (contents self.old)) }
+        ensures first { ByMap (CalledAt F.FnMut) test
+            (λ passes. IfSome (slice_get (contents self.new) 0) (λ x. passes x ≡ false)) }
+        ensures limit { limit self.new ≡ limit self.old }
+        ensures changes { Counts limit contents slot_changes self.old self.new 0 }
+    {
+        let len = self.len();
+        for count in 0..len {
+            if !test(self.front().unwrap()) {
+                return count;
+            }
+            self.skip();
+        }
+        len
+    }
+
+    /// Replaces each item by what `f` returns for it, oldest first. Takes O(n), and no memory. This call is the library's own:
+    /// the Rust crate has none like it.
+    ///
+    /// ```rust
+    /// readings.map_each(|x| *x / 2);
+    /// ```
+    fn map_each<F: FnMut(&T) -> T>(&mut self, mut f: F)
+        requires { F.IsAlwaysCallable f }
+        ensures called { MapsEach (CalledAt F.FnMut) f (contents self.old) (contents self.new) }
+        ensures value { ByMap (CalledAt F.FnMut) f
+            (λ g. contents self.new ≡ map g (contents self.old)) }
+        ensures limit { limit self.new ≡ limit self.old }
+        ensures changes { IsSome (limit self.old)
+            → (slot_changes self.old ≤ slot_changes self.new)
+            × (slot_changes self.new ≤ slot_changes self.old + length (contents self.old)) }
+    {
+        for i in 0..self.len() {
+            let item = self.get_mut(i).unwrap();
+            *item = f(item);
+        }
     }
 
     /// Returns the item at a position, which is taken modulo the length, or `None` if the ring is empty.
@@ -454,4 +506,27 @@ pub trait RingBuffer<T: Drop>: Sized {
     ghost counts_write: { (s : Self) (i : ℕ) (x : T) → IsSome (limit s)
         → (slot_changes s ≤ slot_changes (with_item s i x))
         × (slot_changes (with_item s i x) ≤ slot_changes s + 1) };
+}
+
+/// Calls `RingBuffer::retain`, for callers that name the function.
+///
+/// # Errors
+///
+/// As `RingBuffer::retain`.
+pub fn retain<T: Drop, R: RingBuffer<T>, F: FnMut(&T) -> bool>(
+    ring: &mut R,
+    keep: F,
+) -> Result<(), T>
+    requires { F.IsAlwaysCallable keep }
+    ensures filtered { OnOk result
+        (IsFiltered (CalledAt F.FnMut) keep (R.contents ring.old) (R.contents ring.new)) }
+    ensures value { OnOk result (ByMap (CalledAt F.FnMut) keep
+        (λ keeps. R.contents ring.new ≡ filter keeps (R.contents ring.old))) }
+    ensures refused { IfErr result
+        (FiltersPart (CalledAt F.FnMut) keep (R.contents ring.old) (R.contents ring.new)) }
+    ensures succeeds { IsSome (R.limit ring.old) → IsOk result }
+    ensures limit { R.limit ring.new ≡ R.limit ring.old }
+    ensures changes { Counts R.limit R.contents R.slot_changes ring.old ring.new (length (R.contents ring.new)) }
+{
+    ring.retain(keep)
 }

@@ -11,7 +11,11 @@ use crate::ring::RingBuffer;
 use std::alloc::{AllocError, Global};
 
 /// Moves the oldest items, as many as `count` says, into the memory of an empty vector.
-fn move_oldest<T: Drop, R: RingBuffer<T>>(ring: &mut R, count: usize, items: Vec<T>) -> Vec<T>
+pub(crate) fn move_oldest<T: Drop, R: RingBuffer<T>>(
+    ring: &mut R,
+    count: usize,
+    items: Vec<T>,
+) -> Vec<T>
     requires within { count ≤ length (R.contents ring.old) }
     requires empty { items.items ≡ [] }
     requires room { vec_len items + count ≤ vec_capacity items }
@@ -29,7 +33,11 @@ fn move_oldest<T: Drop, R: RingBuffer<T>>(ring: &mut R, count: usize, items: Vec
 
 /// Moves the newest items, as many as `count` says, into the memory of an empty vector. They come newest first, and are
 /// reversed there, where no slot changes.
-fn move_newest<T: Drop, R: DoubleEndedRing<T>>(ring: &mut R, count: usize, items: Vec<T>) -> Vec<T>
+pub(crate) fn move_newest<T: Drop, R: DoubleEndedRing<T>>(
+    ring: &mut R,
+    count: usize,
+    items: Vec<T>,
+) -> Vec<T>
     requires within { count ≤ length (R.contents ring.old) }
     requires empty { items.items ≡ [] }
     requires room { vec_len items + count ≤ vec_capacity items }
@@ -46,40 +54,6 @@ fn move_newest<T: Drop, R: DoubleEndedRing<T>>(ring: &mut R, count: usize, items
     }
     items.reverse();
     items
-}
-
-/// Takes out all items, oldest first, in new memory.
-pub(crate) fn take_all<T: Drop, R: RingBuffer<T>>(
-    ring: &mut R,
-    alloc: Global,
-) -> Result<Vec<T>, AllocError>
-    ensures taken { IfOk result (λ v. v.items ≡ R.contents ring.old) }
-    ensures emptied { OnOk result (R.contents ring.new ≡ []) }
-    ensures refused { OnErr result (ring.new ≡ ring.old) }
-    ensures limit { R.limit ring.new ≡ R.limit ring.old }
-    ensures changes { Counts R.limit R.contents R.slot_changes ring.old ring.new 0 }
-{
-    let len = ring.len();
-    let items = Vec::with_capacity(alloc, len)?;
-    Ok(move_oldest(ring, len, items))
-}
-
-/// Takes out the items from an index on, in new memory.
-pub(crate) fn split_off<T: Drop, R: DoubleEndedRing<T>>(
-    ring: &mut R,
-    at: usize,
-    alloc: Global,
-) -> Result<Vec<T>, AllocError>
-    requires { at ≤ length (R.contents ring.old) }
-    ensures taken { IfOk result (λ v. v.items ≡ drop at (R.contents ring.old)) }
-    ensures rest { OnOk result (R.contents ring.new ≡ take at (R.contents ring.old)) }
-    ensures refused { OnErr result (ring.new ≡ ring.old) }
-    ensures limit { R.limit ring.new ≡ R.limit ring.old }
-    ensures changes { Counts R.limit R.contents R.slot_changes ring.old ring.new 0 }
-{
-    let count = ring.len() - at;
-    let items = Vec::with_capacity(alloc, count)?;
-    Ok(move_newest(ring, count, items))
 }
 
 /// Takes out the items from `start` up to `end`, in new memory. Rotates by the fewer of the items before and after, which

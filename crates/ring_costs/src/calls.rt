@@ -7,6 +7,7 @@ use crate::blocks::{
 use crate::case::Case;
 use crate::item::Item;
 use crate::ring::Measured;
+use crate::whole::{clone, clone_into, eq, eq_slice, found, to_vec};
 use ringbuffer::{RingBufferIterator, partition_point};
 use std::alloc::{AllocError, Global};
 
@@ -58,12 +59,6 @@ pub fn repeat<T: Item, R: Measured<T> + Drop>(
         "keep_newest_in" => keep_newest_in(ring, items, case.held, times),
         _ => 0,
     })
-}
-
-/// Returns the number of an item, if there is one.
-#[inline]
-fn found<T: Item>(item: Option<T>) -> u64 {
-    item.map_or(0, |item| item.number())
 }
 
 #[inline(never)]
@@ -194,75 +189,6 @@ fn iter<T: Item, R: Measured<T>>(ring: &R, times: u32) -> u64 {
         for item in RingBufferIterator::new(ring) {
             sum = sum.rotate_left(1) ^ item.number();
         }
-    }
-    sum
-}
-
-#[inline(never)]
-fn to_vec<T: Item, R: Measured<T>>(alloc: Global, ring: &R, times: u32) -> u64 {
-    let mut sum = 0u64;
-    for _ in 0..times {
-        if let Ok(items) = ring.to_vec(alloc) {
-            sum = sum.wrapping_add(items.len() as u64);
-        }
-    }
-    sum
-}
-
-#[inline(never)]
-fn clone<T: Item, R: Measured<T> + Drop>(ring: &R, times: u32) -> u64 {
-    let mut sum = 0u64;
-    for _ in 0..times {
-        if let Ok(other) = ring.clone() {
-            sum = sum.wrapping_add(found(other.back().copied()));
-        }
-    }
-    sum
-}
-
-#[inline(never)]
-fn clone_into<T: Item, R: Measured<T> + Drop>(ring: &R, times: u32) -> u64 {
-    let Ok(mut other) = ring.clone() else {
-        return 0;
-    };
-    let mut sum = 0u64;
-    for _ in 0..times {
-        if other.capacity() >= ring.len() {
-            sum = sum.wrapping_add(u64::from(ring.clone_into(&mut other).is_ok()));
-            sum ^= found(other.back().copied());
-        }
-    }
-    sum
-}
-
-#[inline(never)]
-fn eq<T: Item, R: Measured<T> + Drop>(ring: &R, times: u32) -> u64 {
-    let Ok(mut other) = ring.clone() else {
-        return 0;
-    };
-    let mut sum = 0u64;
-    // The newest item changes between two calls, so that none can be left out.
-    for number in 0..times {
-        if let Some(newest) = other.back_mut() {
-            *newest = T::numbered(u64::from(number));
-        }
-        sum = sum.wrapping_add(u64::from(*ring == other));
-    }
-    sum
-}
-
-#[inline(never)]
-fn eq_slice<T: Item, R: Measured<T>>(alloc: Global, ring: &R, times: u32) -> u64 {
-    let Ok(mut items) = ring.to_vec(alloc) else {
-        return 0;
-    };
-    let mut sum = 0u64;
-    // The newest item changes between two calls, so that none can be left out.
-    for number in 0..times {
-        if let Some(newest) = items.last_mut() {
-            *newest = T::numbered(u64::from(number));
-        }
-        sum = sum.wrapping_add(u64::from(ring.eq_slice(&items)));
     }
     sum
 }

@@ -1,7 +1,9 @@
-//! Items of one, eight and 64 bytes.
+//! Items of one, eight, 16 and 64 bytes.
+
+use std::hash::Hash;
 
 /// An item that is made of a number, and has one.
-pub trait Item: Copy + Clone + PartialEq + Drop {
+pub trait Item: Copy + Clone + Ord + Hash + Drop {
     fn numbered(number: u64) -> Self;
 
     fn number(&self) -> u64;
@@ -40,5 +42,17 @@ impl Item for [u64; 8] {
     #[inline]
     fn number(&self) -> u64 {
         self[7]
+    }
+}
+
+impl Item for [u64; 2] {
+    #[inline]
+    fn numbered(number: u64) -> [u64; 2] {
+        [number; 2]
+    }
+
+    #[inline]
+    fn number(&self) -> u64 {
+        self[1]
     }
 }

@@ -9,7 +9,9 @@ mod bytes;
 mod calls;
 mod case;
 mod item;
+mod more;
 mod ring;
+mod whole;
 mod windows;
 
 use case::Case;
@@ -50,13 +52,25 @@ fn run(alloc: Global, ring: &str, item: &str, case: Case<'_>) -> Result<u64, All
     match (ring, item) {
         ("window", kind) => windows::slide(alloc, kind, case),
         (_, "u8") if bytes::has(case.call) => on_bytes(alloc, ring, case),
+        (_, "b16") => of_pairs(alloc, ring, case),
         ("array1000", item) => in_array(alloc, item, case),
         ("copy1000", item) => in_plain_array(alloc, item, case),
         ("heap1000", "u8") => by(alloc, AllocRingBuffer::<u8>::new(alloc, 1000)?, case),
         ("heap1000", "u64") => by(alloc, AllocRingBuffer::<u64>::new(alloc, 1000)?, case),
         ("heap1000", _) => by(alloc, AllocRingBuffer::<[u64; 8]>::new(alloc, 1000)?, case),
         (_, "u8") => by(alloc, GrowableAllocRingBuffer::<u8>::new(alloc), case),
+        (_, "b64") => by(alloc, GrowableAllocRingBuffer::<[u64; 8]>::new(alloc), case),
         _ => by(alloc, GrowableAllocRingBuffer::<u64>::new(alloc), case),
+    }
+}
+
+/// Makes the calls on a ring of items of 16 bytes.
+fn of_pairs(alloc: Global, ring: &str, case: Case<'_>) -> Result<u64, AllocError> {
+    match ring {
+        "array1000" => more::by(alloc, ConstGenericRingBuffer::<[u64; 2], 1000>::new(), case),
+        "copy1000" => more::by(alloc, CopyRingBuffer::<[u64; 2], 1000>::new([0; 2]), case),
+        "heap1000" => more::by(alloc, AllocRingBuffer::<[u64; 2]>::new(alloc, 1000)?, case),
+        _ => more::by(alloc, GrowableAllocRingBuffer::<[u64; 2]>::new(alloc), case),
     }
 }
 
@@ -82,6 +96,7 @@ fn in_plain_array(alloc: Global, item: &str, case: Case<'_>) -> Result<u64, Allo
 fn on_bytes(alloc: Global, ring: &str, case: Case<'_>) -> Result<u64, AllocError> {
     match ring {
         "log_heap1000" => bytes::log(alloc, AllocRingBuffer::<u8>::new(alloc, 1000)?, case),
+        "log_copy1000" => bytes::log(alloc, CopyRingBuffer::<u8, 1000>::new(0), case),
         "log_array1000" => bytes::log(alloc, ConstGenericRingBuffer::<u8, 1000>::new(), case),
         "array1000" => bytes::by(alloc, ConstGenericRingBuffer::<u8, 1000>::new(), case),
         "copy1000" => bytes::by(alloc, CopyRingBuffer::<u8, 1000>::new(0), case),

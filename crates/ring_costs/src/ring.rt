@@ -3,11 +3,13 @@
 use crate::item::Item;
 use ringbuffer::{
     AllocRingBuffer, ConstGenericRingBuffer, CopyRingBuffer, DoubleEndedRing, FixedRing,
-    GrowableAllocRingBuffer, TakesCopies,
+    GrowableAllocRingBuffer, RingBuffer, TakesCopies,
 };
+use std::alloc::Global;
+use std::hash::Hash;
 
 /// A ring whose calls are counted.
-pub trait Measured<T: Item>: DoubleEndedRing<T> + Clone + PartialEq + Contiguous {
+pub trait Measured<T: Item>: DoubleEndedRing<T> + Clone + PartialOrd + Hash + Particular {
     /// Copies the oldest items to a slice, and returns how many.
     fn copy(&self, output: &mut [T]) -> usize;
 
@@ -16,17 +18,30 @@ pub trait Measured<T: Item>: DoubleEndedRing<T> + Clone + PartialEq + Contiguous
 
     /// Takes out the oldest items into a slice, and returns how many.
     fn take(&mut self, output: &mut [T]) -> usize;
+
+    /// Copies all items into new memory, and returns how many.
+    fn copies(&self, alloc: Global) -> usize;
 }
 
-/// A ring whose items can be made one slice, if it can lend one.
-pub trait Contiguous {
-    /// Makes the items one slice, where the ring can lend one, and returns the number of its last item.
-    fn contiguous(&mut self) -> u64;
+/// What only some rings can do. The others do nothing.
+pub trait Particular: Sized {
+    /// Makes the items one slice, and returns the number of its last item.
+    fn contiguous(&mut self) -> u64 {
+        0
+    }
+
+    /// Puts copies of the items in place of those of another ring, and returns how many.
+    fn copy_onto(&self, _other: &mut Self) -> u64 {
+        0
+    }
+
+    /// Moves the items into memory for another capacity.
+    fn resize(&mut self, _capacity: usize) {}
 }
 
 impl<T: Item, S: TakesCopies<T>> Measured<T> for FixedRing<T, S>
 where
-    FixedRing<T, S>: Clone + Contiguous,
+    FixedRing<T, S>: Clone + Particular,
 {
     #[inline]
     fn copy(&self, output: &mut [T]) -> usize {
@@ -41,6 +56,10 @@ where
     #[inline]
     fn take(&mut self, output: &mut [T]) -> usize {
         self.dequeue_into(output)
+    }
+
+    fn copies(&self, alloc: Global) -> usize {
+        self.to_vec_copied(alloc).map_or(0, |items| items.len())
     }
 }
 
@@ -59,33 +78,48 @@ impl<T: Item> Measured<T> for GrowableAllocRingBuffer<T> {
     fn take(&mut self, output: &mut [T]) -> usize {
         self.dequeue_into(output)
     }
-}
 
-impl<T: Item, const CAP: usize> Contiguous for ConstGenericRingBuffer<T, CAP> {
-    #[inline]
-    fn contiguous(&mut self) -> u64 {
-        0
+    fn copies(&self, alloc: Global) -> usize {
+        self.to_vec_copied(alloc).map_or(0, |items| items.len())
     }
 }
 
-impl<T: Item, const CAP: usize> Contiguous for CopyRingBuffer<T, CAP> {
+impl<T: Item, const CAP: usize> Particular for ConstGenericRingBuffer<T, CAP> {}
+
+impl<T: Item, const CAP: usize> Particular for CopyRingBuffer<T, CAP> {
     #[inline]
     fn contiguous(&mut self) -> u64 {
         last_number(self.make_contiguous())
     }
+
+    fn copy_onto(&self, other: &mut Self) -> u64 {
+        self.copy_into(other);
+        other.len() as u64
+    }
 }
 
-impl<T: Item> Contiguous for AllocRingBuffer<T> {
+impl<T: Item> Particular for AllocRingBuffer<T> {
     #[inline]
     fn contiguous(&mut self) -> u64 {
         last_number(self.make_contiguous())
     }
+
+    fn resize(&mut self, capacity: usize) {
+        if 0 < capacity {
+            let _ = self.set_capacity(capacity);
+        }
+    }
 }
 
-impl<T: Item> Contiguous for GrowableAllocRingBuffer<T> {
+impl<T: Item> Particular for GrowableAllocRingBuffer<T> {
     #[inline]
     fn contiguous(&mut self) -> u64 {
         last_number(self.make_contiguous())
+    }
+
+    fn copy_onto(&self, other: &mut Self) -> u64 {
+        let _ = self.copy_into(other);
+        other.len() as u64
     }
 }
 

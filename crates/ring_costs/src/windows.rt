@@ -4,9 +4,9 @@ use crate::case::Case;
 use ringbuffer::RingBuffer;
 use std::alloc::{AllocError, Global};
 use window::{
-    AllocWindowFloatSum, AllocWindowFold, AllocWindowMin, AllocWindowSum, Candidate,
-    ConstGenericWindowFloatSum, ConstGenericWindowMin, ConstGenericWindowSum, Gcd, Kept, Order,
-    Summand, WindowFloatSum, WindowFold, WindowLeast, WindowSum,
+    AllocWindowFloatSum, AllocWindowFold, AllocWindowMin, AllocWindowSum, AllocWindowTime,
+    Candidate, ConstGenericWindowFloatSum, ConstGenericWindowMin, ConstGenericWindowSum, Gcd, Kept,
+    Order, Stamped, Summand, WindowFloatSum, WindowFold, WindowLeast, WindowSum, WindowTime,
 };
 
 /// Slides the window that a case names over a random walk, and returns what it found, as a number.
@@ -31,6 +31,13 @@ pub fn slide(alloc: Global, kind: &str, case: Case<'_>) -> Result<u64, AllocErro
             &mut ConstGenericWindowMin::<i64, 1000>::in_array(),
             case.times,
         ),
+        ("heap", "time") => {
+            let half = (capacity / 2) as u64;
+            time(
+                &mut AllocWindowTime::on_heap(alloc, capacity, half.saturating_mul(5))?,
+                (capacity as u64).saturating_add(u64::from(case.times)),
+            )
+        }
         ("heap", "fold") => fold(
             &mut AllocWindowFold::<Gcd>::on_heap(alloc, capacity)?,
             case.times,
@@ -82,6 +89,21 @@ fn least<O: Order<i64>, R: RingBuffer<Candidate<i64>>>(
         number = next(number);
         let _ = window.push((number >> 40) as i64);
         found ^= window.least().map_or(0, |least| least.cast_unsigned());
+    }
+    found
+}
+
+// The window is filled before. It holds about half as many items as its ring can.
+#[inline(never)]
+fn time<R: RingBuffer<Stamped<u64>>>(window: &mut WindowTime<u64, R>, pushes: u64) -> u64 {
+    let mut number = 7;
+    let mut stamp = 0u64;
+    let mut found = 0u64;
+    for _ in 0..pushes {
+        number = next(number);
+        stamp = stamp.wrapping_add((number >> 40) % 11);
+        let _ = window.push(stamp, number);
+        found ^= window.len() as u64;
     }
     found
 }

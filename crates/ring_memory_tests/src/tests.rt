@@ -3,12 +3,12 @@
 //! A test is a method of a trait that the ring types implement, or a function that is generic over the ring. A macro of
 //! `ring_test_support` calls it on a new ring of each type.
 
-mod both_ends;
 mod dropping;
 mod memory;
 mod own;
 mod refused;
 mod slots;
+mod spared;
 mod starved;
 
 use ring_test_support::counted::{Counted, Supply};
@@ -117,4 +117,16 @@ fn assert_numbered<'a, R: RingBuffer<Counted<'a>>>(rt: &impl Abort, ring: &R, fi
 fn assert_three<'a, R: RingBuffer<Counted<'a>>>(rt: &impl Abort, ring: &R, first: usize) {
     assert_equal(rt, ring.len(), 3);
     assert_numbered(rt, ring, first);
+}
+
+/// Asserts that the ring holds `count` numbers, from `first` on.
+fn assert_numbers<R: RingBuffer<u64>>(rt: &impl Abort, ring: &R, first: u64, count: usize) {
+    assert_equal(rt, ring.len(), count);
+    let mut number = first;
+    for i in 0..count {
+        if ring.get(i) != Some(&number) {
+            panic!(rt; "{i} items come before one of another number");
+        }
+        number = number.wrapping_add(1);
+    }
 }

@@ -1,5 +1,5 @@
 //! A run is a ring, and 1,024 calls of it that a seed draws. What the calls answer and what the ring then holds is summed
-//! up in a digest after every 64 of them, and compared with that of the Rust crate's ring, or of a `VecDeque` where that
+//! up in a digest after every 256 of them, and compared with that of the Rust crate's ring, or of a `VecDeque` where that
 //! crate is at fault or lacks the call (`bench/replay`).
 
 mod both_ends;
@@ -22,11 +22,9 @@ use ringbuffer::{
 };
 use runs::{Replays, ReplaysBytes, ReplaysCopies, Run};
 
-/// The capacities of heap rings and of growable rings.
-const CAPACITIES: &[usize] = &[
-    1, 2, 3, 4, 5, 6, 7, 8, 9, 10, 11, 12, 13, 14, 15, 16, 17, 20, 25, 31, 32, 33, 50, 64, 65, 100,
-    127, 128, 129, 200, 255, 256, 299, 300,
-];
+/// The capacities of heap rings and of growable rings. Those of arrays are fewer, since each is code of its own: the longest
+/// rings hold from none to more items than any choice that lengths make.
+const CAPACITIES: &[usize] = &[1, 2, 3, 4, 5, 7, 8, 9, 12, 13, 16, 17, 32, 33, 100, 300];
 
 /// Plays runs on array rings of these capacities.
 macro_rules! on_arrays {
@@ -36,27 +34,22 @@ macro_rules! on_arrays {
     )*};
 }
 
-/// Plays the runs of array rings once more, on rings of plain items of the same capacities.
+/// Plays runs on rings of plain items of these capacities, which are those of array rings.
 macro_rules! replay_plain {
-    ($rt:expr, $items:literal, $first:literal, $replay:ident, $type:ty) => {
+    ($rt:expr, $items:literal, $first:literal, $replay:ident, $type:ty, $($capacity:literal)*) => {
         let mut run = Run::before($first, $items);
-        on_plain!($rt, run, $replay, $type, 1 2 3 4 5 7 8 16 31 64 100 300);
+        $(
+            run = run.next("CopyRingBuffer", $capacity);
+            CopyRingBuffer::<$type, $capacity>::default().$replay($rt, Values, run);
+        )*
     };
 }
 
-/// Plays runs on rings of plain items of these capacities.
-macro_rules! on_plain {
-    ($rt:expr, $run:ident, $replay:ident, $type:ty, $($capacity:literal)*) => {$(
-        $run = $run.next("CopyRingBuffer", $capacity);
-        CopyRingBuffer::<$type, $capacity>::default().$replay($rt, Values, $run);
-    )*};
-}
-
-/// Plays the runs of a kind of items.
+/// Plays the runs of a kind of items, on array rings of these capacities.
 macro_rules! replay_all {
-    ($rt:expr, $items:literal, $first:literal, $replay:ident, $type:ty, $maker:expr) => {
+    ($rt:expr, $items:literal, $first:literal, $replay:ident, $type:ty, $maker:expr, $($capacity:literal)*) => {
         let mut run = Run::before($first, $items);
-        on_arrays!($rt, run, $replay, $type, $maker, 1 2 3 4 5 7 8 16 31 64 100 300);
+        on_arrays!($rt, run, $replay, $type, $maker, $($capacity)*);
         for capacity in CAPACITIES {
             assert!($rt; 0 < *capacity);
             run = run.next("AllocRingBuffer", *capacity);
@@ -73,46 +66,46 @@ macro_rules! replay_all {
 
 #[test]
 fn rings_of_numbers(rt: HostRuntime) {
-    replay_all!(&rt, "u64", 0, replay_copies, u64, Values);
+    replay_all!(&rt, "u64", 0, replay_copies, u64, Values, 1 3 8 13 33 300);
 }
 
 #[test]
 fn rings_of_nothings(rt: HostRuntime) {
-    replay_all!(&rt, "()", 80, replay_copies, (), Values);
+    replay_all!(&rt, "()", 38, replay_copies, (), Values, 1 3 8);
 }
 
 #[test]
 fn rings_of_wide_items(rt: HostRuntime) {
-    replay_all!(&rt, "320 bytes", 160, replay_copies, Wide, Values);
+    replay_all!(&rt, "320 bytes", 73, replay_copies, Wide, Values, 1 3 8 33);
 }
 
 #[test]
 fn rings_of_counted_items(rt: HostRuntime) {
     let tally = Tally::new();
-    replay_all!(&rt, "counted", 240, replay, Counted<'_>, &tally);
+    replay_all!(&rt, "counted", 109, replay, Counted<'_>, &tally, 1 3 8 13 33);
 }
 
 #[test]
 fn rings_of_bytes(rt: HostRuntime) {
-    replay_all!(&rt, "u8", 320, replay_bytes, u8, Values);
+    replay_all!(&rt, "u8", 146, replay_bytes, u8, Values, 1 8 33 300);
 }
 
 #[test]
 fn plain_rings_of_numbers(rt: HostRuntime) {
-    replay_plain!(&rt, "u64", 0, replay_copies, u64);
+    replay_plain!(&rt, "u64", 0, replay_copies, u64, 1 3 8 13 33 300);
 }
 
 #[test]
 fn plain_rings_of_nothings(rt: HostRuntime) {
-    replay_plain!(&rt, "()", 80, replay_copies, ());
+    replay_plain!(&rt, "()", 38, replay_copies, (), 1 3 8);
 }
 
 #[test]
 fn plain_rings_of_wide_items(rt: HostRuntime) {
-    replay_plain!(&rt, "320 bytes", 160, replay_copies, Wide);
+    replay_plain!(&rt, "320 bytes", 73, replay_copies, Wide, 1 3 8 33);
 }
 
 #[test]
 fn plain_rings_of_bytes(rt: HostRuntime) {
-    replay_plain!(&rt, "u8", 320, replay_bytes, u8);
+    replay_plain!(&rt, "u8", 146, replay_bytes, u8, 1 8 33 300);
 }

@@ -1,4 +1,5 @@
-//! A full cell's item, where it lies.
+//! A full cell's item, where it lies. This compiler gives each `Option` a mark of its own, and never a niche in its item; the
+//! offset rests on that, and `proofs/FullCell.antt` proves it.
 ghost use Rattle.std.specs.Prelude.{◌≡◌, IsSome, None, Some};
 ghost use Rattle.std.specs.Borrow.{sem};
 ghost use Rattle.ring_slots.specs.full.Lends.{lends_item};

@@ -24,7 +24,7 @@ const GREATEST_POWER_OF_TWO: usize = 1 << (usize::BITS - 1);
 /// They aren't dropped: slots end by `free`, which asks that all of them are empty, and in no other way.
 ///
 /// A contract sees what each slot holds, and how many changes the slots have had. That count takes no bytes, begins at
-/// 0, and rises by the calls of `RingSlots` and `LendsRows` and by `put_copies` alone; `count_anew` begins it again.
+/// 0, and rises by the calls of `RingSlots` and `LendsRows` and by `put_copies` alone.
 pub struct HeapSlots<T> {
     ptr: *mut T,
     // The number of slots less one, which is the mask of their places.
@@ -105,13 +105,6 @@ impl<T> HeapSlots<T> {
         self.changes = self.changes.after(items.len());
         let size = HeapSlots::size(self);
         self.owner.copy_in(self.ptr, size, from, items);
-    }
-
-    /// Counts the changes of the slots from 0 again.
-    pub fn count_anew(&mut self)
-        ensures { self.new ≡ record self.old { changes = 0 } }
-    {
-        self.changes = ChangeCount::new();
     }
 
     /// Returns the number of slots.

@@ -39,7 +39,7 @@ pub(crate) fn pass_down<X>(items: &mut [X], item: X) -> X
     pass_piece_down(items, item)
 }
 
-/// Does what `pass_down` does, piece by piece, the last first. Out of line, so that few items pay for a look at their
+/// Moves the items down by one place piece by piece, the last first. Out of line, so that few items pay for a look at their
 /// number alone.
 #[inline(never)]
 fn pass_pieces_down<X>(items: &mut [X], piece: usize, item: X) -> X
@@ -56,7 +56,7 @@ fn pass_pieces_down<X>(items: &mut [X], piece: usize, item: X) -> X
     pass_piece_down(&mut items[..end], passed)
 }
 
-/// Does what `pass_down` does, by a rotation.
+/// Moves the items down by one place by a rotation.
 #[inline]
 fn pass_piece_down<X>(items: &mut [X], item: X) -> X
     ensures { passed_down item result items.old items.new }

@@ -58,6 +58,16 @@ impl Supply {
         })
     }
 
+    /// Returns the next item, and one that isn't counted where there is none.
+    pub fn more(&self) -> Counted<'_> {
+        let number = self.given.get();
+        self.given.set(number.saturating_add(1));
+        Counted {
+            number,
+            supply: self,
+        }
+    }
+
     /// Returns how many items were given out, clones among them.
     pub fn given(&self) -> usize {
         self.given.get()
@@ -98,7 +108,8 @@ impl Supply {
     }
 }
 
-/// An item that knows its number, and counts its drop. Its clone is the next item of its supply.
+/// An item that knows its number, and counts its drop. Its clone is the next item of its supply, or is refused once where there
+/// is none.
 pub struct Counted<'a> {
     pub number: usize,
     supply: &'a Supply,
@@ -116,6 +127,13 @@ impl Drop for Counted<'_> {
 
 impl<'a> Clone for Counted<'a> {
     fn clone(&self) -> Result<Counted<'a>, AllocError> {
-        self.supply.next().ok_or(AllocError)
+        match self.supply.next() {
+            Some(item) => Ok(item),
+            None => {
+                // Who asks again is given one.
+                self.supply.most.set(usize::MAX);
+                Err(AllocError)
+            }
+        }
     }
 }

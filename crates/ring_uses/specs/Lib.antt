@@ -3,7 +3,5 @@ pub mod Events
 pub mod Jobs
 pub mod Log
 pub mod Readings
-pub mod Series
 pub mod Signal
 pub mod States
-pub mod Survivors

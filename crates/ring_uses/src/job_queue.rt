@@ -57,19 +57,6 @@ impl<T: Drop> JobQueue<T> {
         self.jobs.try_push(job)
     }
 
-    /// Takes in a job before all others.
-    ///
-    /// # Errors
-    ///
-    /// Hands the job back if the queue is full, which stays as it was.
-    pub fn submit_first(&mut self, job: T) -> Result<(), T>
-        ensures taken { OnOk result (self.new ≡ record self.old { jobs = job ∷ self.old.jobs }) }
-        ensures refused { IfErr result (λ back. (back ≡ job) × (self.new ≡ self.old)) }
-        ensures full { IsErr result ↔ (length self.old.jobs ≡ self.old.most) }
-    {
-        self.jobs.insert(0, job)
-    }
-
     /// Takes out the next job.
     pub fn next(&mut self) -> Option<T>
         ensures job { result ≡ slice_get self.old.jobs 0 }

@@ -1,8 +1,8 @@
-//! A pipe of bytes.
+//! A pipe of bytes, and a copy through it.
 
-ghost use Rattle.std.specs.Prelude.{◌≡◌, ◌-◌, ◌<◌, ◌≤◌, [], ◌++◌, IfOk, drop, length, min, take};
+ghost use Rattle.std.specs.Prelude.{◌≡◌, ℕ, ◌+◌, ◌-◌, ◌<◌, ◌≤◌, [], ◌++◌, IfOk, IfSome, IsNone, None, OnErr, OnOk, Some, drop, length, min, nat_eq, position, take};
 
-use ringbuffer::AllocRingBuffer;
+use ringbuffer::{AllocRingBuffer, DoubleEndedRingExt, RingBufferExt};
 use std::alloc::{AllocError, Global};
 use std::io::{Read, Write};
 use std::marker::Model;
@@ -47,14 +47,6 @@ impl Pipe {
         self.bytes.write(input).unwrap_or(0)
     }
 
-    /// Copies the oldest bytes, as many as there are places for, and returns how many. They stay on their way.
-    pub fn peek(&self, output: &mut [u8]) -> usize
-        ensures count { result ≡ min (length output.old) (length self.now.bytes) }
-        ensures seen { output.new ≡ take result self.now.bytes ++ drop result output.old }
-    {
-        self.bytes.copy_to_slice(output)
-    }
-
     /// Hands out the oldest bytes, as many as there are places for, and returns how many. The other places stay.
     pub fn send(&mut self, output: &mut [u8]) -> usize
         ensures count { result ≡ min (length output.old) (length self.old.bytes) }
@@ -62,5 +54,41 @@ impl Pipe {
         ensures rest { self.new ≡ record self.old { bytes = drop result self.old.bytes } }
     {
         self.bytes.read(output).unwrap_or(0)
+    }
+
+    /// Takes out the next line with its end, or returns `None` while none has come in whole.
+    ///
+    /// # Errors
+    ///
+    /// Where memory was refused. The line stays.
+    pub fn next_line(&mut self, alloc: Global) -> Result<Option<Vec<u8>>, AllocError>
+        ensures line { (i : ℕ) → position (λ byte. nat_eq byte 10) self.old.bytes ≡ Some i
+            → IfOk result (λ next. IfSome next (λ line. line.items ≡ take (i + 1) self.old.bytes)) }
+        ensures rest { (i : ℕ) → position (λ byte. nat_eq byte 10) self.old.bytes ≡ Some i
+            → OnOk result (self.new ≡ record self.old { bytes = drop (i + 1) self.old.bytes }) }
+        ensures none { position (λ byte. nat_eq byte 10) self.old.bytes ≡ None
+            → IfOk result (λ next. IsNone next × (self.new ≡ self.old)) }
+        ensures refused { OnErr result (self.new ≡ self.old) }
+    {
+        let Some(end) = self.bytes.iter().position(|byte| *byte == b'\n') else {
+            return Ok(None);
+        };
+        Ok(Some(self.bytes.drain_range(..=end, alloc)?))
+    }
+}
+
+/// Copies `input` to `output` through an empty pipe, a part at a time.
+pub fn relay(pipe: &mut Pipe, input: &[u8], output: &mut [u8])
+    requires capacity { 0 < pipe.old.capacity }
+    requires empty { pipe.old.bytes ≡ [] }
+    requires places { length output.old ≡ length input.now }
+    ensures copied { output.new ≡ input.now }
+    ensures empty { pipe.new.bytes ≡ [] }
+{
+    let mut received = 0;
+    let mut sent = 0;
+    while sent < output.len() {
+        received += pipe.receive(&input[received..]);
+        sent += pipe.send(&mut output[sent..]);
     }
 }

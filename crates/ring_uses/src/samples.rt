@@ -39,13 +39,6 @@ impl SampleBuffer {
         Ok(SampleBuffer { samples, rate })
     }
 
-    /// Returns how many samples come in a second.
-    pub fn rate(&self) -> u32
-        ensures { result ≡ self.now.rate }
-    {
-        self.rate
-    }
-
     /// Takes in a sample. A full buffer forgets its oldest one.
     pub fn record(&mut self, sample: i32)
         ensures { self.new ≡ record self.old

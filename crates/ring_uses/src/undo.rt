@@ -73,12 +73,4 @@ impl<T: Drop> History<T> {
         self.states
             .truncate(self.states.len().saturating_sub(count));
     }
-
-    /// Drops all states but the newest `count`.
-    pub fn forget_all_but(&mut self, count: usize)
-        ensures { self.new
-            ≡ record self.old { states = keep_last (Some count) self.old.states } }
-    {
-        self.states.keep_newest(count);
-    }
 }

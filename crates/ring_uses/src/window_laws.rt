@@ -9,9 +9,7 @@ ghost use Rattle.window.specs.Least.{AtMost};
 ghost use Rattle.window.specs.Sums.{total};
 
 use ringbuffer::RingBuffer;
-use window::{
-    Candidate, Stamped, Summand, WindowFloatSum, WindowMax, WindowMin, WindowSum, WindowTime,
-};
+use window::{Candidate, Stamped, Summand, WindowFloatSum, WindowMax, WindowSum, WindowTime};
 
 /// Returns the greatest item: one that the window holds, which none is above.
 pub fn greatest<T: Ord + Drop, R: RingBuffer<Candidate<T>>>(items: &WindowMax<T, R>) -> Option<&T>
@@ -19,14 +17,6 @@ pub fn greatest<T: Ord + Drop, R: RingBuffer<Candidate<T>>>(items: &WindowMax<T,
     ensures none_above { IfSome result (λ x. All (λ y. AtMost T.cmp y x.now) items.now.contents) }
 {
     items.max()
-}
-
-/// Returns the least item: one that the window holds, which none is below.
-pub fn least<T: Ord + Drop, R: RingBuffer<Candidate<T>>>(items: &WindowMin<T, R>) -> Option<&T>
-    ensures held { IfSome result (λ x. Contains items.now.contents x.now) }
-    ensures none_below { IfSome result (λ x. All (AtMost T.cmp x.now) items.now.contents) }
-{
-    items.min()
 }
 
 /// Takes in a sample. Returns the sum, which is that before and the sample, less the one that gave way.

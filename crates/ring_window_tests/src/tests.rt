@@ -3,7 +3,7 @@
 mod answers;
 mod counted;
 mod floats;
-mod least;
+mod held;
 mod random_calls;
 mod refused;
 mod summed;

@@ -1,6 +1,5 @@
 -- What lists and stretches of full slots hold, read from the front, copied item by item, and compared pair by pair.
-use Rattle.ringbuffer.proofs.Words.{length-take, slice_get-drop, set, clone_out, nat_tests, add-one, option_to_list, take-suc_get, ◌≡◌, ℕ, ◌+◌, ◌<◌, ◌≤◌, false, true, zero, min, List, [], ◌∷◌, ◌++◌, Bool, ◌&&◌, length, length-drop, take, take-append-drop, drop, drop-drop, get_or, nat_eq, Option, None, Some, IsSome, refl, sym, subst, ap, ◌∙◌, suc, arith, drop-length, slice_get, pointwise, HoldsStretch, IsFullStretch, drop_more, common_prefix_len-le, get_or_from_slice_get, slice_get_within, common_prefix_len}
-use Prim.Native.Nat.compare
+use Rattle.ringbuffer.proofs.Words.{length-take, slice_get-drop, set, clone_out, nat_tests, add-one, option_to_list, take-suc_get, ◌≡◌, ℕ, ◌+◌, ◌<◌, ◌≤◌, false, true, zero, min, List, [], ◌∷◌, ◌++◌, Bool, ◌&&◌, length, length-drop, take, take-append-drop, drop, drop-drop, get_or, nat_eq, Option, None, Some, IsSome, refl, sym, subst, ap, ◌∙◌, suc, arith, drop-length, slice_get, pointwise, HoldsStretch, IsFullStretch, drop_more, common_prefix_len-le, get_or_from_slice_get, slice_get_within, common_prefix_len, common_steps, list_any, list_any-append}
 use Rattle.std.proofs.Math.Bool.{and_assoc, cond}
 use Rattle.ringbuffer.proofs.LaysOut.{slice_get_some}
 use Rattle.ringbuffer.proofs.Stretches.{stretch_at, stretch_long}
@@ -108,3 +107,16 @@ module _ {X : Type 0} (eq : X → X → Bool) where
   pointwise_prefix [] (y ∷ ys) same = absurd (omega (arith, same))
   pointwise_prefix (x ∷ xs) [] same = absurd (omega (arith, same))
   pointwise_prefix (x ∷ xs) (y ∷ ys) same = grind (arith, nat_tests, pointwise_prefix xs ys (omega (arith, same)))
+
+-- where the next n pairs are equal, those after them decide
+pub pointwise-past : {A : Type 0} (eq : A → A → Bool) (xs ys : List A) (k n : ℕ) → length xs ≡ length ys
+    → pointwise eq (take n (drop k xs)) (take n (drop k ys)) ≡ true → pointwise eq (drop (k + n) xs) (drop (k + n) ys) ≡ pointwise eq (drop k xs) (drop k ys)
+pointwise-past eq xs ys k n long equal =
+    let vs = drop k xs in let ws = drop k ys in
+    let parts = pointwise-append eq (take n vs) (take n ws) (drop n vs) (drop n ws) (grind (arith, common_steps)) in
+    sym (rw (take-append-drop n vs, take-append-drop n ws, equal, drop-drop n k xs, drop-drop n k ys) at parts)
+
+-- where none of the next n items passes, those after them decide
+pub list_any-past : {A : Type 0} (p : A → Bool) (xs : List A) (k n : ℕ) → list_any p (take n (drop k xs)) ≡ false → list_any p (drop (k + n) xs) ≡ list_any p (drop k xs)
+list_any-past p xs k n none =
+    sym (rw (take-append-drop n (drop k xs), none, drop-drop n k xs) at (list_any-append p (take n (drop k xs)) (drop n (drop k xs))))

@@ -1,5 +1,6 @@
 -- Clones of lists' items: what a ring of a fixed capacity shows after they were pushed, and what two lists have together.
-use Rattle.ringbuffer.proofs.Words.{common_steps, ◌≡◌, ℕ, ◌+◌, ◌-◌, ◌<◌, ◌≤◌, List, ◌++◌, length, take, drop, Some, OnOk, MatchResult, Result, ap, arith, length-append, take-append-add, AllZip, AllZip-join, View, after_extend, keep_last, length_all_zip, equal_clones_pushed, ChangesSlots, MatchResult-weaker}
+use Rattle.ringbuffer.proofs.Words.{common_steps, ◌≡◌, ℕ, ◌+◌, ◌-◌, ◌<◌, ◌≤◌, List, ◌++◌, length, take, drop, Some, OnOk, MatchResult, Result, ap, arith, length-append, take-append-add, AllZip, AllZip-join, View, after_extend, keep_last, length_all_zip, equal_clones_fill, equal_clones_pushed, replicate, ChangesSlots, MatchResult-weaker, after_fill}
+use Rattle.ringbuffer.specs.Clones.{ClonesOne}
 
 module _ {X E : Type 0} (IsClone : X → X → Type 0) (limit : ℕ) (items : List X) (v w : View X) (P : Type 0) (r : Result (Unit {0}) E)
     (pushed : (over : ℕ) × (ys : List X) × (over ≤ length items - limit) × AllZip IsClone (take (length ys) (drop over items)) ys
@@ -15,6 +16,12 @@ module _ {X E : Type 0} (IsClone : X → X → Type 0) (limit : ℕ) (items : Li
   few_changes =
       let (over, ys, within, clones, done, is) = pushed in let all_cloned = length_all_zip IsClone (take (length ys) (drop over items)) ys clones in
       rw is (grind (arith, common_steps, all_cloned), grind (arith, common_steps, all_cloned))
+
+-- Clones of one item that each equal it fill a ring with that item.
+pub filled_with_item : {X E : Type 0} (is_clone : X → X → Type 0) (is_infallible : X → Type 0) (x : X) (n : ℕ) (v w : View X) (r : Result (Unit {0}) E)
+    → ClonesOne is_clone is_infallible x n r (λ xs. w ≡ after_fill v xs) → ((x y : X) → is_clone x y → y ≡ x) → OnOk r (w.items ≡ replicate n x)
+filled_with_item is_clone is_infallible x n v w r (xs, clones, long, is) same =
+    rw is (equal_clones_fill is_clone (Some n) x xs r clones (MatchResult-weaker r long (λ _ all. all) (λ _ _. tt)) same)
 
 -- A beginning of two lists is one of the first and one of the second, which is empty unless the first is whole.
 pub both_taken : {A : Type 0} (a b : ℕ) (xs ys : List A) → a ≤ length xs → (a < length xs → b ≡ 0) → take a xs ++ take b ys ≡ take (a + b) (xs ++ ys)

@@ -35,7 +35,7 @@ pub use Rattle.std.specs.Str.Iter.{chars_rest}
 pub use Rattle.std.specs.declared.iter.Iterator.{Ghosts}
 pub use Rattle.ring_slots.proofs.Filled.{filled-behind, get_or-map_some, length-filled, filled-before, filled-in}
 pub use Rattle.std.proofs.lemmas.Bool.{cases_Bool}
-pub use Rattle.ring_core.proofs.Cloned.{clone_out, equal_clones_pushed}
+pub use Rattle.ring_core.proofs.Cloned.{clone_out, equal_clones_fill, equal_clones_pushed}
 pub use Rattle.ringbuffer.specs.Pushing.{PushesOnto}
 pub use Rattle.std.specs.VecDeque.{deque_capacity, deque_len}
 pub use Rattle.std.proofs.lemmas.List.Folds.{list_any-append}

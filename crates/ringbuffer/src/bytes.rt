@@ -10,8 +10,7 @@ ghost use Rattle.ring_core.specs.Contents.{IsWithin};
 ghost use Rattle.ringbuffer.specs.View.{after_extend_from_slice, after_keep_newest, after_takes};
 ghost use Rattle.ringbuffer.specs.contracts.fixed.FixedRing.{the_row as fixed_row};
 
-use crate::extend_copies::TakesCopies;
-use crate::fixed::FixedRing;
+use crate::fixed::{FixedRing, TakesCopies};
 use crate::grow::GrowableAllocRingBuffer;
 use ring_core::RingBuffer;
 use ring_slots::RingSlots;

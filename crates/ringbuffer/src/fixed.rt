@@ -7,8 +7,27 @@ ghost use Rattle.ring_core.specs.Contents.{index_at};
 ghost use Rattle.ringbuffer.specs.View.{View, after_write};
 ghost use Rattle.ringbuffer.specs.Layout.{IsSound, view_from};
 
+mod by_stretch;
+mod clone_slices;
+mod clones;
+mod compare;
+mod contiguous;
+mod copies;
+mod ends;
+mod extend;
+mod fill;
+mod index;
+mod iter;
+mod retain;
+mod ring_buffer;
+mod rotate;
+mod slices;
+mod steps;
+
+pub use copies::TakesCopies;
 use ring_core::RingBuffer;
 use ring_slots::RingSlots;
+pub use slices::ShowsRows;
 use std::alloc::{AllocError, Global};
 use std::marker::{Model, PhantomData};
 use std::ops::{Index, IndexMut};
@@ -94,7 +113,7 @@ impl<T: Drop, S: RingSlots<T>> FixedRing<T, S> {
             .get(self.slots.place_branchless(self.span.start, index))
     }
 
-    /// Does what `at` does, for an index counted from the end, whose place takes fewer steps by a branch.
+    /// Returns the item at an index that was counted from the end, whose place takes fewer steps by a branch.
     #[inline]
     pub(crate) fn at_from_end(&self, index: usize) -> &T
         requires { index < length self.now.items }

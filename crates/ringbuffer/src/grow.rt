@@ -16,19 +16,14 @@ mod slices;
 
 use self::extend::pour;
 use self::fill::clones;
+use crate::few::{FEW_COMPARED, FEW_IN};
 use crate::position::{index_at, signed_index_at};
-use crate::two_slices::{clone_slices, clone_slices_into, equal_to_slice};
+use crate::two_slices::{clone_slices, clone_slices_into, equal_to_slice, is_in_slices};
 use ring_core::RingBuffer;
 use std::alloc::{AllocError, Global};
 use std::collections::VecDeque;
 use std::marker::Model;
 use std::mem;
-
-/// Fewer items go into the deque, and are compared, one at a time: a block costs some steps of its own.
-const FEW: usize = 16;
-
-/// Fewer items are popped straight to where they are copied: a copy of the slices costs some steps of its own.
-const FEW_OUT: usize = 8;
 
 /// As many small items, and more, leave the deque by rotations, which move a stretch at once.
 const MANY: usize = 32;
@@ -165,7 +160,7 @@ impl<T: Drop> RingBuffer<T> for GrowableAllocRingBuffer<T> {
         let least = items.size_hint().0;
         // A vector takes items in fewer steps, but it is made of the deque first, and the old items may have to move for it:
         // it is worth it where many come, and as many as there are.
-        if least < FEW || least < self.deque.len() {
+        if least < FEW_IN || least < self.deque.len() {
             return self.push_each(items);
         }
         let mut room = self.take_vec();
@@ -230,7 +225,7 @@ impl<T: Drop> RingBuffer<T> for GrowableAllocRingBuffer<T> {
     where
         T: PartialEq,
     {
-        self.deque.contains(x)
+        is_in_slices(self.deque.as_slices(), x)
     }
 
     fn eq_slice(&self, items: &[T]) -> bool
@@ -240,7 +235,7 @@ impl<T: Drop> RingBuffer<T> for GrowableAllocRingBuffer<T> {
         if self.deque.len() != items.len() {
             return false;
         }
-        if items.len() >= FEW {
+        if items.len() >= FEW_COMPARED {
             return equal_to_slice(self.deque.as_slices(), items);
         }
         for i in 0..items.len() {

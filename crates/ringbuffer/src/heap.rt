@@ -1,5 +1,5 @@
 //! The ring on the heap.
-ghost use Rattle.std.specs.Prelude.{◌≡◌, ◌^◌, ◌<◌, [], IfOk, IsErr, IsOk, OnErr, OnOk, Some, length};
+ghost use Rattle.std.specs.Prelude.{◌≡◌, ◌≢◌, ◌^◌, ◌<◌, [], IfOk, IsErr, IsOk, OnErr, OnOk, Some, length};
 ghost use Rattle.std.specs.List.{AllZip};
 ghost use Rattle.ring_core.specs.Contents.{ChangesSlots, keep_last};
 
@@ -62,7 +62,7 @@ impl<T: Drop> AllocRingBuffer<T> {
     }
 
     /// Moves the items into memory for another capacity, and keeps the newest if they are more. The count of slot changes
-    /// begins anew. Takes O(n). For the capacity that is there it asks for no memory, and moves no item.
+    /// begins anew. Takes O(n). For the capacity that is there it does nothing.
     ///
     /// # Errors
     ///
@@ -72,17 +72,15 @@ impl<T: Drop> AllocRingBuffer<T> {
         requires { 0 < capacity }
         ensures items { OnOk result (self.new.items ≡ keep_last (Some capacity) self.old.items) }
         ensures capacity { OnOk result (self.new.capacity ≡ capacity) }
-        ensures changes { OnOk result
-            (ChangesSlots 0 [] self.new.changes self.new.items (length self.old.items)) }
-        ensures same { capacity ≡ self.old.capacity
-            → IsOk result × (self.new.items ≡ self.old.items) }
+        ensures changes { OnOk result (capacity ≢ self.old.capacity
+            → ChangesSlots 0 [] self.new.changes self.new.items (length self.old.items)) }
+        ensures same { capacity ≡ self.old.capacity → IsOk result × (self.new ≡ self.old) }
         ensures err { OnErr result (self.new ≡ self.old) }
         ensures too_large { 2 ^ 63 < capacity → IsErr result }
     {
         if capacity == self.slots.limit() {
             // For the proof: no capacity is above the greatest power of two that fits a word.
             let _ = self.slots.size();
-            self.slots.count_anew();
             return Ok(());
         }
         let mut other = Self::new(self.slots.allocator(), capacity)?;

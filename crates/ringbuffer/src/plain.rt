@@ -10,7 +10,7 @@ use ring_slots::CopySlots;
 use std::alloc::AllocError;
 
 /// A ring of at most `CAP` items that can be copied, which lie in the value itself, side by side and with no mark beside
-/// them. It takes no memory of its own.
+/// them. It takes no memory of its own. An item that leaves stays in its cell until another is written there.
 pub type CopyRingBuffer<T, const CAP: usize> = FixedRing<T, CopySlots<T, CAP>>;
 
 impl<T: Copy + Drop, const CAP: usize> CopyRingBuffer<T, CAP> {

@@ -1,11 +1,15 @@
 //! Lists that lie in two slices: copied, cloned and compared.
 ghost use Rattle.std.specs.Prelude.{◌≡◌, ◌+◌, ◌++◌, IfOk, IsOk, drop, length, min, take};
 ghost use Rattle.std.specs.Cmp.Lexicographic.{pointwise};
-ghost use Rattle.std.specs.List.{AllZip};
+ghost use Rattle.std.specs.List.{AllZip, list_any};
 ghost use Rattle.ring_core.specs.Extension.{ClonesOut};
 
+use ring_slots::item_size;
 use std::alloc::{AllocError, Global};
 use std::vec::{Vec, VecCloneMethods};
+
+/// Smaller items than a word of as many bytes std compares by vector code.
+const WORD: usize = 8;
 
 /// Copies the items of two slices, in order, to the first places of a third, as many as it has. Returns how many.
 pub fn copy_slices<T: Copy>(items: (&[T], &[T]), output: &mut [T]) -> usize
@@ -117,7 +121,10 @@ pub fn same_in_slices<T: PartialEq>(a: (&[T], &[T]), b: (&[T], &[T])) -> bool
     // One of the two middles is empty at least. The other lies beside the beginning of a second slice.
     let (a_beside, a_last) = a.1.split_at(b_middle.len());
     let (b_beside, b_last) = b.1.split_at(a_middle.len());
-    a_first == b_first && a_middle == b_beside && a_beside == b_middle && a_last == b_last
+    same_items(a_first, b_first)
+        && same_items(a_middle, b_beside)
+        && same_items(a_beside, b_middle)
+        && same_items(a_last, b_last)
 }
 
 /// Returns whether the items of two slices equal those of a third, place by place.
@@ -127,5 +134,47 @@ pub fn equal_to_slice<T: PartialEq>(items: (&[T], &[T]), others: &[T]) -> bool
 {
     let (first, second) = items;
     let (front, back) = others.split_at(first.len());
-    first == front && second == back
+    same_items(first, front) && same_items(second, back)
+}
+
+/// Returns whether two slices are equal, item by item. Of words four pairs go by a turn, since the count of them costs steps a
+/// turn; std compares smaller items by vector code.
+fn same_items<T: PartialEq>(a: &[T], b: &[T]) -> bool
+    ensures { result ≡ pointwise T.eq a.now b.now }
+{
+    if item_size::<T>() < WORD || a.len() != b.len() {
+        return a == b;
+    }
+    for turn in 0..a.len() / 4 {
+        let k = 4 * turn;
+        let same = a[k..k + 4] == b[k..k + 4];
+        if !same {
+            return false;
+        }
+    }
+    let rest = a.len() / 4 * 4;
+    a[rest..] == b[rest..]
+}
+
+/// Returns whether an item of two slices equals `x`.
+pub fn is_in_slices<T: PartialEq>(items: (&[T], &[T]), x: &T) -> bool
+    ensures { result ≡ list_any (λ y. T.eq y x.now) (items.entry.0.now ++ items.entry.1.now) }
+{
+    is_in_slice(items.0, x) || is_in_slice(items.1, x)
+}
+
+/// Returns whether an item of a slice equals `x`. Words go by fours, as in `same_items`.
+fn is_in_slice<T: PartialEq>(items: &[T], x: &T) -> bool
+    ensures { result ≡ list_any (λ y. T.eq y x.now) items.now }
+{
+    if item_size::<T>() < WORD {
+        return items.contains(x);
+    }
+    for turn in 0..items.len() / 4 {
+        let k = 4 * turn;
+        if items[k..k + 4].contains(x) {
+            return true;
+        }
+    }
+    items[items.len() / 4 * 4..].contains(x)
 }

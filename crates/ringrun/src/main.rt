@@ -1,6 +1,7 @@
 //! `ringrun KIND CAPACITY`: runs the commands of standard input on a ring buffer, and prints what they reply.
 #![tactic(auto)]
 
+pub use ringrun_service::serve;
 use ringrun_service::{Status, run};
 use std::rt::Env;
 use std::{env, io};

@@ -64,7 +64,7 @@ pub fn make_room<R: MakesRoom>(ring: &mut R, held: usize, text: &[u8])
     }
 }
 
-/// Does what `make_room` does, for a ring without room.
+/// Makes room in a ring without room.
 #[inline(never)]
 fn reserve_line<R: MakesRoom>(ring: &mut R, held: usize, text: &[u8])
     ensures contents { R.contents ring.new ≡ R.contents ring.old }

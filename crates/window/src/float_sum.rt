@@ -92,6 +92,10 @@ pub type WindowFloatSum<R> = WindowFolded<f64, Summand, R>;
 
 impl<R: RingBuffer<Summand>> WindowFolded<f64, Summand, R> {
     /// Returns the sum of the samples, in order and by some placing of brackets; -0.0 if there is none, as std does.
+    ///
+    /// Where the brackets stand depends on the calls before, so equal contents can show different sums, even an infinity
+    /// and a number. As long as no addition overflows, the sum of n samples is off by at most (n - 1) 2^-53 of the sum of
+    /// their absolute values, to first order.
     pub fn sum(&self) -> f64
         ensures { IsFloatSum self.now.contents result }
     {

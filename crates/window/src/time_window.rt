@@ -6,7 +6,7 @@ ghost use Rattle.ringbuffer.specs.Contents.{IsWithin, keep_last, overwritten};
 ghost use Rattle.ringbuffer.specs.Walk.{ReadsInOrder, ReadsInReverse, iterator_to_come};
 ghost use Rattle.window.specs.Times.{without_older};
 
-use ringbuffer::{RingBuffer, RingBufferIterator, dequeue_while};
+use ringbuffer::{RingBuffer, RingBufferIterator};
 use std::marker::{Model, PhantomData};
 
 /// An item, and the time at which it came, in a unit of the caller's.
@@ -103,7 +103,7 @@ impl<T: Drop, R: RingBuffer<Stamped<T>>> WindowTime<T, R> {
         ensures limit { self.new.limit ≡ self.old.limit }
         ensures span { self.new.span ≡ self.old.span }
     {
-        dequeue_while(&mut self.ring, |x| x.stamp < time)
+        self.ring.dequeue_while(|x| x.stamp < time)
     }
 
     /// Takes out the oldest item. Does nothing to an empty window.

@@ -1,225 +1,195 @@
 //! What becomes of items: each is dropped exactly once, also where items have no size.
 
-use super::{
-    assert_dropped_after, assert_dropped_with, assert_drops, assert_equal, assert_three, items,
-    next, push_first, push_items, supply,
-};
+use super::assert_equal;
 use ring_slots::RingSlots;
-use ring_test_support::counted::{Counted, Supply};
-use ring_test_support::{
-    on_each_of_any, on_fixed, on_fixed_of_any, on_growable, on_growable_of_any,
+use ring_test_support::drops::Call::{
+    self, Apply, Clear, CopyOut, Dequeue, DequeueBelow, Drain, DrainRange, Dropped, EndInOrder,
+    Enqueue, Extend, ExtendClones, Fill, FillWith, Given, Holds, Insert, KeepNewest, MapEach,
+    MoveAll, PopBack, Push, PushFront, PushOver, Remove, RemoveRange, RetainOdd, RotateLeft,
+    RotateRight, Skip, SplitOff, Swap, TakeAll, Truncate, Walk, Write,
 };
-use ringbuffer::{
-    AllocRingBuffer, Command, FixedRing, GrowableAllocRingBuffer, RingBuffer,
-    RingBufferDrainingIterator, RingBufferIntoIterator, apply,
-};
+use ring_test_support::drops::first_fault_of_drops;
+use ring_test_support::kinds::Kind;
+use ring_test_support::{on_fixed, on_growable};
+use ringbuffer::{FixedRing, GrowableAllocRingBuffer, RingBuffer};
 use std::process::Abort;
 
-/// Pushes three items, the later two onto a full ring if it overwrites, and looks at what comes back.
-fn assert_hands_back<'a, R: RingBuffer<Counted<'a>> + Drop>(
-    rt: &impl Abort,
-    mut ring: R,
-    supply: &'a Supply,
-    overwrites: bool,
-) {
-    push_first(rt, &mut ring, supply, 1);
-    for (old, number) in [(0, 1), (1, 2)] {
-        let Ok(overwritten) = ring.push(next(rt, supply)) else {
-            panic!(rt; "the push of {number} was refused");
-        };
-        assert_drops(rt, supply, old, &[0]);
-        match overwritten {
-            Some(item) => {
-                assert_equal(rt, (overwrites, item.number), (true, old));
-                drop(item);
-                assert_drops(rt, supply, old, &[1]);
-            }
-            None => assert_equal(rt, overwrites, false),
-        }
-        assert_drops(rt, supply, number, &[0]);
+/// The types that take any items, and have a limit.
+const FIXED: &[Kind] = &[Kind::Array, Kind::Heap];
+
+const GROWABLE: &[Kind] = &[Kind::Growable];
+
+const EACH: &[Kind] = &[Kind::Array, Kind::Heap, Kind::Growable];
+
+const ROUND: &[Call<'static>] = &[Push(3), Skip, Skip, Push(2), Holds(&[2, 3, 4]), EndInOrder];
+
+const OVER_ONE: &[Call<'static>] = &[
+    Push(1),
+    PushOver(Some(0)),
+    Dropped(0, 1),
+    PushOver(Some(1)),
+    Enqueue,
+    Dropped(0, 3),
+    Holds(&[3]),
+];
+
+const OVER_THREE: &[Call<'static>] = &[
+    Push(5),
+    Dropped(0, 2),
+    Dequeue(Some(2)),
+    Dropped(0, 3),
+    Extend(4),
+    Dropped(0, 6),
+    Holds(&[6, 7, 8]),
+    Apply,
+    Holds(&[11, 12]),
+    Dropped(0, 11),
+];
+
+const NONE_OVER: &[Call<'static>] = &[
+    PushOver(None),
+    PushOver(None),
+    Enqueue,
+    Extend(4),
+    PushFront(None),
+    Dropped(0, 0),
+    Dequeue(Some(7)),
+    Dequeue(Some(0)),
+];
+
+const LEFT: &[Call<'static>] = &[
+    Push(4),
+    Skip,
+    Dropped(0, 1),
+    Push(1),
+    Write(1),
+    Holds(&[1, 5, 3, 4]),
+    Dequeue(Some(1)),
+    PopBack(Some(4)),
+    Clear,
+    Dropped(0, 6),
+    Push(2),
+    Write(0),
+    Dropped(0, 7),
+];
+
+const IN_THE_MIDDLE: &[Call<'static>] = &[
+    Push(2),
+    Skip,
+    Push(2),
+    Insert(1),
+    Holds(&[1, 4, 2, 3]),
+    Swap(0, 2),
+    RotateLeft(1),
+    RotateRight(3),
+    Holds(&[1, 3, 2, 4]),
+    Remove(2, Some(2)),
+    PushFront(None),
+    Holds(&[5, 1, 3, 4]),
+    RemoveRange(1, 3),
+    Holds(&[5, 4]),
+];
+
+const PUT_FIRST: &[Call<'static>] = &[Push(4), PushFront(Some(3)), Holds(&[4, 0, 1, 2])];
+
+const KEPT: &[Call<'static>] = &[
+    Push(4),
+    RetainOdd,
+    Holds(&[1, 3]),
+    MapEach,
+    Holds(&[4, 5]),
+    Dropped(0, 4),
+    DequeueBelow(5),
+    Holds(&[5]),
+    Push(3),
+    Truncate(3),
+    Holds(&[5, 6, 7]),
+    KeepNewest(1),
+    Holds(&[7]),
+];
+
+const CLONED: &[Call<'static>] = &[
+    Push(2),
+    ExtendClones(2),
+    Holds(&[0, 1, 4, 5]),
+    Dropped(2, 2),
+    CopyOut(3),
+    Holds(&[0, 1, 4, 5]),
+];
+
+// No clone is made that has no place.
+const CLONED_OVER: &[Call<'static>] = &[
+    Push(3),
+    ExtendClones(2),
+    Holds(&[2, 5, 6]),
+    Given(7),
+    ExtendClones(5),
+    Holds(&[12, 13, 14]),
+    Given(15),
+    CopyOut(2),
+    Given(19),
+    MoveAll(4),
+    Holds(&[20, 21, 22]),
+];
+
+const FILLED: &[Call<'static>] = &[Push(2), Fill, Dropped(0, 3), FillWith, Fill];
+
+const FILLED_ONE: &[Call<'static>] = &[Fill, Given(2), FillWith, Given(3), Holds(&[2])];
+
+const DRAINED: &[Call<'static>] = &[
+    Push(4),
+    Drain(1, 0),
+    Holds(&[1, 2, 3]),
+    Push(1),
+    Drain(1, 1),
+    Holds(&[2, 3]),
+    TakeAll,
+    Dropped(0, 5),
+    Push(4),
+    DrainRange(1, 3),
+    Holds(&[5, 8]),
+    SplitOff(1),
+    Holds(&[5]),
+];
+
+const MANY: &[Call<'static>] = &[
+    Push(40),
+    Clear,
+    Push(100),
+    KeepNewest(80),
+    Dropped(0, 60),
+    Truncate(60),
+    RemoveRange(10, 50),
+    RetainOdd,
+    TakeAll,
+];
+
+/// Types of ring, a capacity, what the calls are about, and the calls.
+const LISTS: &[(&[Kind], usize, &str, &[Call<'static>])] = &[
+    (EACH, 3, "round the slots", ROUND),
+    (FIXED, 1, "over one", OVER_ONE),
+    (FIXED, 3, "over three", OVER_THREE),
+    (GROWABLE, 1, "none over", NONE_OVER),
+    (EACH, 4, "left", LEFT),
+    (EACH, 4, "in the middle", IN_THE_MIDDLE),
+    (FIXED, 4, "put first", PUT_FIRST),
+    (EACH, 4, "kept", KEPT),
+    (EACH, 4, "cloned", CLONED),
+    (FIXED, 3, "cloned over", CLONED_OVER),
+    (EACH, 4, "filled", FILLED),
+    (FIXED, 1, "one filled", FILLED_ONE),
+    (EACH, 4, "drained", DRAINED),
+    (EACH, 4, "a walk", &[Push(4), Walk(true)]),
+    (EACH, 4, "a walk from the back", &[Push(4), Walk(false)]),
+    (EACH, 100, "many", MANY),
+];
+
+#[test]
+fn each_item_is_dropped_once(rt: HostRuntime) {
+    for (kinds, capacity, name, calls) in LISTS {
+        let fault = first_fault_of_drops(rt.alloc(), kinds, *capacity, calls);
+        assert_equal(&rt, (*capacity, *name, fault), (*capacity, *name, None));
     }
-    assert_dropped_with(rt, supply, ring);
-}
-
-/// Pushes items by each call, and takes nothing of what comes back.
-fn assert_drops_overwritten<'a, R: RingBuffer<Counted<'a>> + Drop>(
-    rt: &impl Abort,
-    mut ring: R,
-    supply: &'a Supply,
-    overwritten: u8,
-) {
-    push_first(rt, &mut ring, supply, 1);
-    push_items(rt, &mut ring, supply, 1);
-    assert_drops(rt, supply, 0, &[overwritten, 0]);
-    assert!(rt; ring.enqueue(next(rt, supply)).is_ok());
-    assert_drops(rt, supply, 1, &[overwritten, 0]);
-    assert!(rt; apply(&mut ring, Command::Push(next(rt, supply))).is_ok());
-    assert_drops(rt, supply, 2, &[overwritten, 0]);
-    assert_dropped_with(rt, supply, ring);
-}
-
-#[test]
-fn what_a_push_hands_back_lives_until_it_is_dropped(rt: HostRuntime) {
-    let supply = supply(&rt, 4);
-    on_fixed_of_any!(&rt, 1, assert_hands_back, &supply, true);
-    on_growable_of_any!(&rt, 1, assert_hands_back, &supply, false);
-    on_fixed_of_any!(&rt, 1, assert_drops_overwritten, &supply, 1);
-    on_growable_of_any!(&rt, 1, assert_drops_overwritten, &supply, 0);
-}
-
-fn assert_ends<'a, R: RingBuffer<Counted<'a>> + Drop>(
-    rt: &impl Abort,
-    mut ring: R,
-    supply: &'a Supply,
-) {
-    push_first(rt, &mut ring, supply, 5);
-    let taken = ring.dequeue().expect(rt, "an item");
-    assert_drops(rt, supply, taken.number, &[0]);
-    drop(taken);
-    assert_dropped_with(rt, supply, ring);
-}
-
-/// Ends a ring whose items go round its slots.
-fn assert_ends_in_order<'a, R: RingBuffer<Counted<'a>> + Drop>(
-    rt: &impl Abort,
-    mut ring: R,
-    supply: &'a Supply,
-) {
-    push_first(rt, &mut ring, supply, 3);
-    ring.skip();
-    ring.skip();
-    push_items(rt, &mut ring, supply, 2);
-    assert_three(rt, &ring, 2);
-    assert_dropped_with(rt, supply, ring);
-    assert!(rt; supply.is_in_order());
-}
-
-#[test]
-fn a_ring_that_ends_drops_the_oldest_item_first(rt: HostRuntime) {
-    let supply = supply(&rt, 5);
-    on_each_of_any!(&rt, 3, assert_ends, &supply);
-    on_each_of_any!(&rt, 3, assert_ends_in_order, &supply);
-}
-
-fn assert_skips_and_clears<'a, R: RingBuffer<Counted<'a>> + Drop>(
-    rt: &impl Abort,
-    mut ring: R,
-    supply: &'a Supply,
-) {
-    push_first(rt, &mut ring, supply, 4);
-    ring.skip();
-    assert_drops(rt, supply, 0, &[1, 0]);
-    push_items(rt, &mut ring, supply, 1);
-    ring.clear();
-    assert_dropped_after(rt, supply, 0);
-    assert_dropped_with(rt, supply, ring);
-}
-
-fn assert_writes<'a, R: RingBuffer<Counted<'a>> + Drop>(
-    rt: &impl Abort,
-    mut ring: R,
-    supply: &'a Supply,
-) {
-    push_first(rt, &mut ring, supply, 2);
-    *ring.get_mut(1).expect(rt, "an item") = next(rt, supply);
-    assert_drops(rt, supply, 1, &[1, 0]);
-    assert_dropped_with(rt, supply, ring);
-}
-
-#[test]
-fn a_skip_a_clear_and_a_write_drop_at_once(rt: HostRuntime) {
-    let supply = supply(&rt, 5);
-    on_each_of_any!(&rt, 4, assert_skips_and_clears, &supply);
-    on_each_of_any!(&rt, 2, assert_writes, &supply);
-}
-
-#[test]
-fn what_is_not_kept_is_dropped_at_once(rt: HostRuntime) {
-    let supply = supply(&rt, 8);
-    let mut ring = AllocRingBuffer::new(rt.alloc(), 5).expect(&rt, "memory");
-    push_items(&rt, &mut ring, &supply, 8);
-    ring.truncate(4);
-    assert_drops(&rt, &supply, 3, &[0, 0, 0, 0, 1]);
-    ring.keep_newest(2);
-    assert_drops(&rt, &supply, 3, &[1, 1, 0, 0]);
-    let newest = ring.pop_back().expect(&rt, "an item");
-    assert_equal(&rt, newest.number, 6);
-    assert_drops(&rt, &supply, 6, &[0]);
-    drop(newest);
-    assert_dropped_with(&rt, &supply, ring);
-}
-
-fn assert_extends<'a, R: RingBuffer<Counted<'a>> + Drop>(
-    rt: &(impl Abort + AllocGlobal),
-    mut ring: R,
-    supply: &'a Supply,
-    overwritten: u8,
-) {
-    push_first(rt, &mut ring, supply, 1);
-    ring.extend(items(rt, supply, 4)).expect(rt, "memory");
-    assert_drops(rt, supply, 2, &[overwritten, 0]);
-    assert_dropped_with(rt, supply, ring);
-}
-
-/// Applies commands to a ring of two.
-fn assert_applied<'a, R: RingBuffer<Counted<'a>> + Drop>(
-    rt: &(impl Abort + AllocGlobal),
-    mut ring: R,
-    supply: &'a Supply,
-) {
-    supply.begin_again();
-    assert!(rt; apply(&mut ring, Command::Push(next(rt, supply))).is_ok());
-    assert!(rt; apply(&mut ring, Command::Extend(items(rt, supply, 3))).is_ok());
-    assert_drops(rt, supply, 3, &[0]);
-    let dequeued = apply(&mut ring, Command::Dequeue);
-    assert!(rt; apply(&mut ring, Command::Clear).is_ok());
-    assert_drops(rt, supply, 3, &[1]);
-    drop(dequeued);
-    assert_dropped_with(rt, supply, ring);
-}
-
-#[test]
-fn an_extension_drops_what_it_overwrites(rt: HostRuntime) {
-    let supply = supply(&rt, 5);
-    on_fixed_of_any!(&rt, 2, assert_extends, &supply, 1);
-    on_growable_of_any!(&rt, 2, assert_extends, &supply, 0);
-    on_each_of_any!(&rt, 2, assert_applied, &supply);
-}
-
-fn assert_drains<'a, R: RingBuffer<Counted<'a>> + Drop>(
-    rt: &impl Abort,
-    mut ring: R,
-    supply: &'a Supply,
-) {
-    push_first(rt, &mut ring, supply, 4);
-    let mut walk = RingBufferDrainingIterator::new(&mut ring);
-    let taken = walk.next().expect(rt, "an item");
-    assert_equal(rt, taken.number, 0);
-    assert_drops(rt, supply, 0, &[0]);
-    drop(walk);
-    assert_drops(rt, supply, 1, &[0]);
-    drop(ring);
-    assert_drops(rt, supply, 0, &[0]);
-    assert_dropped_with(rt, supply, taken);
-}
-
-fn assert_walk_ends<'a, R: RingBuffer<Counted<'a>> + Drop>(
-    rt: &impl Abort,
-    mut ring: R,
-    supply: &'a Supply,
-) {
-    push_first(rt, &mut ring, supply, 4);
-    let mut walk = RingBufferIntoIterator::new(ring);
-    drop(walk.next());
-    assert_drops(rt, supply, 0, &[1, 0]);
-    assert_dropped_with(rt, supply, walk);
-}
-
-#[test]
-fn a_walk_that_takes_hands_its_items_over(rt: HostRuntime) {
-    let supply = supply(&rt, 4);
-    on_each_of_any!(&rt, 4, assert_drains, &supply);
-    on_each_of_any!(&rt, 4, assert_walk_ends, &supply);
 }
 
 #[test]

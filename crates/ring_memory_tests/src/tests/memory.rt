@@ -1,10 +1,8 @@
 //! How large a ring and its items may be, and what memory a ring takes and keeps.
 
 use super::{assert_equal, assert_holds, drought, push_all};
-use ring_slots::RingSlots;
-use ring_test_support::{on_array, on_growable, on_heap};
 use ringbuffer::{
-    AllocRingBuffer, CopyRingBuffer, FixedRing, GrowableAllocRingBuffer, RingBuffer, RingBufferExt,
+    AllocRingBuffer, CopyRingBuffer, GrowableAllocRingBuffer, RingBuffer, RingBufferExt,
 };
 use std::alloc::AllocError;
 use std::mem::size_of;
@@ -30,6 +28,11 @@ fn rings_of_a_gibibyte_give_back_their_memory(rt: HostRuntime) -> Result<(), All
         let ring = AllocRingBuffer::<u64>::new(rt.alloc(), 1 << 27)?;
         assert_equal(&rt, ring.buffer_size(), 1 << 27);
     }
+    let mut ring = AllocRingBuffer::<u64>::new(rt.alloc(), 1 << 27)?;
+    for _ in 0..75_000 {
+        ring.set_capacity(1 << 26)?;
+        ring.set_capacity(1 << 27)?;
+    }
     Ok(())
 }
 
@@ -49,14 +52,6 @@ fn large_capacities_are_had_where_there_is_memory(rt: HostRuntime) -> Result<(),
         assert_takes_two(&rt, growable);
     }
     Ok(())
-}
-
-#[test]
-fn items_may_be_large(rt: HostRuntime) {
-    on_array!(&rt, 2, assert_takes_large);
-    on_heap!(&rt, 2, assert_takes_large);
-    CopyRingBuffer::<[u64; 512], 2>::new([0; 512]).assert_takes_large(&rt);
-    on_growable!(&rt, 0, assert_takes_large);
 }
 
 // A start and a length lie beside the items.
@@ -133,17 +128,3 @@ fn a_growable_ring_that_is_emptied_keeps_its_room(rt: HostRuntime) -> Result<(),
     assert_emptied(&rt, &mut ring, room);
     Ok(())
 }
-
-/// A ring of large items.
-trait OfLarge: RingBuffer<[u64; 512]> + Drop {
-    fn assert_takes_large(mut self, rt: &impl Abort) {
-        assert!(rt; self.push([1; 512]).is_ok());
-        assert!(rt; self.push([2; 512]).is_ok());
-        assert_equal(rt, self.back().map(|item| item[511]), Some(2));
-        assert_equal(rt, self.dequeue().map(|item| item[0]), Some(1));
-    }
-}
-
-impl<S: RingSlots<[u64; 512]>> OfLarge for FixedRing<[u64; 512], S> {}
-
-impl OfLarge for GrowableAllocRingBuffer<[u64; 512]> {}

@@ -3,9 +3,11 @@
 
 mod clones;
 mod fills;
+mod made;
 mod makers;
 mod pushes;
 mod runs;
+mod sources;
 
 use super::push_items;
 use ring_test_support::counted::{Counted, Supply};

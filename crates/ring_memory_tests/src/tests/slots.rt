@@ -1,6 +1,6 @@
 //! Slots of each kind, by themselves.
 
-use super::{assert_drops, assert_equal, drought, next, supply};
+use super::{assert_equal, drought};
 use ring_slots::{ArraySlots, CopySlots, HeapSlots, RingSlots};
 use std::alloc::AllocError;
 
@@ -67,38 +67,5 @@ fn too_many_bytes_are_refused(rt: HostRuntime) -> Result<(), AllocError> {
         }
     }
     HeapSlots::<u64>::new(rt.alloc(), 0)?.free();
-    Ok(())
-}
-
-#[test]
-fn items_keep_their_places(rt: HostRuntime) -> Result<(), AllocError> {
-    let mut slots = HeapSlots::<[u16; 3]>::new(rt.alloc(), 4)?;
-    slots.put(0, [0, 1, 2]);
-    slots.put(3, [9, 10, 11]);
-    slots.put(1, [3, 4, 5]);
-    slots.get_mut(1)[2] = 50;
-    assert_equal(&rt, *slots.get(0), [0, 1, 2]);
-    assert_equal(&rt, *slots.get(1), [3, 4, 50]);
-    assert_equal(&rt, *slots.get(3), [9, 10, 11]);
-    assert_equal(&rt, slots.take(3), [9, 10, 11]);
-    assert_equal(&rt, slots.take(0), [0, 1, 2]);
-    assert_equal(&rt, slots.take(1), [3, 4, 50]);
-    slots.free();
-    Ok(())
-}
-
-#[test]
-fn an_item_that_was_taken_is_dropped_once(rt: HostRuntime) -> Result<(), AllocError> {
-    let supply = supply(&rt, 2);
-    let mut slots = HeapSlots::new(rt.alloc(), 2)?;
-    slots.put(0, next(&rt, &supply));
-    slots.put(1, next(&rt, &supply));
-    let first = slots.take(0);
-    assert_drops(&rt, &supply, 0, &[0, 0]);
-    drop(first);
-    assert_drops(&rt, &supply, 0, &[1, 0]);
-    let _second = slots.take(1);
-    slots.free();
-    assert_drops(&rt, &supply, 0, &[1, 0]);
     Ok(())
 }

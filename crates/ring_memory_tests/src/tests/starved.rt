@@ -12,10 +12,10 @@ use ring_test_support::steps::Step::{
     TryPush, Write, WriteBack, WriteFront, WriteSigned,
 };
 use ring_test_support::steps::{Outcome, Step, first_fault};
-use ring_test_support::{on_each, on_fixed, on_growable};
+use ring_test_support::{on_array, on_each, on_growable, on_heap};
 use ringbuffer::{
     AllocRingBuffer, Command, DoubleEndedRing, FixedRing, GrowableAllocRingBuffer, Reply,
-    RingBuffer, RingBufferIntoIterator, RunFault, apply, move_all, run, run_into,
+    RingBuffer, RunFault, apply, move_all, run, run_into,
 };
 use std::alloc::AllocError;
 use std::mem::size_of;
@@ -44,22 +44,6 @@ fn a_refused_slice_leaves_a_growable_ring(rt: HostRuntime) -> Result<(), AllocEr
     assert!(rt; many.is_err());
     assert!(rt; fitting.is_ok());
     assert_holds(&rt, &ring, &[1, 2, 6]);
-    Ok(())
-}
-
-#[test]
-fn slices_of_a_heap_ring_take_no_memory(rt: HostRuntime) -> Result<(), AllocError> {
-    let mut ring = AllocRingBuffer::new(rt.alloc(), 3)?;
-    push_all(&rt, &mut ring, &[1, 2]);
-    let mut output = [0; 2];
-    let drought = drought(&rt, 0);
-    ring.extend_from_slice(&[3, 4, 5, 6]);
-    ring.make_contiguous().reverse();
-    let count = ring.dequeue_into(&mut output);
-    drop(drought);
-    assert_equal(&rt, count, 2);
-    assert_equal(&rt, output, [6, 5]);
-    assert_holds(&rt, &ring, &[4]);
     Ok(())
 }
 
@@ -144,31 +128,16 @@ fn calls_that_are_never_refused_take_no_memory(rt: HostRuntime) {
     assert_takes_none(&rt, EACH, 3, &[1, 2, 3], LOOKS);
     assert_takes_none(&rt, EACH, 3, &[1, 2, 3], WRITES_AND_TAKES);
     assert_takes_none(&rt, EACH, 3, &[1, 2, 3], WALKS);
-    on_each!(&rt, 3, assert_walk_takes_none);
-    on_each!(&rt, 3, assert_room_takes_none);
-}
-
-#[test]
-fn the_deque_of_a_growable_ring_is_lent_without_memory(rt: HostRuntime) -> Result<(), AllocError> {
-    let mut ring = GrowableAllocRingBuffer::with_capacity(rt.alloc(), 3)?;
-    push_all(&rt, &mut ring, &[1, 2, 3]);
-    let drought = drought(&rt, 0);
-    assert_equal(&rt, ring.as_ref().len(), 3);
-    assert_equal(&rt, ring.as_mut().pop_back(), Some(3));
-    drop(drought);
-    assert_holds(&rt, &ring, &[1, 2]);
-    Ok(())
 }
 
 #[test]
 fn a_run_on_a_fixed_ring_asks_for_its_replies_alone(rt: HostRuntime) {
-    on_fixed!(&rt, 2, assert_runs_take_none);
-    on_fixed!(&rt, 2, assert_run_takes_its_replies);
+    on_array!(&rt, 2, assert_runs_take_none);
+    on_heap!(&rt, 2, assert_run_takes_its_replies);
 }
 
 #[test]
-fn a_refused_list_or_run_leaves_the_ring(rt: HostRuntime) {
-    on_each!(&rt, 3, assert_list_refused);
+fn a_refused_run_leaves_the_ring(rt: HostRuntime) {
     on_each!(&rt, 2, assert_run_refused);
 }
 
@@ -217,24 +186,6 @@ trait Starved: DoubleEndedRing<i64> + Drop {
         assert_holds(rt, &from, &[2, 3]);
     }
 
-    /// Takes 1, 2 and 3 by an owning walk in a drought.
-    fn assert_walk_takes_none(mut self, rt: &(impl Abort + AllocGlobal)) {
-        push_all(rt, &mut self, &[1, 2, 3]);
-        let _drought = drought(rt, 0);
-        assert!(rt; RingBufferIntoIterator::new(self).eq([1, 2, 3]));
-    }
-
-    /// Asks in a drought what room there is.
-    fn assert_room_takes_none(mut self, rt: &(impl Abort + AllocGlobal)) {
-        push_all(rt, &mut self, &[1, 2, 3]);
-        let drought = drought(rt, 0);
-        let (len, capacity) = (self.len(), self.capacity());
-        let (is_full, slots) = (self.is_full(), self.buffer_size());
-        drop(drought);
-        assert_equal(rt, (len, is_full), (3, len == capacity));
-        assert!(rt; slots >= 3);
-    }
-
     /// Runs commands into places in a drought.
     fn assert_runs_take_none(mut self, rt: &(impl Abort + AllocGlobal)) {
         let extension = vec![in rt.alloc(); 2, 3].expect(rt, "memory");
@@ -265,16 +216,6 @@ trait Starved: DoubleEndedRing<i64> + Drop {
         let replies = answered.expect(rt, "no request except for the replies");
         assert_equal(rt, replies.as_slice(), REPLIES_OF_TWO.as_slice());
         assert_holds(rt, &self, &[]);
-    }
-
-    /// Lists the items in a drought.
-    fn assert_list_refused(mut self, rt: &(impl Abort + AllocGlobal)) {
-        push_all(rt, &mut self, &[1, 2, 3]);
-        let drought = drought(rt, 0);
-        let refused = self.to_vec(rt.alloc());
-        drop(drought);
-        assert!(rt; refused.is_err());
-        assert_holds(rt, &self, &[1, 2, 3]);
     }
 
     /// Runs commands in a drought, which come back.

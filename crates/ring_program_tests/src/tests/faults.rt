@@ -86,6 +86,30 @@ fn says_where_writing_failed(rt: HostRuntime) {
     }
 }
 
+// What the writer took before is a beginning of the answer, and the line of the error goes out in as many pieces as are taken.
+#[test]
+fn stops_where_nothing_more_is_taken(rt: HostRuntime) {
+    for refusal in [Refusal::Fails(ErrorKind::BrokenPipe), Refusal::TakesNothing] {
+        for call in 1..=ANSWER_WITH_ROOM.len() {
+            let output = Sink::in_pieces(rt.alloc(), 1).expect(&rt, "memory");
+            let output = output.refusing_from(call, refusal);
+            let outcome = run_on_three(&rt, Source::of(SCRIPT), output);
+            let taken = ANSWER_WITH_ROOM.get(..call.saturating_sub(1));
+            assert_eq!(rt; outcome.output.taken().ok(), taken);
+            assert_ended(&rt, call, &outcome, fails(4, FAILED));
+        }
+        for call in 1..=FIRST_LINE_IS_NONE.len() {
+            let words = strings(&rt, &["array", "2"]);
+            let errors = Sink::in_pieces(rt.alloc(), 1).expect(&rt, "memory");
+            let errors = errors.refusing_from(call, refusal);
+            let input = Source::of(b"push x");
+            let outcome = serve_words(rt.alloc(), words.as_slice(), input, sink(&rt), errors);
+            let taken = FIRST_LINE_IS_NONE.get(..call.saturating_sub(1));
+            assert_eq!(rt; (outcome.status, outcome.errors.taken().ok()), (1, taken));
+        }
+    }
+}
+
 #[test]
 fn writes_on_after_an_interruption(rt: HostRuntime) {
     let interruption = Refusal::Fails(ErrorKind::Interrupted);
@@ -110,10 +134,12 @@ fn keeps_the_status_where_no_error_is_taken(rt: HostRuntime) {
                 Some(kind) => Source::failing_between((b"", script), kind),
                 None => Source::of(script),
             };
-            let errors = sink(&rt).refusing(1, refusal);
+            let errors = sink(&rt).refusing_from(1, refusal);
             let outcome = serve_words(rt.alloc(), words.as_slice(), input, sink(&rt), errors);
             let output = outcome.output.text().expect(&rt, "a text");
-            assert_eq!(rt; (outcome.status, output), (want, ""));
+            let found = (outcome.status, output, outcome.errors.calls());
+            // A write that is refused, and a flush.
+            assert_eq!(rt; found, (want, "", 2));
         }
     }
 }

@@ -93,14 +93,25 @@ fn keeps_no_more_room_than_two_long_lines_need(rt: HostRuntime) {
     assert_ended(&rt, &arguments, &outcome, ending);
 }
 
-// There is room for reading, and none for the ring.
+// There is one block of so many bytes, which is a little too small for the ring. A ring with room for none takes none.
 #[test]
 fn is_refused_a_ring(rt: HostRuntime) {
-    for arguments in [["heap", "100000"], ["grow", "100000"], ["grow", "1200"]] {
+    let cases = [
+        (["heap", "100000"], 1 << 19),
+        (["grow", "100000"], 790_000),
+        (["heap", "1000"], 8_100),
+        (["grow", "1000"], 7_900),
+        (["heap", "1"], 0),
+        (["grow", "1"], 0),
+    ];
+    for (arguments, room) in cases {
         let input = Source::failing_between((b"", SCRIPT), ErrorKind::BrokenPipe);
-        let outcome = serve_in_drought(&rt, &arguments, input, 1 << 13);
+        let outcome = serve_in_drought(&rt, &arguments, input, room);
         assert_ended_unread(&rt, &arguments, &outcome, fails(3, NO_MEMORY));
     }
+    let input = Source::failing_between((b"", SCRIPT), ErrorKind::BrokenPipe);
+    let outcome = serve_in_drought(&rt, &["grow", "0"], input, 0);
+    assert!(rt; !outcome.is_unread);
 }
 
 // With room for the input, refusals come one after the other, for the ring and the text. The line that is no command is after

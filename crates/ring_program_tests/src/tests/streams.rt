@@ -94,14 +94,15 @@ pub enum Refusal {
 }
 
 /// Keeps what is written, in memory that it was made with, and apart from it what a flush let out. One of its calls may
-/// be refused.
+/// be refused, or all from one on.
 #[derive(Drop)]
 pub struct Sink {
     flushed: Vec<u8>,
     unflushed: Vec<u8>,
     most: usize,
     calls: usize,
-    refused_call: usize,
+    first_refused: usize,
+    last_refused: usize,
     refusal: Refusal,
 }
 
@@ -118,16 +119,31 @@ impl Sink {
             unflushed: Vec::with_capacity(alloc, 1024)?,
             most,
             calls: 0,
-            refused_call: 0,
+            first_refused: usize::MAX,
+            last_refused: 0,
             refusal: Refusal::TakesNothing,
         })
     }
 
     /// Makes it refuse one call, counted from 1. A flush counts as a call.
     pub fn refusing(mut self, call: usize, refusal: Refusal) -> Sink {
-        self.refused_call = call;
+        self.first_refused = call;
+        self.last_refused = call;
         self.refusal = refusal;
         self
+    }
+
+    /// Makes it refuse each call from one on.
+    pub fn refusing_from(mut self, call: usize, refusal: Refusal) -> Sink {
+        self.first_refused = call;
+        self.last_refused = usize::MAX;
+        self.refusal = refusal;
+        self
+    }
+
+    /// Counts the calls that were made.
+    pub fn calls(&self) -> usize {
+        self.calls
     }
 
     /// Returns what was written and let out by a flush.
@@ -140,10 +156,19 @@ impl Sink {
         str::from_utf8(self.unflushed.as_slice())
     }
 
+    /// Returns what was written, let out or not, where one of both is empty.
+    pub fn taken(&self) -> Result<&str, Utf8Error> {
+        if self.flushed.is_empty() {
+            self.unflushed()
+        } else {
+            self.text()
+        }
+    }
+
     // Counts a call, and returns how it is refused, if it is.
     fn next_refusal(&mut self) -> Option<Refusal> {
         self.calls = self.calls.saturating_add(1);
-        if self.calls == self.refused_call {
+        if self.first_refused <= self.calls && self.calls <= self.last_refused {
             Some(self.refusal)
         } else {
             None

@@ -31,7 +31,7 @@ pub trait PlayedCopies<T: Plain>: Played<T> {
 macro_rules! play_copies {
     ($ring:expr, $player:expr, $items:ident, $extended:expr) => {{
         let (mut $items, item) = ($player.items()?, $player.item());
-        match $player.up_to(5) {
+        match $player.up_to(6) {
             0 => $extended,
             1 => {
                 $player.note($ring.copy_to_slice(&mut $items) as u64);
@@ -43,6 +43,13 @@ macro_rules! play_copies {
             }
             3 => $player.note($ring.contains(&item) as u64),
             4 => {
+                let mut list = $ring.to_vec($player.alloc)?;
+                if $player.flip() {
+                    $player.write(list.last_mut());
+                }
+                $player.note($ring.eq_slice(&list) as u64);
+            }
+            5 => {
                 let mut twin = $ring.clone()?;
                 $player.write(twin.back_mut());
                 $player.note((twin == *$ring) as u64);

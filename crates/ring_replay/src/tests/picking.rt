@@ -1,9 +1,11 @@
-//! Calls that pick items: a filter, a search, and walks over a range.
+//! Calls that pick items: a filter, a search, a change of each item, and walks over a range.
 
 use super::calls::walk;
 use super::items::Maker;
 use super::player::{Done, Player};
-use ringbuffer::{RingBuffer, RingBufferIterator, RingBufferMutIterator, partition_point, retain};
+use ringbuffer::{
+    RingBuffer, RingBufferExt, RingBufferIterator, RingBufferMutIterator, partition_point, retain,
+};
 use std::alloc::AllocError;
 
 /// Makes a call that picks items.
@@ -11,7 +13,7 @@ pub fn play<T: Clone + Drop, M: Maker<T>, R: RingBuffer<T>>(
     ring: &mut R,
     player: &mut Player<M>,
 ) -> Done {
-    match player.up_to(3) {
+    match player.up_to(5) {
         0 => return filter(ring, player),
         1 => {
             raise(ring, player);
@@ -19,6 +21,16 @@ pub fn play<T: Clone + Drop, M: Maker<T>, R: RingBuffer<T>>(
             let maker = &player.maker;
             let index = partition_point(ring, |item| maker.rank(item) < sought);
             player.note(index as u64);
+        }
+        2 => {
+            let maker = &player.maker;
+            ring.map_each(|item| maker.make(maker.read(item).wrapping_mul(3) % 1000));
+        }
+        3 => {
+            let bound = player.draw() % 1000;
+            let maker = &player.maker;
+            let count = ring.dequeue_while(|item| maker.rank(item) < bound);
+            player.note(count as u64);
         }
         _ => walk_range(ring, player),
     }

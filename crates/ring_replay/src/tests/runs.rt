@@ -20,6 +20,9 @@ fn assert_equal<T: PartialEq + Debug + Drop>(rt: &impl Abort, found: T, wanted: 
     assert_eq!(rt; found, wanted);
 }
 
+/// How many calls come between two digests.
+const CALLS: usize = 256;
+
 /// A run: its number, its ring, and the capacity that this is made with.
 #[derive(Clone, Copy, Debug, PartialEq, Drop)]
 pub struct Run {
@@ -77,7 +80,7 @@ fn assert_agrees<T: Clone + Drop, M: Maker<T>, R: Played<T>>(
     player.note(sum);
     let first = run.number.wrapping_sub(1).wrapping_mul(BLOCKS);
     let wanted = DIGESTS.get(first.wrapping_add(block)).copied();
-    let calls = block.wrapping_add(1).wrapping_mul(64);
+    let calls = block.wrapping_add(1).wrapping_mul(CALLS);
     let found = Some(player.digest());
     assert_equal(rt, (run, calls, found), (run, calls, wanted));
 }
@@ -88,7 +91,7 @@ pub trait Replays<T: Clone + Drop>: Played<T> {
     fn replay<M: Maker<T> + Drop>(&mut self, rt: &(impl Abort + AllocGlobal), maker: M, run: Run) {
         let mut player = begin(self, run, maker, rt.alloc());
         for block in 0..BLOCKS {
-            for _ in 0..64 {
+            for _ in 0..CALLS {
                 calls::play(self, &mut player).expect(rt, "memory");
             }
             assert_agrees(rt, self, &mut player, run, block);
@@ -113,7 +116,7 @@ pub trait ReplaysCopies<T: Plain>: PlayedCopies<T> {
     ) {
         let mut player = begin(self, run, maker, rt.alloc());
         for block in 0..BLOCKS {
-            for call in 1..65u8 {
+            for call in 1..=CALLS {
                 if call % 4 == 0 {
                     self.play_copies(&mut player).expect(rt, "memory");
                 } else {
@@ -139,7 +142,7 @@ pub trait ReplaysBytes: PlayedBytes {
     fn replay_bytes(&mut self, rt: &(impl Abort + AllocGlobal), maker: Values, run: Run) {
         let mut player = begin::<u8, Values, Self>(self, run, maker, rt.alloc());
         for block in 0..BLOCKS {
-            for call in 1..65u8 {
+            for call in 1..=CALLS {
                 if call % 4 != 0 {
                     calls::play(self, &mut player).expect(rt, "memory");
                 } else if player.flip() {

@@ -1,13 +1,10 @@
 //! How often windows combine two values and compare two items. The values and the order count it themselves.
 
 use super::random_calls::next_number;
-use ringbuffer::{ConstGenericRingBuffer, GrowableAllocRingBuffer, RingBuffer};
+use ringbuffer::{ConstGenericRingBuffer, RingBuffer};
 use std::cell::Cell;
 use std::process::Abort;
-use window::{
-    AllocWindowFold, Candidate, ConstGenericWindowFold, GrowableAllocWindowFold, Kept, Monoid,
-    Order, WindowFold, WindowLeast,
-};
+use window::{AllocWindowFold, Candidate, Kept, Monoid, Order, WindowFold, WindowLeast};
 
 /// How many samples are pushed.
 const PUSHES: u64 = 1000;
@@ -72,11 +69,7 @@ fn assert_combined<'a, R: RingBuffer<Kept<Last<'a>>> + Drop>(
 #[test]
 fn values_are_combined_twice_a_push(rt: HostRuntime) {
     let calls = Cell::new(0);
-    let window = ConstGenericWindowFold::<Last<'_>, 7>::in_array();
-    assert_combined(&rt, window, &calls, 7);
     let window = AllocWindowFold::<Last<'_>>::on_heap(rt.alloc(), 20).expect(&rt, "memory");
-    assert_combined(&rt, window, &calls, 20);
-    let window = GrowableAllocWindowFold::<Last<'_>>::growable(rt.alloc());
     assert_combined(&rt, window, &calls, 20);
 }
 
@@ -124,7 +117,5 @@ fn assert_compared<'a, R: RingBuffer<Candidate<Level<'a>>> + Drop>(
 fn levels_are_compared_at_most_twice_a_push(rt: HostRuntime) {
     let compared = Cell::new(0);
     let ring = ConstGenericRingBuffer::<Candidate<Level<'_>>, 7>::new();
-    assert_compared(&rt, WindowLeast::new(ring), &compared);
-    let ring = GrowableAllocRingBuffer::<Candidate<Level<'_>>>::new(rt.alloc());
     assert_compared(&rt, WindowLeast::new(ring), &compared);
 }

@@ -1,7 +1,5 @@
 //! Windows of floating-point numbers.
 
-ghost use Rattle.std.specs.Prelude.{◌<◌};
-
 use super::assert_equal;
 use super::random_calls::{Call, Sliding, call_window};
 use ring_slots::RingSlots;
@@ -13,45 +11,14 @@ use ringbuffer::{
 use std::collections::VecDeque;
 use std::num::nearest_i64_to_f64;
 use std::process::Abort;
-use window::{
-    AllocWindowFloatSum, ConstGenericWindowFloatSum, CopyWindowFloatSum,
-    GrowableAllocWindowFloatSum, Summand, WindowFloatSum,
-};
-
-/// An empty ring of plain items.
-fn plain<const CAP: usize>() -> CopyRingBuffer<Summand, CAP>
-    requires { 0 < CAP }
-{
-    CopyRingBuffer::new(Summand::new(7.0))
-}
+use window::{CopyWindowFloatSum, Summand, WindowFloatSum};
 
 #[test]
-fn sums_of_the_last_three(rt: HostRuntime) {
-    on_array!(&rt, 3, assert_sums);
+fn sums_of_floating_point_numbers(rt: HostRuntime) {
     on_heap!(&rt, 3, assert_sums);
-    plain::<3>().assert_sums(&rt);
-}
-
-#[test]
-fn infinities_leave_with_their_samples(rt: HostRuntime) {
-    on_array!(&rt, 2, assert_recovers);
-    on_heap!(&rt, 2, assert_recovers);
     on_growable!(&rt, 2, assert_recovers);
-    plain::<2>().assert_recovers(&rt);
-}
-
-#[test]
-fn zeros_keep_their_sign(rt: HostRuntime) {
     on_array!(&rt, 2, assert_signs_of_zeros);
-    on_heap!(&rt, 2, assert_signs_of_zeros);
-    plain::<2>().assert_signs_of_zeros(&rt);
-}
-
-#[test]
-fn ten_tenths_dont_drift(rt: HostRuntime) {
-    on_array!(&rt, 10, assert_ten_tenths);
-    on_heap!(&rt, 10, assert_ten_tenths);
-    plain::<10>().assert_ten_tenths(&rt);
+    CopyRingBuffer::<Summand, 10>::new(Summand::new(7.0)).assert_ten_tenths(&rt);
 }
 
 /// A ring that holds samples already is summed at once. It lends them as they are.
@@ -184,10 +151,5 @@ impl<R: RingBuffer<Summand> + Drop> Sliding for WindowFloatSum<R> {
 /// Sums of small whole numbers are exact, whichever are added first.
 #[test]
 fn random_whole_numbers(rt: HostRuntime) {
-    ConstGenericWindowFloatSum::<7>::in_array().assert_agrees_with_walk(&rt, 7, true);
     CopyWindowFloatSum::<12>::in_plain_array().assert_agrees_with_walk(&rt, 12, true);
-    let sums = AllocWindowFloatSum::on_heap(rt.alloc(), 20).expect(&rt, "memory");
-    sums.assert_agrees_with_walk(&rt, 20, true);
-    let sums = GrowableAllocWindowFloatSum::growable(rt.alloc());
-    sums.assert_agrees_with_walk(&rt, 20, false);
 }

@@ -1,15 +1,14 @@
 //! Random calls of windows, whose answers a walk over the samples finds too.
 
 use super::assert_equal;
-use ringbuffer::{AllocRingBuffer, ConstGenericRingBuffer, GrowableAllocRingBuffer, RingBuffer};
+use ringbuffer::{AllocRingBuffer, RingBuffer};
 use std::collections::VecDeque;
 use std::fmt::Debug;
 use std::process::Abort;
 use window::{
-    AllocWindowFold, AllocWindowMax, AllocWindowMin, Ascending, Candidate, ConstGenericWindowFold,
-    ConstGenericWindowMax, ConstGenericWindowMin, Descending, GrowableAllocWindowFold,
-    GrowableAllocWindowMax, GrowableAllocWindowMin, Kept, Matrix, Monoid, Sum, WindowFold,
-    WindowLeast, WindowSum, WindowTally,
+    AllocWindowMin, Ascending, Candidate, ConstGenericWindowMax, Descending,
+    GrowableAllocWindowFold, Kept, Matrix, Monoid, Sum, WindowFold, WindowLeast, WindowSum,
+    WindowTally,
 };
 
 /// A number of a series that looks random: the next state, and some of its bits.
@@ -172,33 +171,12 @@ impl<R: RingBuffer<Kept<Matrix>> + Drop> Sliding for WindowFold<Matrix, R> {
 }
 
 #[test]
-fn random_calls_on_array_rings(rt: HostRuntime) {
-    ConstGenericWindowMin::<i64, 7>::in_array().assert_agrees_with_walk(&rt, 7, true);
-    ConstGenericWindowMax::<i64, 7>::in_array().assert_agrees_with_walk(&rt, 7, true);
-    WindowSum::new(ConstGenericRingBuffer::<i64, 7>::new()).assert_agrees_with_walk(&rt, 7, true);
-    ConstGenericWindowFold::<Matrix, 7>::in_array().assert_agrees_with_walk(&rt, 7, true);
-}
-
-#[test]
-fn random_calls_on_heap_rings(rt: HostRuntime) {
+fn random_calls(rt: HostRuntime) {
     let least = AllocWindowMin::<i64>::on_heap(rt.alloc(), 20).expect(&rt, "memory");
     least.assert_agrees_with_walk(&rt, 20, true);
-    let greatest = AllocWindowMax::<i64>::on_heap(rt.alloc(), 20).expect(&rt, "memory");
-    greatest.assert_agrees_with_walk(&rt, 20, true);
+    ConstGenericWindowMax::<i64, 7>::in_array().assert_agrees_with_walk(&rt, 7, true);
     let ring = AllocRingBuffer::<i64>::new(rt.alloc(), 20).expect(&rt, "memory");
     WindowSum::new(ring).assert_agrees_with_walk(&rt, 20, true);
-    let product = AllocWindowFold::<Matrix>::on_heap(rt.alloc(), 20).expect(&rt, "memory");
-    product.assert_agrees_with_walk(&rt, 20, true);
-}
-
-#[test]
-fn random_calls_on_growable_rings(rt: HostRuntime) {
-    let least = GrowableAllocWindowMin::<i64>::growable(rt.alloc());
-    least.assert_agrees_with_walk(&rt, 20, false);
-    let greatest = GrowableAllocWindowMax::<i64>::growable(rt.alloc());
-    greatest.assert_agrees_with_walk(&rt, 20, false);
-    let ring = GrowableAllocRingBuffer::<i64>::new(rt.alloc());
-    WindowSum::new(ring).assert_agrees_with_walk(&rt, 20, false);
     let product = GrowableAllocWindowFold::<Matrix>::growable(rt.alloc());
     product.assert_agrees_with_walk(&rt, 20, false);
 }

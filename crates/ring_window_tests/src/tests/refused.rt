@@ -3,10 +3,16 @@
 use super::assert_equal;
 use ring_slots::RingSlots;
 use ring_test_support::drought::Drought;
-use ring_test_support::on_fixed;
+use ring_test_support::on_heap;
 use ringbuffer::{FixedRing, GrowableAllocRingBuffer, RingBuffer};
+use std::mem::size_of;
 use std::process::Abort;
-use window::{Candidate, Gcd, Kept, Summand, WindowFloatSum, WindowFold, WindowMin, WindowSum};
+use window::{
+    AllocWindowFloatSum, AllocWindowFold, AllocWindowMax, AllocWindowMin, AllocWindowSum,
+    AllocWindowTime, Candidate, Gcd, GrowableAllocWindowFold, GrowableAllocWindowMin,
+    GrowableAllocWindowTime, Kept, Stamped, Summand, WindowFloatSum, WindowFold, WindowMin,
+    WindowSum,
+};
 
 /// Makes a growable ring that has room for four items, or for some more.
 fn roomy<T: Drop>(rt: &(impl Abort + AllocGlobal)) -> GrowableAllocRingBuffer<T> {
@@ -104,7 +110,7 @@ fn least_after_a_refused_push(rt: HostRuntime) {
 
 #[test]
 fn a_window_over_a_fixed_ring_takes_no_memory(rt: HostRuntime) {
-    on_fixed!(&rt, 2, assert_sums_take_none);
+    on_heap!(&rt, 2, assert_sums_take_none);
 }
 
 /// A ring that is summed up while memory is refused.
@@ -127,3 +133,58 @@ trait SummedUp: RingBuffer<i64> + Drop {
 impl<S: RingSlots<i64>> SummedUp for FixedRing<i64, S> {}
 
 impl SummedUp for GrowableAllocRingBuffer<i64> {}
+
+/// Makes a window on the heap of each capacity, while there is a block for its slots and no other, and no smaller one.
+macro_rules! assert_made_of_one_block {
+    ($rt:expr, $held:ty, |$capacity:ident| $made:expr) => {
+        for $capacity in [1usize, 7, (1 << 20) + 1] {
+            let slots = $capacity.next_power_of_two();
+            for spare in [slots.saturating_mul(size_of::<$held>()), 0] {
+                assert!($rt; 0 < $capacity);
+                let drought = Drought::but_for($rt.alloc(), spare).expect($rt, "memory");
+                let is_made = $made.is_ok();
+                drop(drought);
+                assert_equal($rt, ($capacity, spare, is_made), ($capacity, spare, spare > 0));
+            }
+        }
+    };
+}
+
+#[test]
+fn windows_on_the_heap_take_one_block(rt: HostRuntime) {
+    let (rt, alloc) = (&rt, rt.alloc());
+    let _most = Drought::of_most(alloc).expect(rt, "memory");
+    assert_made_of_one_block!(rt, Candidate<i64>, |capacity| {
+        AllocWindowMin::<i64>::on_heap(alloc, capacity)
+    });
+    assert_made_of_one_block!(rt, Candidate<i64>, |capacity| {
+        AllocWindowMax::<i64>::on_heap(alloc, capacity)
+    });
+    assert_made_of_one_block!(rt, Kept<Gcd>, |capacity| {
+        AllocWindowFold::<Gcd>::on_heap(alloc, capacity)
+    });
+    assert_made_of_one_block!(rt, i64, |capacity| AllocWindowSum::on_heap(alloc, capacity));
+    assert_made_of_one_block!(rt, Summand, |capacity| {
+        AllocWindowFloatSum::on_heap(alloc, capacity)
+    });
+    for span in [0, 3] {
+        assert_made_of_one_block!(rt, Stamped<u32>, |capacity| {
+            AllocWindowTime::<u32>::on_heap(alloc, capacity, span)
+        });
+    }
+}
+
+#[test]
+fn growable_windows_are_made_of_nothing(rt: HostRuntime) {
+    let drought = Drought::total(rt.alloc()).expect(&rt, "memory");
+    let least = GrowableAllocWindowMin::<i64>::growable(rt.alloc());
+    let product = GrowableAllocWindowFold::<Gcd>::growable(rt.alloc());
+    let timed = GrowableAllocWindowTime::<u32>::growable(rt.alloc(), 0);
+    drop(drought);
+    let rooms = (
+        least.ring().capacity(),
+        product.ring().capacity(),
+        timed.ring().capacity(),
+    );
+    assert_equal(&rt, rooms, (0, 0, 0));
+}

@@ -70,46 +70,6 @@ fn a_window_sums_what_its_ring_holds(rt: HostRuntime) {
     on_each!(&rt, 2, assert_slides, &[], OF_NOTHING);
 }
 
-/// How many samples are averaged: as many as the rings hold that are averaged over.
-const AVERAGED: usize = 10;
-
-/// How many samples there are.
-const SERIES: usize = 300;
-
-/// Returns samples from all over the range of an i64.
-fn series() -> [i64; SERIES] {
-    let mut samples = [0i64; SERIES];
-    let mut state = 1i64;
-    for sample in samples.iter_mut() {
-        state = state
-            .wrapping_mul(6364136223846793005)
-            .wrapping_add(1442695040888963407);
-        *sample = state;
-    }
-    samples
-}
-
-/// Returns the sum and the number of the last samples up to one, which are averaged.
-fn averaged(samples: &[i64], newest: usize) -> (i128, i128) {
-    let mut sum = 0i128;
-    let mut count = 0i128;
-    for recent in samples
-        .iter()
-        .take(newest.saturating_add(1))
-        .rev()
-        .take(AVERAGED)
-    {
-        sum = sum.wrapping_add(i128::from(*recent));
-        count = count.wrapping_add(1);
-    }
-    (sum, count)
-}
-
-#[test]
-fn a_window_has_a_moving_average(rt: HostRuntime) {
-    on_each!(&rt, 10, assert_averages);
-}
-
 /// A ring that a window slides over.
 trait Slid: RingBuffer<i64> + Drop {
     /// Asserts what the calls of a window over a ring that holds these samples answer.
@@ -121,22 +81,6 @@ trait Slid: RingBuffer<i64> + Drop {
         for (i, slide) in slides.iter().enumerate() {
             let found = answered(rt, &mut window, *slide);
             assert_equal(rt, (i, found), (i, *slide));
-        }
-    }
-
-    fn assert_averages(self, rt: &impl Abort) {
-        let samples = series();
-        let mut window = WindowSum::new(self);
-        for (i, sample) in samples.iter().enumerate() {
-            assert!(rt; window.push(*sample).is_ok());
-            // Only a ring without a limit has too many.
-            if window.len() > AVERAGED {
-                let _ = window.forget_oldest();
-            }
-            let (sum, count) = averaged(&samples, i);
-            let mean = window.sum().checked_div(window.len() as i128);
-            let found = (i, window.sum(), mean);
-            assert_equal(rt, found, (i, sum, sum.checked_div(count)));
         }
     }
 }

@@ -3,11 +3,8 @@
 use super::assert_equal;
 use ring_slots::RingSlots;
 use ring_test_support::drought::Drought;
-use ring_test_support::{on_each, on_fixed};
-use ringbuffer::{
-    AllocRingBuffer, ConstGenericRingBuffer, FixedRing, GrowableAllocRingBuffer, RingBuffer,
-    RingBufferExt,
-};
+use ring_test_support::{on_array, on_growable, on_heap};
+use ringbuffer::{FixedRing, GrowableAllocRingBuffer, RingBuffer, RingBufferExt};
 use std::process::Abort;
 use window::{
     AllocWindowTime, ConstGenericWindowTime, GrowableAllocWindowTime, Stamped, WindowTime,
@@ -37,18 +34,10 @@ fn assert_holds<R: RingBuffer<Stamped<u32>>>(
 }
 
 #[test]
-fn newer_items_push_out_older_ones(rt: HostRuntime) {
-    on_each!(&rt, 4, assert_newer_push_out_older);
-}
-
-#[test]
-fn a_full_window_hands_back_young_items(rt: HostRuntime) {
-    on_fixed!(&rt, 2, assert_hands_back_the_young);
-}
-
-#[test]
-fn stamps_out_of_order(rt: HostRuntime) {
-    on_each!(&rt, 4, assert_stays_behind_a_younger);
+fn items_leave_with_their_time(rt: HostRuntime) {
+    on_growable!(&rt, 4, assert_newer_push_out_older);
+    on_array!(&rt, 2, assert_hands_back_the_young);
+    on_heap!(&rt, 4, assert_stays_behind_a_younger);
 }
 
 /// In a full window of two the first item isn't too old, and so the second stays, which is.
@@ -94,25 +83,6 @@ fn the_ends_of_time(rt: HostRuntime) {
     assert_holds(&rt, &instant, &[at(end, 3), at(end, 3)]);
 }
 
-#[test]
-fn items_taken_out_of_a_window_of_time(rt: HostRuntime) {
-    let mut ring = ConstGenericRingBuffer::<Stamped<u32>, 3>::new();
-    for stamp in [1, 2, 50] {
-        let _ = ring.push(at(stamp, 0));
-    }
-    let mut window = WindowTime::new(ring, 10);
-    assert_holds(&rt, &window, &[at(1, 0), at(2, 0), at(50, 0)]);
-    assert_equal(&rt, window.dequeue(), Some(at(1, 0)));
-    assert_holds(&rt, &window, &[at(2, 0), at(50, 0)]);
-    let mut window = WindowTime::new(
-        AllocRingBuffer::new(rt.alloc(), 2).expect(&rt, "memory"),
-        10,
-    );
-    assert_equal(&rt, (window.dequeue(), window.push(1, 1)), (None, Ok(None)));
-    window.clear();
-    assert_holds(&rt, &window, &[]);
-}
-
 /// Even an item that is too old stays where the push is refused.
 #[test]
 fn a_refused_push_drops_nothing(rt: HostRuntime) {
@@ -140,8 +110,8 @@ fn a_refused_push_drops_nothing(rt: HostRuntime) {
 }
 
 #[test]
-fn a_window_of_time_over_a_fixed_ring_takes_no_memory(rt: HostRuntime) {
-    on_fixed!(&rt, 2, assert_takes_no_memory);
+fn a_window_of_time_over_a_fixed_ring_is_refused_nothing(rt: HostRuntime) {
+    on_heap!(&rt, 2, assert_takes_no_memory);
 }
 
 /// A ring of items with stamps.

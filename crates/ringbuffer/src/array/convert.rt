@@ -6,9 +6,9 @@ ghost use Rattle.ringbuffer.specs.Sources.{GivesAll};
 ghost use Rattle.ringbuffer.specs.Conversion.{ClonesMeet, HoldsLast};
 
 use crate::array::ConstGenericRingBuffer;
+use crate::convert::{extend_cloned, extend_somes};
 use crate::grow::GrowableAllocRingBuffer;
 use crate::heap::AllocRingBuffer;
-use crate::pushes::{extend_cloned, extend_somes};
 use std::alloc::AllocError;
 use std::collections::{LinkedList, VecDeque};
 
@@ -116,7 +116,7 @@ impl<T: Clone + Drop, const CAP: usize> ConstGenericRingBuffer<T, CAP> {
         Ok(ring)
     }
 
-    /// Does what `from_slice` does. The slice is as it was.
+    /// Makes a ring of the items of a slice lent for writing, as `from_slice`. The slice is as it was.
     ///
     /// # Errors
     ///
@@ -146,7 +146,7 @@ impl<T: Clone + Drop, const CAP: usize> ConstGenericRingBuffer<T, CAP> {
         Self::from_slice(items)
     }
 
-    /// Does what `from_array_ref` does. The array is as it was.
+    /// Makes a ring of the items of an array lent for writing, as `from_array_ref`. The array is as it was.
     ///
     /// # Errors
     ///

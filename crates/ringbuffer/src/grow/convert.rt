@@ -4,10 +4,10 @@ ghost use Rattle.std.specs.Iterator.{Drains, IsFiniteIterable, YieldsThen};
 ghost use Rattle.std.specs.List.{AllZip};
 ghost use Rattle.ringbuffer.specs.Somes.{somes};
 
+use crate::convert::{extend_cloned, extend_somes};
 use crate::fixed::FixedRing;
 use crate::grow::GrowableAllocRingBuffer;
 use crate::heap::AllocRingBuffer;
-use crate::pushes::{extend_cloned, extend_somes};
 use ring_core::RingBuffer;
 use ring_slots::RingSlots;
 use std::alloc::{AllocError, Global};
@@ -143,7 +143,7 @@ impl<T: Clone + Drop> GrowableAllocRingBuffer<T> {
         Self::from_vec(alloc, items.to_vec(alloc)?)
     }
 
-    /// Does what `from_slice` does. The slice is as it was.
+    /// Makes a ring of the items of a slice lent for writing, as `from_slice`. The slice is as it was.
     ///
     /// # Errors
     ///
@@ -168,7 +168,7 @@ impl<T: Clone + Drop> GrowableAllocRingBuffer<T> {
         Self::from_slice(alloc, items)
     }
 
-    /// Does what `from_array_ref` does. The array is as it was.
+    /// Makes a ring of the items of an array lent for writing, as `from_array_ref`. The array is as it was.
     ///
     /// # Errors
     ///

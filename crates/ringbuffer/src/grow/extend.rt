@@ -3,7 +3,8 @@ ghost use Rattle.std.specs.Prelude.{◌≡◌, ◌++◌, IsSome, List, MatchResu
 ghost use Rattle.std.specs.Iterator.{Drains, IsFinite, IsFiniteIterable, YieldsThen};
 ghost use Rattle.ring_core.specs.Extension.{Extends};
 
-use super::{FEW, GrowableAllocRingBuffer};
+use super::GrowableAllocRingBuffer;
+use crate::few::FEW_IN;
 use ring_core::RingBuffer;
 use std::alloc::AllocError;
 use std::collections::VecDeque;
@@ -82,7 +83,7 @@ impl<T: Copy + Drop> GrowableAllocRingBuffer<T> {
         ensures ok { OnOk result (self.new ≡ self.old ++ items.now) }
         ensures err { OnErr result (self.new ≡ self.old) }
     {
-        if items.len() < FEW || items.len() < self.deque.len() {
+        if items.len() < FEW_IN || items.len() < self.deque.len() {
             return self.push_copies(items);
         }
         // A vector copies a slice at once, and moves no more items for that than come.
@@ -92,13 +93,13 @@ impl<T: Copy + Drop> GrowableAllocRingBuffer<T> {
         copied
     }
 
-    /// Does what `extend_from_slice` does, and moves no item but where the deque grows.
+    /// Pushes copies of a slice's items, and moves no item but where the deque grows.
     fn push_copies(&mut self, items: &[T]) -> Result<(), AllocError>
         ensures ok { OnOk result (self.new ≡ self.old ++ items.now) }
         ensures err { OnErr result (self.new ≡ self.old) }
     {
         self.deque.reserve(items.len())?;
-        if items.len() >= FEW {
+        if items.len() >= FEW_IN {
             return self.extend_reserved(items);
         }
         for i in 0..items.len() {

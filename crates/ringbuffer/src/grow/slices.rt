@@ -1,8 +1,9 @@
 //! Copies between a growable ring and slices, and its items as slices.
-ghost use Rattle.std.specs.Prelude.{◌≡◌, ◌↔◌, ◌-◌, ◌<◌, ◌≤◌, ◌++◌, IfOk, drop, length, min, take};
+ghost use Rattle.std.specs.Prelude.{◌≡◌, ◌↔◌, ◌-◌, ◌<◌, ◌≤◌, [], ◌++◌, IfOk, OnErr, OnOk, drop, length, min, take};
 ghost use Rattle.std.specs.Borrow.{sem};
 
-use super::{FEW_OUT, GrowableAllocRingBuffer, MANY, MOST_BYTES_ROTATED};
+use super::{GrowableAllocRingBuffer, MANY, MOST_BYTES_ROTATED};
+use crate::few::FEW;
 use crate::two_slices::{copy_slices, slices_to_vec};
 use core::mem::replace_with;
 use ring_slots::item_size;
@@ -31,6 +32,28 @@ impl<T: Copy + Drop> GrowableAllocRingBuffer<T> {
         copy_slices(self.as_slices(), output)
     }
 
+    /// Drops all items of `other`, and puts copies of the items there. Unlike `clone_into` it copies stretches at once. Takes
+    /// O(n) in the items of both.
+    ///
+    /// # Errors
+    ///
+    /// Where memory for all of them was refused. `other` is empty then.
+    pub fn copy_into(&self, other: &mut Self) -> Result<(), AllocError>
+        ensures ok { OnOk result (other.new ≡ self.now) }
+        ensures err { OnErr result (other.new ≡ []) }
+    {
+        let (first, second) = self.as_slices();
+        other.deque.clear();
+        let mut room = other.take_vec();
+        let reserved = room.reserve(self.deque.len());
+        if reserved.is_ok() {
+            let _ = room.extend_from_slice(first);
+            let _ = room.extend_from_slice(second);
+        }
+        other.deque = VecDeque::from_vec(room);
+        reserved
+    }
+
     /// Takes out the oldest items, as many as a slice has places, copies them to its first places, and returns how many.
     /// Takes O(n) in these.
     // Inlined always, since a call would save and restore six registers.
@@ -40,7 +63,7 @@ impl<T: Copy + Drop> GrowableAllocRingBuffer<T> {
         ensures copied { output.new ≡ take result self.old ++ drop result output.old }
         ensures rest { self.new ≡ drop result self.old }
     {
-        if output.len() < FEW_OUT {
+        if output.len() < FEW {
             return self.dequeue_each(output);
         }
         let count = self.copy_to_slice(output);
@@ -48,7 +71,7 @@ impl<T: Copy + Drop> GrowableAllocRingBuffer<T> {
         count
     }
 
-    /// Does what `dequeue_into` does, item by item. The deque is a value meanwhile, so that its fields stay in registers. Out of
+    /// Takes out the oldest items one by one. The deque is a value meanwhile, so that its fields stay in registers. Out of
     /// line, so that blocks take no step for it.
     #[inline(never)]
     fn dequeue_each(&mut self, output: &mut [T]) -> usize

@@ -5,10 +5,10 @@ ghost use Rattle.ring_core.specs.Contents.{keep_last};
 ghost use Rattle.ringbuffer.specs.Somes.{somes};
 ghost use Rattle.ringbuffer.specs.Conversion.{ClonesMeet, HoldsAll};
 
+use crate::convert::extend_somes;
 use crate::fixed::FixedRing;
 use crate::grow::GrowableAllocRingBuffer;
 use crate::heap::AllocRingBuffer;
-use crate::pushes::extend_somes;
 use ring_core::RingBuffer;
 use ring_slots::RingSlots;
 use std::alloc::{AllocError, Global};
@@ -167,7 +167,7 @@ impl<T: Clone + Drop> AllocRingBuffer<T> {
         Ok(ring)
     }
 
-    /// Does what `from_slice` does. The slice is as it was.
+    /// Makes a ring of the items of a slice lent for writing, as `from_slice`. The slice is as it was.
     ///
     /// # Errors
     ///
@@ -194,7 +194,7 @@ impl<T: Clone + Drop> AllocRingBuffer<T> {
         Self::from_slice(alloc, items)
     }
 
-    /// Does what `from_array_ref` does. The array is as it was.
+    /// Makes a ring of the items of an array lent for writing, as `from_array_ref`. The array is as it was.
     ///
     /// # Errors
     ///

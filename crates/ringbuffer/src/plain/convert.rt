@@ -44,7 +44,7 @@ impl<T: Copy + Drop, const CAP: usize> CopyRingBuffer<T, CAP> {
         Self::from_array(*items)
     }
 
-    /// Does what `from_array_ref` does. The array is as it was.
+    /// Makes a ring of the items of an array lent for writing, as `from_array_ref`. The array is as it was.
     pub fn from_mut_array(items: &mut [T; CAP]) -> Self
         requires { 0 < CAP }
         ensures made { result ≡ record { items = items.old; changes = CAP; capacity = CAP } }
@@ -63,7 +63,7 @@ impl<T: Copy + Drop, const CAP: usize> CopyRingBuffer<T, CAP> {
         ring
     }
 
-    /// Does what `from_slice` does. The slice is as it was.
+    /// Makes a ring of the items of a slice lent for writing, as `from_slice`. The slice is as it was.
     pub fn from_mut_slice(filler: T, items: &mut [T]) -> Self
         requires { 0 < CAP }
         ensures items { HoldsLast CAP items.old result }

@@ -106,7 +106,8 @@ fn assert_copies_refused<'a, R: RingBuffer<Counted<'a>> + Clone + Drop>(
 fn a_refused_clone_of_an_item_ends_a_clone_or_a_list(rt: HostRuntime) {
     let supply = supply(&rt, 6);
     on_each_of_any!(&rt, 3, assert_clones_refused, &supply, Copying::Ring);
-    on_each_of_any!(&rt, 3, assert_clones_refused, &supply, Copying::List);
+    on_heap_of_any!(&rt, 3, assert_clones_refused, &supply, Copying::List);
+    on_growable_of_any!(&rt, 3, assert_clones_refused, &supply, Copying::List);
 }
 
 /// Clones the three items of a ring into another that holds three, where from none to three clones are had.
@@ -145,5 +146,6 @@ fn a_clone_and_a_list_are_refused_in_turn(rt: HostRuntime) {
     let supply = supply(&rt, 6);
     on_heap_of_any!(&rt, 3, assert_copies_refused, &supply, Copying::Ring);
     on_growable_of_any!(&rt, 0, assert_copies_refused, &supply, Copying::Ring);
-    on_each_of_any!(&rt, 3, assert_copies_refused, &supply, Copying::List);
+    on_heap_of_any!(&rt, 3, assert_copies_refused, &supply, Copying::List);
+    on_growable_of_any!(&rt, 3, assert_copies_refused, &supply, Copying::List);
 }

@@ -1,8 +1,7 @@
 //! Makers that are refused memory, and those that need none.
 
 use crate::tests::{assert_equal, drought};
-use ring_test_support::drought::{is_in_turn, spared};
-use ring_test_support::refused_in_turn;
+use ring_test_support::drought::Drought;
 use ringbuffer::{AllocRingBuffer, ConstGenericRingBuffer, GrowableAllocRingBuffer, RingBuffer};
 use std::alloc::AllocError;
 use std::process::Abort;
@@ -15,18 +14,20 @@ fn texts_and_empty_rings_need_no_memory(rt: HostRuntime) {
     let of_string = ConstGenericRingBuffer::<char, 2>::from_string(string);
     let array = ConstGenericRingBuffer::<i64, 2>::default();
     let growable = GrowableAllocRingBuffer::<i64>::default(rt.alloc());
+    let clone = growable.clone();
     drop(drought);
+    assert!(rt; clone.is_ok_and(|clone| clone.is_empty()));
     assert_equal(&rt, (of_text.len(), of_text == of_string), (2, true));
     assert_equal(&rt, (array.is_empty(), growable.is_empty()), (true, true));
 }
 
-/// What makes an empty ring with room for eight items.
+/// What makes an empty ring.
 #[derive(Clone, Copy, Debug, Drop, PartialEq)]
 enum Maker {
-    HeapNew,
-    HeapWithCapacity,
-    HeapWithCapacityPowerOf2,
-    GrowableWithCapacity,
+    New,
+    WithCapacity,
+    WithCapacityPowerOf2,
+    Growable,
 }
 
 /// Returns the capacity of a ring, if it was made. It is empty.
@@ -43,40 +44,57 @@ fn capacity_of<R: RingBuffer<i64> + Drop>(
     }
 }
 
-/// Makes a ring, and returns its capacity, if it was made.
-fn made_by(rt: &(impl Abort + AllocGlobal), maker: Maker) -> Option<usize> {
+/// Makes a ring of a capacity, or of the least power of two from there on, in a drought that spares `spare` bytes. Returns its
+/// capacity, if it was made.
+fn made_by(
+    rt: &(impl Abort + AllocGlobal),
+    maker: Maker,
+    capacity: usize,
+    spare: usize,
+) -> Option<usize> {
     let alloc = rt.alloc();
+    assert!(rt; 0 < capacity && capacity < 1 << 40);
+    let exponent = (usize::BITS - (capacity - 1).leading_zeros()) as usize;
+    assert!(rt; exponent < 64);
+    let _drought = drought(rt, spare);
     let made = match maker {
-        Maker::HeapNew => AllocRingBuffer::new(alloc, 8),
-        Maker::HeapWithCapacity => AllocRingBuffer::with_capacity(alloc, 8),
-        Maker::HeapWithCapacityPowerOf2 => AllocRingBuffer::with_capacity_power_of_2(alloc, 3),
-        Maker::GrowableWithCapacity => {
-            return capacity_of(rt, GrowableAllocRingBuffer::with_capacity(alloc, 8));
+        Maker::New => AllocRingBuffer::new(alloc, capacity),
+        Maker::WithCapacity => AllocRingBuffer::with_capacity(alloc, capacity),
+        Maker::WithCapacityPowerOf2 => AllocRingBuffer::with_capacity_power_of_2(alloc, exponent),
+        Maker::Growable => {
+            return capacity_of(rt, GrowableAllocRingBuffer::with_capacity(alloc, capacity));
         }
     };
     capacity_of(rt, made)
 }
 
+/// Makers, capacities, the numbers of slots, and the capacities that rings then have.
+const MADE: &[(Maker, usize, usize, usize)] = &[
+    (Maker::New, 1, 1, 1),
+    (Maker::New, 7, 8, 7),
+    (Maker::New, (1 << 20) + 1, 1 << 21, (1 << 20) + 1),
+    (Maker::WithCapacity, 1, 1, 1),
+    (Maker::WithCapacity, 7, 8, 7),
+    (Maker::WithCapacity, (1 << 20) + 1, 1 << 21, (1 << 20) + 1),
+    (Maker::WithCapacityPowerOf2, 1, 1, 1),
+    (Maker::WithCapacityPowerOf2, 7, 8, 8),
+    (Maker::WithCapacityPowerOf2, 1 << 21, 1 << 21, 1 << 21),
+    (Maker::Growable, 1, 1, 1),
+    (Maker::Growable, 7, 7, 7),
+    (Maker::Growable, (1 << 20) + 1, (1 << 20) + 1, (1 << 20) + 1),
+];
+
+// There is a block for the slots, of 8 bytes each, and no other.
 #[test]
-fn a_maker_is_refused_in_turn(rt: HostRuntime) {
-    let makers = [
-        Maker::HeapNew,
-        Maker::HeapWithCapacity,
-        Maker::HeapWithCapacityPowerOf2,
-        Maker::GrowableWithCapacity,
-    ];
-    for maker in makers {
-        let refused = refused_in_turn!(
+fn a_maker_takes_one_block_or_is_refused(rt: HostRuntime) {
+    let _most = Drought::of_most(rt.alloc()).expect(&rt, "memory");
+    for (maker, capacity, slots, wanted) in MADE {
+        let made = made_by(&rt, *maker, *capacity, slots.saturating_mul(8));
+        assert_equal(&rt, (*maker, made), (*maker, Some(*wanted)));
+        assert_equal(
             &rt,
-            step,
-            {
-                let drought = drought(&rt, spared(step));
-                let made = made_by(&rt, maker);
-                drop(drought);
-                assert!(rt; made.is_none() || made >= Some(8));
-                made.is_some()
-            }
+            (*maker, made_by(&rt, *maker, *capacity, 0)),
+            (*maker, None),
         );
-        assert_equal(&rt, (maker, is_in_turn(refused)), (maker, true));
     }
 }

@@ -6,8 +6,11 @@ use crate::tests::{
 };
 use ring_test_support::counted::{Counted, Supply};
 use ring_test_support::drought::{is_in_turn, spared};
-use ring_test_support::{on_growable_of_any, refused_in_turn};
-use ringbuffer::{Command, GrowableAllocRingBuffer, Refused, Reply, RingBuffer, apply};
+use ring_test_support::refused_in_turn;
+use ringbuffer::{
+    Command, DoubleEndedRing, GrowableAllocRingBuffer, Refused, Reply, RingBuffer, apply,
+};
+use std::alloc::AllocError;
 use std::process::Abort;
 
 /// Takes the item that the refusal of a push hands back.
@@ -21,32 +24,26 @@ fn refused_item<'a>(
     }
 }
 
-/// Pushes onto a growable ring that is full, by each call.
-fn assert_push_refused<'a, R: RingBuffer<Counted<'a>> + Drop>(
-    rt: &(impl Abort + AllocGlobal),
-    mut ring: R,
-    supply: &'a Supply,
-) {
+#[test]
+fn a_refused_push_hands_its_item_back(rt: HostRuntime) -> Result<(), AllocError> {
+    let (rt, supply) = (&rt, supply(&rt, 40));
+    let mut ring = GrowableAllocRingBuffer::with_capacity(rt.alloc(), 4)?;
     let room = ring.capacity();
-    push_first(rt, &mut ring, supply, room);
+    push_first(rt, &mut ring, &supply, room);
     assert!(rt; ring.is_full());
     let drought = drought(rt, 0);
-    let pushed = ring.push(next(rt, supply)).err();
+    let pushed = ring.push(next(rt, &supply)).err();
     let pushed = pushed.expect(rt, "the item that was pushed");
     let enqueued = ring.enqueue(pushed).err();
     let item = enqueued.expect(rt, "the item that was enqueued");
     let item = refused_item(rt, apply(&mut ring, Command::Push(item)));
+    let item = ring.push_front(item).err().expect(rt, "the item put first");
     drop(drought);
     assert_equal(rt, (item.number, ring.len()), (room, room));
     assert_numbered(rt, &ring, 0);
     drop(item);
-    assert_dropped_with(rt, supply, ring);
-}
-
-#[test]
-fn a_refused_push_hands_its_item_back(rt: HostRuntime) {
-    let supply = supply(&rt, 40);
-    on_growable_of_any!(&rt, 4, assert_push_refused, &supply);
+    assert_dropped_with(rt, &supply, ring);
+    Ok(())
 }
 
 /// Extends a growable ring by a call or by a command, in a drought that spares `spare` bytes. Returns whether that was done.

@@ -2,7 +2,7 @@
 
 use super::{MANY, are_numbered};
 use crate::tests::{
-    assert_dropped_with, assert_equal, assert_numbered, drought, items, next, push_all, supply,
+    assert_dropped_with, assert_equal, assert_numbered, drought, items, next, supply,
 };
 use ring_test_support::counted::{Counted, Supply};
 use ring_test_support::drought::{Drought, MOST_STEPS, is_in_turn, spared};
@@ -15,12 +15,10 @@ use std::alloc::AllocError;
 use std::mem::size_of;
 use std::process::Abort;
 
-/// A run on a ring that is new and overwrites nothing: it pushes item 0, extends by others, takes one or else extends by
-/// none, and pushes a last item.
+/// A run on a ring that is new and overwrites nothing: it pushes item 0, extends by others, takes one, and pushes a last item.
 #[derive(Drop)]
 struct Script {
     extension: usize,
-    takes: bool,
 }
 
 impl Script {
@@ -37,16 +35,11 @@ impl Script {
     ) -> Vec<Command<Counted<'a>>> {
         let first = next(rt, supply);
         let extension = items(rt, supply, self.extension);
-        let third = if self.takes {
-            Command::Dequeue
-        } else {
-            Command::Extend(Vec::new(rt.alloc()))
-        };
         let last = next(rt, supply);
         let commands = vec![in rt.alloc();
             Command::Push(first),
             Command::Extend(extension),
-            third,
+            Command::Dequeue,
             Command::Push(last),
         ];
         commands.expect(rt, "memory")
@@ -57,11 +50,10 @@ impl Script {
         match command {
             Command::Push(item) if at == 0 => item.number == 0,
             Command::Push(item) => at == 3 && item.number == self.extension.saturating_add(1),
-            Command::Extend(items) if at == 1 => {
-                items.len() == self.extension && are_numbered(items, 1)
+            Command::Extend(items) => {
+                at == 1 && items.len() == self.extension && are_numbered(items, 1)
             }
-            Command::Extend(items) => at == 2 && !self.takes && items.is_empty(),
-            Command::Dequeue => at == 2 && self.takes,
+            Command::Dequeue => at == 2,
             _ => false,
         }
     }
@@ -70,8 +62,8 @@ impl Script {
     fn is_reply(&self, reply: &Reply<Counted<'_>>, at: usize) -> bool {
         match reply {
             Reply::Pushed(None) => at == 0 || at == 3,
-            Reply::Extended => at == 1 || at == 2 && !self.takes,
-            Reply::Dequeued(Some(item)) => at == 2 && self.takes && item.number == 0,
+            Reply::Extended => at == 1,
+            Reply::Dequeued(Some(item)) => at == 2 && item.number == 0,
             _ => false,
         }
     }
@@ -110,7 +102,7 @@ impl Script {
         ring: R,
         done: usize,
     ) {
-        let first = if self.takes && done > 2 { 1 } else { 0 };
+        let first = if done > 2 { 1 } else { 0 };
         let found = ring.len().saturating_add(first);
         let end = match done {
             0 => 0,
@@ -187,44 +179,17 @@ fn assert_run_at_last(rt: &(impl Abort + AllocGlobal), script: &Script, ends: &[
     panic!(rt; "each attempt was refused")
 }
 
-/// Counts the items of an extension that fills a growable ring of one item to its capacity, where they are many.
-fn extension_to_capacity(rt: &(impl Abort + AllocGlobal)) -> usize {
-    let mut extension = MANY;
-    for _ in 0..10 {
-        let mut ring = GrowableAllocRingBuffer::new(rt.alloc());
-        for _ in 0..extension.saturating_add(1) {
-            push_all(rt, &mut ring, &[1]);
-        }
-        if ring.is_full() {
-            return extension;
-        }
-        extension = ring.capacity().saturating_sub(1);
-    }
-    panic!(rt; "no extension fills a ring")
-}
-
 #[test]
 fn a_run_of_a_growable_ring_stops_where_it_is_refused(rt: HostRuntime) {
-    let script = Script {
-        extension: MANY,
-        takes: true,
-    };
+    let script = Script { extension: MANY };
+    // After the command that takes an item there is room for the next.
     assert_run_at_last(&rt, &script, &[None, Some(0), Some(1)]);
-    // After a command that takes an item there is room for the next. So the last push is refused where none was taken.
-    let script = Script {
-        extension: extension_to_capacity(&rt),
-        takes: false,
-    };
-    assert_run_at_last(&rt, &script, &[None, Some(0), Some(1), Some(3)]);
 }
 
 // The rings have room for all items, so that the script overwrites none.
 #[test]
 fn a_run_of_a_fixed_ring_is_refused_its_replies_alone(rt: HostRuntime) -> Result<(), AllocError> {
-    let script = Script {
-        extension: 3,
-        takes: true,
-    };
+    let script = Script { extension: 3 };
     let supply = supply(&rt, script.items());
     for (step, done) in [(0, None), (1, Some(4))] {
         let spare = spared_for_run(step);
@@ -268,10 +233,7 @@ fn done_into_places(
 
 #[test]
 fn places_hold_the_replies_before_a_refusal(rt: HostRuntime) {
-    let script = Script {
-        extension: MANY,
-        takes: true,
-    };
+    let script = Script { extension: MANY };
     let supply = supply(&rt, script.items());
     let refused = refused_in_turn!(
         &rt,

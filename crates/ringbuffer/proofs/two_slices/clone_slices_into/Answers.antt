@@ -24,3 +24,6 @@ returns-in_err-clone_slice_into-2-clause-clones g c = let (xs, clones, out, _) =
 
 pub returns-clause-clones : goal.returns-clause-clones
 returns-clause-clones g c = let (xs, clones, out, whole) = made g c.before.before.before.before.before in (xs, clones, out, omega (arith, simp c.in_ok-clone_slice_into-2.was at whole))
+
+pub returns-in_err-clone_slice_into-clause-clones : goal.returns-in_err-clone_slice_into-clause-clones
+returns-in_err-clone_slice_into-clause-clones g c = grind (arith, common_steps)

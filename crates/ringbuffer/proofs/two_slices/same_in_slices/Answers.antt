@@ -1,5 +1,5 @@
 -- The parts of both lists have equal lengths pair by pair, except the middles, of which one is empty.
-use Rattle.ringbuffer.proofs.Words.{◌≡◌, arith, ℕ, ◌+◌, ◌-◌, ◌⊎◌, inl, inr, length, List, ◌++◌, take, drop, take-append-drop, length-drop, Bool, ◌&&◌, append_assoc, dec_lt, common_steps, nil_from_length, min, pointwise}
+use Rattle.ringbuffer.proofs.Words.{◌≡◌, arith, ℕ, ◌+◌, ◌⊎◌, inl, inr, length, List, ◌++◌, take, drop, take-append-drop, length-drop, Bool, ◌&&◌, append_assoc, dec_lt, common_steps, nil_from_length, min, pointwise}
 use Rattle.ringbuffer.proofs.Paired.{pointwise-append}
 use Rattle.ringbuffer.proofs.two_slices.same_in_slices.Goals as goal
 
@@ -21,8 +21,8 @@ pointwise-parts eq a b c d n same least =
     (elim (dec_lt (length a) (length c)) [ yes low ↦ inl (omega arith) | no high ↦ inr (omega arith) ]) in
     rw (rw (take-append-drop, take-append-drop) at behind) at (rw (← append_assoc (take n a), ← append_assoc (take n c), take-append-drop n a, take-append-drop n c) at front)
 
-pub returns-then-eq-3 : goal.returns-then-eq-3
-returns-then-eq-3 g c = rw (pointwise-parts g.T.PartialEq.eq _ _ _ _ _ c.requires c.min-in_both.ensures) (grind (arith, common_steps))
+pub returns-then-same_items-3 : goal.returns-then-same_items-3
+returns-then-same_items-3 g c = rw (pointwise-parts g.T.PartialEq.eq _ _ _ _ _ c.requires c.min-in_both.ensures) (grind (arith, common_steps))
 
-pub returns-else-eq-3 : goal.returns-else-eq-3
-returns-else-eq-3 g c = rw (pointwise-parts g.T.PartialEq.eq _ _ _ _ _ c.requires c.min-in_both.ensures) (grind (arith, common_steps))
+pub returns-else-same_items-3 : goal.returns-else-same_items-3
+returns-else-same_items-3 g c = rw (pointwise-parts g.T.PartialEq.eq _ _ _ _ _ c.requires c.min-in_both.ensures) (grind (arith, common_steps))

@@ -1,4 +1,5 @@
-use Rattle.ring_core.proofs.Words.{◌∙◌, ap, is_ok, rules}
+use Rattle.ring_core.proofs.Words.{Ok, ◌∙◌, ap, is_ok, rules}
+use Rattle.ring_core.proofs.Cloned.{equal_clones_fill}
 use Rattle.ring_core.proofs.Filling.{IsFilled-turn}
 use Rattle.ring_core.proofs.ring.RingBuffer.fill.Goals as goal
 
@@ -17,3 +18,8 @@ returns-in-Err g c = search rules
 
 pub returns-clause-short : goal.returns-clause-short
 returns-clause-short g c = search rules
+
+pub returns-clause-items_if_clones_equal : goal.returns-clause-items_if_clones_equal
+returns-clause-items_if_clones_equal g c =
+    let (filled, limit) = c.loop.invariant in
+    equal_clones_fill {E = Unit {0}} g.T.Clone.is_clone (g.Self.RingBuffer.limit c.args.self.now) c.args.value _ (Ok tt) filled.items (search rules)

@@ -1,7 +1,14 @@
 use Rattle.ringbuffer.proofs.Words.{◌∙◌, View, after_put, after_take, ap, arith, slice_get, sym, view_from}
-use Rattle.ringbuffer.proofs.LaysOut.{LaysOut-then}
+use Rattle.ringbuffer.proofs.LaysOut.{LaysOut-then, same_place}
 use Rattle.ringbuffer.proofs.RepeatedSteps.{after_firsts_to_back-more}
 use Rattle.ringbuffer.proofs.fixed.FixedRing.firsts_to_back.Goals as goal
+
+-- The place after the last is the same once the first was taken.
+pub put_at-requires-clause-place : goal.put_at-requires-clause-place
+put_at-requires-clause-place g c =
+    let lies = c.loop.invariant.lays_out in let took = c.take_from-next.ensures in
+    rw (took.after.same_size, took.next)
+    (c.place_after-end.ensures ∙ same_place _ _ lies.laid_out c.args.span.len (omega (arith, c.loop-test.true, c.requires.some)) (omega (arith, c.requires.span.len, c.requires.span.laid_out.fit, lies.same_size)))
 
 -- One more item goes from the front to the back.
 pub loop-preserved : goal.loop-preserved

@@ -1,4 +1,4 @@
-use Rattle.ringbuffer.proofs.Words.{View, ◌-◌, ap, arith, length}
+use Rattle.ringbuffer.proofs.Words.{View, ap, arith, length}
 use Rattle.ringbuffer.proofs.SlotsHold.{wrap}
 use Rattle.ringbuffer.proofs.fixed.FixedRing.replace_oldest.Goals as goal
 

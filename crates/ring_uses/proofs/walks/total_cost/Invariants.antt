@@ -1,6 +1,0 @@
--- the costs so far are added up
-use Rattle.std.proofs.Common.{◌≡◌, map, sum}
-use Rattle.ring_uses.proofs.walks.total_cost.Given as goal
-
-abbrev pub invariant-loop-cost : goal.invariant-loop-cost
-invariant-loop-cost g l = l.total ≡ sum (map (λ cost. cost.now) l.yielded)
