@@ -1,6 +1,7 @@
 pub mod Clones
 pub mod Conversion
 pub mod Layout
+pub mod Moved
 pub mod Pushing
 pub mod Retaining
 pub mod Somes

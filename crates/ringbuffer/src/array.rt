@@ -46,7 +46,7 @@ impl<T: Clone + Drop, const CAP: usize> ConstGenericRingBuffer<T, CAP> {
     pub fn clone(&self) -> Result<Self, AllocError>
         ensures items { IfOk result (λ ring. AllZip T.is_clone self.now.items ring.items) }
         ensures succeeds { ((x : T) → T.is_infallible x) → IsOk result }
-        ensures nothing { self.now.items ≡ [] → IsOk result }
+        ensures empty_succeeds { self.now.items ≡ [] → IsOk result }
     {
         // For the proof: the contents are within the limit.
         let _ = self.len();

@@ -67,7 +67,7 @@ pub fn extend_somes<T: Drop, R: RingBuffer<T>, const N: usize>(
     ensures limit { R.limit ring.new ≡ R.limit ring.old }
     ensures places { length items ≡ N }
     ensures succeeds { IsSome (R.limit ring.old) → IsOk result }
-    ensures nothing { N ≡ 0 → IsOk result }
+    ensures empty_succeeds { N ≡ 0 → IsOk result }
 {
     // For the proof: the contents are within the limit.
     let _ = ring.len();

@@ -113,15 +113,6 @@ impl<T: Drop, S: RingSlots<T>> FixedRing<T, S> {
             .get(self.slots.place_branchless(self.span.start, index))
     }
 
-    /// Returns the item at an index that was counted from the end, whose place takes fewer steps by a branch.
-    #[inline]
-    pub(crate) fn at_from_end(&self, index: usize) -> &T
-        requires { index < length self.now.items }
-        ensures { slice_get self.now.items index ≡ Some result.now }
-    {
-        self.slots.get(self.slots.place(self.span.start, index))
-    }
-
     /// Returns the first item, if there is one. It lies at the start, so no place is counted round.
     #[inline]
     pub(crate) fn first(&self) -> Option<&T>
@@ -151,8 +142,7 @@ impl<T: Drop, S: RingSlots<T>> FixedRing<T, S> {
         T: PartialEq,
         ensures { result ≡ list_any (λ y. T.eq y x.now) self.now.items }
     {
-        let len = self.item_count();
-        for i in 0..len {
+        for i in 0..self.len() {
             if *self.at(i) == *x {
                 return true;
             }
@@ -166,20 +156,12 @@ impl<T: Drop, S: RingSlots<T>> FixedRing<T, S> {
         T: Clone,
         ensures { IfOk result (λ clones. AllZip T.is_clone self.now.items clones.items) }
     {
-        let len = self.item_count();
+        let len = self.len();
         let mut clones = Vec::with_capacity(alloc, len)?;
         for i in 0..len {
             clones.push(self.at(i).clone()?)?;
         }
         Ok(clones)
-    }
-
-    /// Returns the number of items.
-    #[inline]
-    fn item_count(&self) -> usize
-        ensures { result ≡ length self.now.items }
-    {
-        self.span.len
     }
 
     /// Lends the item at an index below the length for writing.

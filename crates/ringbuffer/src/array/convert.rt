@@ -109,7 +109,7 @@ impl<T: Clone + Drop, const CAP: usize> ConstGenericRingBuffer<T, CAP> {
         ensures items { IfOk result
             (λ ring. ClonesMeet T.is_clone items.now (λ ys. HoldsLast CAP ys ring)) }
         ensures succeeds { ((x : T) → T.is_infallible x) → IsOk result }
-        ensures nothing { items.now ≡ [] → IsOk result }
+        ensures empty_succeeds { items.now ≡ [] → IsOk result }
     {
         let mut ring = Self::new();
         extend_cloned(&mut ring, items.iter())?;
@@ -126,7 +126,7 @@ impl<T: Clone + Drop, const CAP: usize> ConstGenericRingBuffer<T, CAP> {
         ensures items { IfOk result
             (λ ring. ClonesMeet T.is_clone items.old (λ ys. HoldsLast CAP ys ring)) }
         ensures succeeds { ((x : T) → T.is_infallible x) → IsOk result }
-        ensures nothing { items.old ≡ [] → IsOk result }
+        ensures empty_succeeds { items.old ≡ [] → IsOk result }
         ensures unchanged { items.new ≡ items.old }
     {
         Self::from_slice(items)

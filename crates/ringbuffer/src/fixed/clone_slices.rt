@@ -26,15 +26,6 @@ impl<T: Clone + Drop, S: RingSlots<T>> FixedRing<T, S> {
         pushed
     }
 
-    /// Pushes the clones onto a ring that it takes and hands back.
-    pub(crate) fn extend_by_clones_owned(mut self, items: &[T]) -> (Self, Result<(), AllocError>)
-        ensures { ClonesLast T.is_clone T.is_infallible (S.limit self.capacity) items.now result.1
-            (λ ys. result.0 ≡ after_extend (S.limit self.capacity) self ys) }
-    {
-        let pushed = self.extend_by_clones(items);
-        (self, pushed)
-    }
-
     /// Pushes clones of the items of a slice, stretch by stretch. Returns where the items lie then.
     #[inline]
     fn push_clones(

@@ -77,11 +77,14 @@ impl<T: Copy + Drop, S: TakesCopies<T>> FixedRing<T, S> {
             return self.push_one(items[0]);
         }
         let (_, newest) = items.split_at(items.len().saturating_sub(capacity));
-        if S::writes_over() {
-            return self.push_over(newest);
+        if !S::writes_over() {
+            self.keep_newest(capacity - newest.len());
+            self.put_all(newest);
+        } else if newest.len() < FEW_IN {
+            self.extend_one_by_one(newest.iter().copied());
+        } else {
+            self.write_over(newest);
         }
-        self.keep_newest(capacity - newest.len());
-        self.put_all(newest);
     }
 
     /// Pushes an item, and drops the one that it overwrites: to find its stretch of slots would cost more. Out of line, so
@@ -95,20 +98,7 @@ impl<T: Copy + Drop, S: TakesCopies<T>> FixedRing<T, S> {
         self.span = span;
     }
 
-    /// Pushes copies of the items of a slice, which are no more than the limit.
-    #[inline]
-    fn push_over(&mut self, items: &[T])
-        requires within { length items.now ≤ S.limit self.old.capacity }
-        requires same_slots { (capacity size : ℕ) → S.is_size capacity size → S.limit capacity ≡ size }
-        ensures { self.new ≡ after_extend (S.limit self.old.capacity) self.old items.now }
-    {
-        if items.len() < FEW_IN {
-            return self.extend_one_by_one(items.iter().copied());
-        }
-        self.write_over(items);
-    }
-
-    /// Pushes copies stretch by stretch: items that find no room go into the slots of the oldest. Out of line, so
+    /// Pushes copies of no more items than the limit, stretch by stretch: those that find no room go into the slots of the oldest. Out of line, so
     /// that few items take no step for it.
     #[inline(never)]
     fn write_over(&mut self, items: &[T])

@@ -67,24 +67,8 @@ impl<T: Drop, S: RingSlots<T>> FixedRing<T, S> {
         span
     }
 
-    /// Pushes the items stretch by stretch onto a ring that it takes and hands back.
-    pub(crate) fn extend_by_stretch<I: IntoIterator<Item = T>>(mut self, items: I) -> (Self, ())
-    where
-        I::IntoIter: Drop,
-        requires { IsFiniteIterable I.into_iter_gives I.IntoIter.can_next I.IntoIter.remaining
-            items }
-        ensures { GivesAll I.into_iter_gives I.IntoIter.next_gives items
-            (λ xs. result.0 ≡ after_extend (S.limit self.capacity) self xs) }
-    {
-        let capacity = self.slots.limit();
-        let span = self.span;
-        let span = Self::push_all(&mut self.slots, span, items.into_iter(), capacity);
-        self.span = span;
-        (self, ())
-    }
-
-    /// Pushes the items stretch by stretch, without moving the ring.
-    pub(crate) fn extend_in_place<I: IntoIterator<Item = T>>(&mut self, items: I)
+    /// Pushes the items of a source that ends, in order, stretch by stretch.
+    pub(crate) fn extend_by_stretch<I: IntoIterator<Item = T>>(&mut self, items: I)
     where
         I::IntoIter: Drop,
         requires { IsFiniteIterable I.into_iter_gives I.IntoIter.can_next I.IntoIter.remaining

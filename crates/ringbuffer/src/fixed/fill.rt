@@ -41,28 +41,6 @@ impl<T: Drop, S: RingSlots<T>> FixedRing<T, S> {
         made
     }
 
-    /// Fills a ring that it takes and hands back by results of `make`.
-    pub(crate) fn fill_by_calls_owned<F: FnMut() -> T + Drop>(mut self, make: F) -> (Self, ())
-        requires { F.IsAlwaysCallable make }
-        ensures { (xs : List T) × (last : F) × FoldsTo F.step make xs last
-            × (length xs ≡ S.limit self.capacity)
-            × (result.0 ≡ after_fill self xs) }
-    {
-        self.fill_by_calls(make);
-        (self, ())
-    }
-
-    /// Fills a ring that it takes and hands back by clones of `value`.
-    pub(crate) fn fill_by_clones_owned(mut self, value: T) -> (Self, Result<(), AllocError>)
-    where
-        T: Clone,
-        ensures { ClonesOne T.is_clone T.is_infallible value (S.limit self.capacity) result.1
-            (λ xs. result.0 ≡ after_fill self xs) }
-    {
-        let filled = self.fill_by_clones(value);
-        (self, filled)
-    }
-
     /// Puts as many results of `make` as `count` says into the slots of an empty ring that begins at the first.
     #[inline]
     fn put_results<F: FnMut() -> T + Drop>(slots: &mut S, mut make: F, count: usize)

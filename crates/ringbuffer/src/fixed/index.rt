@@ -9,7 +9,7 @@ use crate::fixed::{FixedRing, Span};
 use ring_core::{RingBuffer, range_within};
 use ring_slots::RingSlots;
 use std::mem;
-use std::ops::RangeBounds;
+use std::ops::{Range, RangeBounds};
 
 impl<T: Drop, S: RingSlots<T>> FixedRing<T, S> {
     /// Puts an item at an index, before the items from there on. At the length it is put last. Moves the fewer of the items
@@ -27,7 +27,14 @@ impl<T: Drop, S: RingSlots<T>> FixedRing<T, S> {
         if self.is_full() {
             return Err(item);
         }
-        self.put_into(index, item);
+        let behind = self.span.len - index;
+        if index <= behind {
+            let first = self.pass_down(0, index, item);
+            self.put_first(first);
+            return Ok(());
+        }
+        let last = self.pass_up(index, behind, item);
+        self.put_last(last);
         Ok(())
     }
 
@@ -41,7 +48,13 @@ impl<T: Drop, S: RingSlots<T>> FixedRing<T, S> {
         if index >= self.len() {
             return None;
         }
-        self.take_at(index)
+        let behind = self.span.len - 1 - index;
+        if index <= behind {
+            let first = self.take_first()?;
+            return Some(self.pass_up(0, index, first));
+        }
+        let last = self.pop_back()?;
+        Some(self.pass_down(index, behind, last))
     }
 
     /// Exchanges the items at two indices below the length, by three slot changes, or none where the indices are equal.
@@ -72,19 +85,14 @@ impl<T: Drop, S: RingSlots<T>> FixedRing<T, S> {
         ensures { self.new ≡ after_remove_range (start_index (X.start_bound range))
             (end_index (X.end_bound range) (length self.old.items)) self.old }
     {
-        let range = range_within(&range, self.span.len);
-        if range.start < range.end {
-            self.cut(range.start, range.end);
-        }
-    }
-
-    /// Drops the items from an index up to another, and closes the gap from the side where fewer items are.
-    fn cut(&mut self, from: usize, to: usize)
-        requires order { from < to }
-        requires within { to ≤ length self.old.items }
-        ensures { self.new ≡ after_cut from to (min from (length self.old.items - to)) self.old }
-    {
         let span = self.span;
+        let Range {
+            start: from,
+            end: to,
+        } = range_within(&range, span.len);
+        if from >= to {
+            return;
+        }
         if from <= span.len - to {
             self.span.start = Self::cut_from_front(&mut self.slots, span, from, to);
         } else {
@@ -141,38 +149,6 @@ impl<T: Drop, S: RingSlots<T>> FixedRing<T, S> {
         let item = slots.take(had);
         let gets = slots.place_branchless(start, to);
         slots.put(gets, item);
-    }
-
-    /// Takes out the item at an index below the length. The fewer of the items before and after close up.
-    pub(crate) fn take_at(&mut self, index: usize) -> Option<T>
-        requires { index < length self.old.items }
-        ensures value { result ≡ slice_get self.old.items index }
-        ensures after { self.new ≡ after_remove index self.old }
-    {
-        let behind = self.span.len - 1 - index;
-        if index <= behind {
-            let first = self.take_first()?;
-            return Some(self.pass_up(0, index, first));
-        }
-        let last = self.pop_back()?;
-        Some(self.pass_down(index, behind, last))
-    }
-
-    /// Puts an item at an index up to the length, before the items from there on. The fewer of the items before and after
-    /// make way. There must be room for it.
-    pub(crate) fn put_into(&mut self, index: usize, item: T)
-        requires within { index ≤ length self.old.items }
-        requires room { length self.old.items < S.limit self.old.capacity }
-        ensures { self.new ≡ after_insert index item self.old }
-    {
-        let behind = self.span.len - index;
-        if index <= behind {
-            let first = self.pass_down(0, index, item);
-            self.put_first(first);
-        } else {
-            let last = self.pass_up(index, behind, item);
-            self.put_last(last);
-        }
     }
 
     /// Puts an item before the `count` items from an index on, each of which moves to the next index. Returns the one that

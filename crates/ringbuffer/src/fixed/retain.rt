@@ -17,15 +17,6 @@ impl<T: Drop, S: RingSlots<T>> FixedRing<T, S> {
         self.span.len = Self::close_up(&mut self.slots, self.span, keep);
     }
 
-    /// Keeps the items that a test picks of a ring that it takes and hands back.
-    pub(crate) fn retain_owned<F: FnMut(&T) -> bool>(mut self, keep: F) -> (Self, ())
-        requires { F.IsAlwaysCallable keep }
-        ensures { Retains (CalledAt F.FnMut) keep self result.0 }
-    {
-        self.retain_in_place(keep);
-        (self, ())
-    }
-
     /// Keeps the items for which `keep` returns `true`, each in the slot after those kept before it, and drops the others.
     /// Returns how many it kept.
     fn close_up<F: FnMut(&T) -> bool>(slots: &mut S, span: Span, mut keep: F) -> usize

@@ -5,10 +5,10 @@ ghost use Rattle.ring_core.proofs.Limits.{counts_one};
 ghost use Rattle.ringbuffer.specs.View.{View, after_push, after_write};
 
 use crate::few::{FEW, FEW_COMPARED};
+use crate::fixed::steps::moved;
 use crate::fixed::{FixedRing, Span};
 use crate::position::{index_at, signed_index_at};
 use crate::two_slices::{clone_slices, clone_slices_into, equal_to_slice, is_in_slices};
-use core::mem::replace_with;
 use ring_core::RingBuffer;
 use ring_slots::RingSlots;
 use std::alloc::{AllocError, Global};
@@ -75,10 +75,8 @@ impl<T: Drop, S: RingSlots<T>> RingBuffer<T> for FixedRing<T, S> {
     where
         I::IntoIter: Drop,
     {
-        if S::goes_by_value() {
-            replace_with(self, items, Self::extend_by_stretch);
-        } else if S::goes_by_stretch() {
-            self.extend_in_place(items);
+        if S::goes_by_stretch() {
+            moved(self, S::goes_by_value(), items, Self::extend_by_stretch);
         } else {
             self.extend_one_by_one(items);
         }
@@ -89,11 +87,7 @@ impl<T: Drop, S: RingSlots<T>> RingBuffer<T> for FixedRing<T, S> {
     where
         T: Clone,
     {
-        if S::goes_by_value() {
-            replace_with(self, items, Self::extend_by_clones_owned)
-        } else {
-            self.extend_by_clones(items)
-        }
+        moved(self, S::goes_by_value(), items, Self::extend_by_clones)
     }
 
     #[inline]
@@ -107,11 +101,7 @@ impl<T: Drop, S: RingSlots<T>> RingBuffer<T> for FixedRing<T, S> {
     }
 
     fn fill_with<F: FnMut() -> T + Drop>(&mut self, make: F) -> Result<(), AllocError> {
-        if S::goes_by_value() {
-            replace_with(self, make, Self::fill_by_calls_owned);
-        } else {
-            self.fill_by_calls(make);
-        }
+        moved(self, S::goes_by_value(), make, Self::fill_by_calls);
         Ok(())
     }
 
@@ -119,19 +109,11 @@ impl<T: Drop, S: RingSlots<T>> RingBuffer<T> for FixedRing<T, S> {
     where
         T: Clone,
     {
-        if S::goes_by_value() {
-            replace_with(self, value, Self::fill_by_clones_owned)
-        } else {
-            self.fill_by_clones(value)
-        }
+        moved(self, S::goes_by_value(), value, Self::fill_by_clones)
     }
 
     fn retain<F: FnMut(&T) -> bool>(&mut self, keep: F) -> Result<(), T> {
-        if S::goes_by_value() {
-            replace_with(self, keep, Self::retain_owned);
-        } else {
-            self.retain_in_place(keep);
-        }
+        moved(self, S::goes_by_value(), keep, Self::retain_in_place);
         Ok(())
     }
 
@@ -199,7 +181,8 @@ impl<T: Drop, S: RingSlots<T>> RingBuffer<T> for FixedRing<T, S> {
     #[inline]
     fn get_signed(&self, index: isize) -> Option<&T> {
         let index = signed_index_at(index, self.len())?;
-        Some(self.at_from_end(index))
+        // The place of an index that was counted from the end takes fewer steps by a branch.
+        Some(self.slots.get(self.slots.place(self.span.start, index)))
     }
 
     #[inline]

@@ -2,10 +2,37 @@
 ghost use Rattle.std.specs.Prelude.{◌≡◌, ◌+◌, ◌-◌, ◌%◌, ◌<◌, length, None, Some, slice_get};
 ghost use Rattle.ring_core.specs.Contents.{overwritten};
 ghost use Rattle.ringbuffer.specs.View.{after_pop, after_push, after_put, after_put_first, after_take};
+ghost use Rattle.ringbuffer.specs.Moved.{ReturnsWith, TakesWith};
 ghost use Rattle.ringbuffer.specs.Layout.{CanPush, IsLaidOut, IsSpanOf, LaysOut, view_from};
 
 use crate::fixed::{FixedRing, Span};
+use core::mem::replace_with;
 use ring_slots::RingSlots;
+
+/// Makes a call on a ring. One that goes by value is a local meanwhile, so that its fields stay in registers.
+#[inline]
+pub(crate) fn moved<R, X, Y, F: FnOnce(&mut R, X) -> Y>(
+    ring: &mut R,
+    goes_by_value: bool,
+    x: X,
+    call: F,
+) -> Y
+    requires { TakesWith F.FnOnce call ring.old x }
+    ensures { ReturnsWith F.FnOnce call ring.old x result ring.new }
+{
+    if !goes_by_value {
+        return call(ring, x);
+    }
+    replace_with(ring, (call, x), |ring, with|
+        requires { TakesWith F.FnOnce with.0 ring with.1 }
+        ensures { ReturnsWith F.FnOnce with.0 ring with.1 result.1 result.0 }
+    {
+        let (call, x) = with;
+        let mut local = ring;
+        let y = call(&mut local, x);
+        (local, y)
+    })
+}
 
 impl<T: Drop, S: RingSlots<T>> FixedRing<T, S> {
     /// Pushes an item. Returns where the items lie then, and the item that gave way.

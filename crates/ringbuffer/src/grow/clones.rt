@@ -13,7 +13,7 @@ impl<T: Clone + Drop> GrowableAllocRingBuffer<T> {
     /// Where memory or a clone was refused.
     pub fn clone(&self) -> Result<Self, AllocError>
         ensures items { IfOk result (AllZip T.is_clone self.now) }
-        ensures nothing { self.now ≡ [] → IsOk result }
+        ensures empty_succeeds { self.now ≡ [] → IsOk result }
     {
         if self.deque.is_empty() {
             return Ok(Self::new(*self.deque.allocator()));

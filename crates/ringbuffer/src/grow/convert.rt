@@ -49,7 +49,7 @@ impl<T: Drop> GrowableAllocRingBuffer<T> {
     ) -> Result<Self, AllocError>
         requires { All IsSome items }
         ensures items { IfOk result (λ ring. ring ≡ somes items) }
-        ensures nothing { N ≡ 0 → IsOk result }
+        ensures empty_succeeds { N ≡ 0 → IsOk result }
     {
         let mut ring = Self::new(alloc);
         extend_somes(&mut ring, items)?;
@@ -135,7 +135,7 @@ impl<T: Clone + Drop> GrowableAllocRingBuffer<T> {
     /// Where memory or a clone was refused.
     pub fn from_slice(alloc: Global, items: &[T]) -> Result<Self, AllocError>
         ensures items { IfOk result (AllZip T.is_clone items.now) }
-        ensures nothing { items.now ≡ [] → IsOk result }
+        ensures empty_succeeds { items.now ≡ [] → IsOk result }
     {
         if items.is_empty() {
             return Ok(Self::new(alloc));
@@ -150,7 +150,7 @@ impl<T: Clone + Drop> GrowableAllocRingBuffer<T> {
     /// As `from_slice`.
     pub fn from_mut_slice(alloc: Global, items: &mut [T]) -> Result<Self, AllocError>
         ensures items { IfOk result (AllZip T.is_clone items.old) }
-        ensures nothing { items.old ≡ [] → IsOk result }
+        ensures empty_succeeds { items.old ≡ [] → IsOk result }
         ensures unchanged { items.new ≡ items.old }
     {
         Self::from_slice(alloc, items)
@@ -163,7 +163,7 @@ impl<T: Clone + Drop> GrowableAllocRingBuffer<T> {
     /// As `from_slice`.
     pub fn from_array_ref<const N: usize>(alloc: Global, items: &[T; N]) -> Result<Self, AllocError>
         ensures items { IfOk result (AllZip T.is_clone items.now) }
-        ensures nothing { N ≡ 0 → IsOk result }
+        ensures empty_succeeds { N ≡ 0 → IsOk result }
     {
         Self::from_slice(alloc, items)
     }
@@ -178,7 +178,7 @@ impl<T: Clone + Drop> GrowableAllocRingBuffer<T> {
         items: &mut [T; N],
     ) -> Result<Self, AllocError>
         ensures items { IfOk result (AllZip T.is_clone items.old) }
-        ensures nothing { N ≡ 0 → IsOk result }
+        ensures empty_succeeds { N ≡ 0 → IsOk result }
         ensures unchanged { items.new ≡ items.old }
     {
         Self::from_slice(alloc, items)
