@@ -7,5 +7,5 @@ returns-clause-items g c =
     (ys, clones, kept ∙ ap (λ (r : View _). keep_last (Some _) (r.items ++ ys)) c.new-ring.ensures)
 
 -- Only an item's clone is refused, and there is none.
-pub returns-in_err-extend_cloned-clause-nothing : goal.returns-in_err-extend_cloned-clause-nothing
-returns-in_err-extend_cloned-clause-nothing g c = λ none. absurd (refuses_none (c.in_err-extend_cloned.ensures.refused refl) (YieldsList-from_slice _ c.iter.ensures.rest) none)
+pub returns-in_err-extend_cloned-clause-empty_succeeds : goal.returns-in_err-extend_cloned-clause-empty_succeeds
+returns-in_err-extend_cloned-clause-empty_succeeds g c = λ none. absurd (refuses_none (c.in_err-extend_cloned.ensures.refused refl) (YieldsList-from_slice _ c.iter.ensures.rest) none)
