@@ -23,15 +23,19 @@ pub(crate) fn moved<R, X, Y, F: FnOnce(&mut R, X) -> Y>(
     if !goes_by_value {
         return call(ring, x);
     }
-    replace_with(ring, (call, x), |ring, with|
-        requires { TakesWith F.FnOnce with.0 ring with.1 }
-        ensures { ReturnsWith F.FnOnce with.0 ring with.1 result.1 result.0 }
-    {
-        let (call, x) = with;
-        let mut local = ring;
-        let y = call(&mut local, x);
-        (local, y)
-    })
+    replace_with(
+        ring,
+        (call, x),
+        |ring, with|
+            requires { TakesWith F.FnOnce with.0 ring with.1 }
+            ensures { ReturnsWith F.FnOnce with.0 ring with.1 result.1 result.0 }
+        {
+            let (call, x) = with;
+            let mut local = ring;
+            let y = call(&mut local, x);
+            (local, y)
+        },
+    )
 }
 
 impl<T: Drop, S: RingSlots<T>> FixedRing<T, S> {
