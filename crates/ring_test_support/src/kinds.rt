@@ -84,13 +84,15 @@ fn fault_of<R: DoubleEndedRing<i64>>(alloc: Global, ring: &mut R, calls: Calls) 
 
 /// Calls a function that has the capacity as a parameter, if it is one of these.
 macro_rules! by_capacity {
-    ($capacity:expr, $function:ident, $alloc:expr, $calls:expr, $($one:literal)*) => {
+    ($capacity:expr, $no_ring:expr, $function:ident, $arguments:tt, $($one:literal)*) => {
         match $capacity {
-            $($one => $function::<$one>($alloc, $calls),)*
-            _ => Some(NO_RING),
+            $($one => $function::<$one> $arguments,)*
+            _ => Some($no_ring),
         }
     };
 }
+
+pub(crate) use by_capacity;
 
 /// Does the calls on an array ring. Its capacity is a parameter, so that rings of all capacities are one type to prove.
 fn fault_in_array_of<const CAP: usize>(alloc: Global, calls: Calls) -> Option<Fault>
@@ -101,7 +103,7 @@ fn fault_in_array_of<const CAP: usize>(alloc: Global, calls: Calls) -> Option<Fa
 }
 
 fn fault_in_array(alloc: Global, capacity: usize, calls: Calls) -> Option<Fault> {
-    by_capacity!(capacity, fault_in_array_of, alloc, calls, 1 2 3 4 5 8 13 16 50)
+    by_capacity!(capacity, NO_RING, fault_in_array_of, (alloc, calls), 1 2 3 4 5 8 13 16 50)
 }
 
 fn fault_of_copies_in<const CAP: usize>(alloc: Global, calls: Calls) -> Option<Fault>
@@ -112,7 +114,7 @@ fn fault_of_copies_in<const CAP: usize>(alloc: Global, calls: Calls) -> Option<F
 }
 
 fn fault_of_copies(alloc: Global, capacity: usize, calls: Calls) -> Option<Fault> {
-    by_capacity!(capacity, fault_of_copies_in, alloc, calls, 1 2 3 4 5 8 13 16)
+    by_capacity!(capacity, NO_RING, fault_of_copies_in, (alloc, calls), 1 2 3 4 5 8 13 16)
 }
 
 fn fault_on_heap(alloc: Global, capacity: usize, calls: Calls) -> Option<Fault> {
