@@ -14,12 +14,7 @@ fn bytes_go_through_each_ring(rt: HostRuntime) {
     on_heap!(&rt, 8, assert_lends_all);
     on_copies!(&rt, 8, assert_lends_all);
     on_growable!(&rt, 8, assert_lends_all);
-    on_fixed!(
-        &rt,
-        8,
-        assert_copies,
-        GrowableAllocRingBuffer::new(rt.alloc())
-    );
+    on_fixed!(&rt, 8, assert_copies);
     on_fixed!(&rt, 40, assert_keeps_pieces);
 }
 
@@ -37,11 +32,8 @@ trait OfBytes: BufRead + Read + Write + RingBuffer<u8> + Drop {
             self.consume(5);
             let mut output = *b"--------";
             assert_equal(rt, self.read(&mut output).ok(), Some(2));
-            assert_equal(
-                rt,
-                output,
-                [b'0' + round, b'\n', b'-', b'-', b'-', b'-', b'-', b'-'],
-            );
+            assert_equal(rt, output[..2] == [b'0' + round, b'\n'], true);
+            assert_equal(rt, &output[2..], b"------".as_slice());
             self.consume(1);
             assert_equal(rt, self.fill_buf().expect(rt, "read").len(), 0);
         }
@@ -55,7 +47,8 @@ trait OfBytes: BufRead + Read + Write + RingBuffer<u8> + Drop {
     }
 
     /// Copies what a growable ring holds into a ring of eight bytes, which is too small for all of it.
-    fn assert_copies(mut self, rt: &impl Abort, mut from: GrowableAllocRingBuffer<u8>) {
+    fn assert_copies(mut self, rt: &(impl Abort + AllocGlobal)) {
+        let mut from = GrowableAllocRingBuffer::new(rt.alloc());
         assert_equal(rt, from.write_all(b"hello").is_ok(), true);
         assert_equal(rt, io::copy(&mut from, &mut self).ok(), Some(5));
         assert_equal(rt, from.write_all(b", ring").is_ok(), true);

@@ -32,6 +32,8 @@ const WITHOUT_LIMIT: &[Row] = &[
 /// The items of std's own examples of searches.
 const FIBONACCI: &[i64] = &[0, 1, 1, 1, 1, 2, 3, 5, 8, 13, 21, 34, 55];
 
+const EIGHT: &[i64] = &[1, 2, 3, 4, 5, 6, 7, 8];
+
 const RISING: &[i64] = &[1, 2, 3, 3, 5, 6, 7];
 
 /// A search finds the first of several that are equal, and asks of few items.
@@ -46,6 +48,8 @@ const SEARCHED: &[Row] = &[
     (FIBONACCI, Below(100, 13), FIBONACCI),
     (&[], Below(5, 0), &[]),
     (&[5], Below(6, 1), &[5]),
+    (FIVE, Below(9, 5), FIVE),
+    (EIGHT, Below(9, 8), EIGHT),
 ];
 
 // On the heap a ring of five has spare slots.

@@ -4,28 +4,11 @@ use super::{assert_equal, assert_steps};
 use ring_slots::RingSlots;
 use ring_test_support::on_each;
 use ring_test_support::steps::Step::{self, Begin, PushAll};
-use ringbuffer::{
-    DoubleEndedRing, FixedRing, GrowableAllocRingBuffer, RingBuffer, RingBufferExt,
-    RingBufferIterator,
-};
+use ringbuffer::{DoubleEndedRing, FixedRing, GrowableAllocRingBuffer, RingBuffer, RingBufferExt};
 use std::ops::{Bound, RangeBounds};
 use std::process::Abort;
 
-/// Asserts that a walk has these items to come, and gives them from the front.
-fn assert_gives<R: RingBuffer<i64>>(
-    rt: &impl Abort,
-    mut walk: RingBufferIterator<'_, i64, R>,
-    items: &[i64],
-) {
-    assert_equal(rt, walk.len(), items.len());
-    for item in items {
-        assert_equal(rt, walk.next().copied(), Some(*item));
-    }
-    assert_equal(rt, walk.next(), None);
-    assert_equal(rt, walk.next_back(), None);
-}
-
-/// Asserts that a range of a ring has these items.
+/// Asserts that a walk over a range of a ring has these items to come, and gives them from the front.
 fn assert_range<R: RingBuffer<i64>, X: RangeBounds<usize>>(
     rt: &impl Abort,
     ring: &R,
@@ -34,7 +17,12 @@ fn assert_range<R: RingBuffer<i64>, X: RangeBounds<usize>>(
 )
     requires { X.has_bounds range }
 {
-    assert_gives(rt, ring.range(range), items);
+    let mut walk = ring.range(range);
+    assert_equal(rt, walk.len(), items.len());
+    for item in items {
+        assert_equal(rt, walk.next().copied(), Some(*item));
+    }
+    assert_equal(rt, (walk.next(), walk.next_back()), (None, None));
 }
 
 /// Leaves the items from 1 to 7. On a ring of eight slots the last of them lie at the first slots.

@@ -72,25 +72,3 @@ fn items_are_made_one_slice(rt: HostRuntime) -> Result<(), AllocError> {
     }
     Ok(())
 }
-
-/// Copies growable and plain rings of each number of items, from each start, onto one that holds another item.
-#[test]
-fn rings_are_copied_onto_others(rt: HostRuntime) -> Result<(), AllocError> {
-    let mut ring = GrowableAllocRingBuffer::with_capacity(rt.alloc(), 8)?;
-    let mut other = GrowableAllocRingBuffer::new(rt.alloc());
-    let mut plain = CopyRingBuffer::<i64, 8>::new(7);
-    let mut other_plain = CopyRingBuffer::new(7);
-    for len in 0..9 {
-        let items = &EIGHT[..len];
-        for start in 0..STARTS {
-            assert_steps(&rt, &mut ring, &[Begin(start), PushAll(items)]);
-            assert_equal(&rt, ring.copy_into(&mut other).is_ok(), true);
-            assert_steps(&rt, &mut other, &[Holds(items), PushAll(&[9])]);
-            assert_steps(&rt, &mut ring, &[DequeueAll(items)]);
-            assert_steps(&rt, &mut plain, &[Begin(start), PushAll(items)]);
-            plain.copy_into(&mut other_plain);
-            assert_steps(&rt, &mut other_plain, &[Holds(items), PushAll(&[9])]);
-        }
-    }
-    Ok(())
-}
