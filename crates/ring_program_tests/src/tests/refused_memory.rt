@@ -123,7 +123,10 @@ fn is_refused_a_ring(rt: HostRuntime) {
         let outcome = serve_in_drought(&rt, &arguments, input, room);
         assert_ended_unread(&rt, &arguments, &outcome, fails(3, NO_MEMORY));
     }
-    assert_eq!(rt; room_to_read(&rt, &["grow", "0"]), room_to_read(&rt, &["array", "3"]));
+    assert_eq!(rt;
+        room_to_read(&rt, &["grow", "0"]),
+        room_to_read(&rt, &["array", "3"])
+    );
 }
 
 // With room for the input, refusals come one after the other, for the ring and the text. The line that is no command is after
