@@ -4,7 +4,7 @@ use super::{assert_equal, assert_holds, push_all};
 use ring_slots::RingSlots;
 use ring_test_support::steps::Step::{DequeueAll, Fill, FillDefault, Len, PushAll};
 use ring_test_support::steps::{Step, first_fault};
-use ring_test_support::{on_fixed, on_growable};
+use ring_test_support::{on_fixed, on_ring};
 use ringbuffer::{
     AllocRingBuffer, DoubleEndedRing, FixedRing, GrowableAllocRingBuffer, RingBuffer,
 };
@@ -61,9 +61,9 @@ fn assert_agrees<R: RingBuffer<i64>>(rt: &impl Abort, ring: &R) {
 
 #[test]
 fn a_growable_ring_is_filled_to_its_capacity(rt: HostRuntime) {
-    on_growable!(&rt, 4, assert_filled_to_capacity);
-    on_growable!(&rt, 100, assert_filled_to_capacity);
-    on_growable!(&rt, 1000, assert_filled_to_capacity);
+    on_ring!(growable, &rt, 4, assert_filled_to_capacity);
+    on_ring!(growable, &rt, 100, assert_filled_to_capacity);
+    on_ring!(growable, &rt, 1000, assert_filled_to_capacity);
 }
 
 /// A ring that is filled.

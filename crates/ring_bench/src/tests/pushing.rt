@@ -11,7 +11,7 @@ use ring_test_support::steps::Step::{
     Back, Capacity, Clear, Dequeue, DequeueAll, Enqueue, Extend, Fill, Front, GetSigned, Holds,
     IsEmpty, IsFull, Len, Push, PushAll, PushToLen, Skip, Slots,
 };
-use ring_test_support::{on_each, on_fixed, on_heap};
+use ring_test_support::{on_each, on_fixed, on_ring};
 use ringbuffer::{
     AllocRingBuffer, ConstGenericRingBuffer, DoubleEndedRing, FixedRing, GrowableAllocRingBuffer,
     RingBuffer,
@@ -297,7 +297,7 @@ const COMES_AND_GOES: &[Step] = &[
 fn items_come_and_go_for_long(rt: HostRuntime) {
     on_fixed!(&rt, 10, keeps_the_last_ten);
     on_fixed!(&rt, 2, takes_ten_thousand_numbers);
-    on_heap!(&rt, 3, keeps_the_last_three);
+    on_ring!(heap, &rt, 3, keeps_the_last_three);
     on_each!(&rt, 8, comes_and_goes);
 }
 

@@ -3,7 +3,7 @@
 use super::{assert_equal, assert_holds, push_all};
 use ring_slots::RingSlots;
 use ring_test_support::commands::{REPLIES_OF_TWO, every_command};
-use ring_test_support::{on_each, on_fixed, on_growable};
+use ring_test_support::{on_each, on_fixed, on_ring};
 use ringbuffer::{
     Command, FixedRing, GrowableAllocRingBuffer, Reply, RingBuffer, run, run_into, runs_join,
 };
@@ -52,7 +52,7 @@ fn assert_run<R: RingBuffer<i64>>(
 #[test]
 fn a_run_makes_its_replies(rt: HostRuntime) {
     on_fixed!(&rt, 2, assert_runs, &REPLIES_OF_TWO);
-    on_growable!(&rt, 2, assert_runs, &REPLIES_WITHOUT_LIMIT);
+    on_ring!(growable, &rt, 2, assert_runs, &REPLIES_WITHOUT_LIMIT);
     on_fixed!(&rt, 2, assert_runs_join);
 }
 

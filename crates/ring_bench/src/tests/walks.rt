@@ -7,7 +7,7 @@ use ring_test_support::steps::End::{self, Back, Front};
 use ring_test_support::steps::Step::{
     self, Adds, Begin, Contains, Drains, Holds, Lends, PushAll, Reads,
 };
-use ring_test_support::{on_each, on_each_of_any, on_fixed, on_growable};
+use ring_test_support::{on_each, on_each_of_any, on_fixed, on_ring};
 use ringbuffer::{
     DoubleEndedRing, FixedRing, GrowableAllocRingBuffer, RingBuffer, RingBufferExt,
     RingBufferIntoIterator,
@@ -63,7 +63,7 @@ const ALL_THREE: &[Step] = &[
 fn an_overwritten_item_is_not_seen(rt: HostRuntime) {
     on_fixed!(&rt, 2, assert_seen, &[2, 3], THE_LAST_TWO);
     on_each!(&rt, 8, assert_seen, &[1, 2, 3], ALL_THREE);
-    on_growable!(&rt, 2, assert_seen, &[1, 2, 3], ALL_THREE);
+    on_ring!(growable, &rt, 2, assert_seen, &[1, 2, 3], ALL_THREE);
 }
 
 const ONE_TO_FOUR: Step = PushAll(&[1, 2, 3, 4]);

@@ -3,7 +3,7 @@
 use super::assert_equal;
 use super::random_calls::{Call, Sliding, call_window};
 use ring_slots::RingSlots;
-use ring_test_support::{on_array, on_growable, on_heap};
+use ring_test_support::on_ring;
 use ringbuffer::{
     ConstGenericRingBuffer, CopyRingBuffer, FixedRing, GrowableAllocRingBuffer, RingBuffer,
     RingBufferExt,
@@ -15,9 +15,9 @@ use window::{CopyWindowFloatSum, Summand, WindowFloatSum};
 
 #[test]
 fn sums_of_floating_point_numbers(rt: HostRuntime) {
-    on_heap!(&rt, 3, assert_sums);
-    on_growable!(&rt, 2, assert_recovers);
-    on_array!(&rt, 2, assert_signs_of_zeros);
+    on_ring!(heap, &rt, 3, assert_sums);
+    on_ring!(growable, &rt, 2, assert_recovers);
+    on_ring!(array, &rt, 2, assert_signs_of_zeros);
     CopyRingBuffer::<Summand, 10>::new(Summand::new(7.0)).assert_ten_tenths(&rt);
 }
 

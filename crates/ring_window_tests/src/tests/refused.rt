@@ -3,7 +3,7 @@
 use super::assert_equal;
 use ring_slots::RingSlots;
 use ring_test_support::drought::Drought;
-use ring_test_support::on_heap;
+use ring_test_support::on_ring;
 use ringbuffer::{FixedRing, GrowableAllocRingBuffer, RingBuffer};
 use std::mem::size_of;
 use std::process::Abort;
@@ -99,7 +99,7 @@ fn sum_after_a_refused_first_push(rt: HostRuntime) {
 
 #[test]
 fn a_window_over_a_fixed_ring_takes_no_memory(rt: HostRuntime) {
-    on_heap!(&rt, 2, assert_sums_take_none);
+    on_ring!(heap, &rt, 2, assert_sums_take_none);
 }
 
 /// A ring that is summed up while memory is refused.

@@ -3,7 +3,7 @@
 use super::assert_equal;
 use ring_slots::RingSlots;
 use ring_test_support::drought::Drought;
-use ring_test_support::{on_array, on_growable, on_heap};
+use ring_test_support::on_ring;
 use ringbuffer::{FixedRing, GrowableAllocRingBuffer, RingBuffer, RingBufferExt};
 use std::process::Abort;
 use window::{AllocWindowTime, GrowableAllocWindowTime, Stamped, WindowTime};
@@ -70,10 +70,10 @@ const OUT_OF_ORDER_OF_TWO: &[Push] = &[
 
 #[test]
 fn items_leave_with_their_time(rt: HostRuntime) {
-    on_growable!(&rt, 4, assert_slides, NEWER);
-    on_array!(&rt, 2, assert_slides, OF_TWO);
-    on_heap!(&rt, 4, assert_slides, OUT_OF_ORDER);
-    on_array!(&rt, 2, assert_slides, OUT_OF_ORDER_OF_TWO);
+    on_ring!(growable, &rt, 4, assert_slides, NEWER);
+    on_ring!(array, &rt, 2, assert_slides, OF_TWO);
+    on_ring!(heap, &rt, 4, assert_slides, OUT_OF_ORDER);
+    on_ring!(array, &rt, 2, assert_slides, OUT_OF_ORDER_OF_TWO);
 }
 
 #[test]
@@ -131,7 +131,7 @@ fn a_refused_push_drops_nothing(rt: HostRuntime) {
 
 #[test]
 fn a_window_of_time_over_a_fixed_ring_is_refused_nothing(rt: HostRuntime) {
-    on_heap!(&rt, 2, assert_takes_no_memory);
+    on_ring!(heap, &rt, 2, assert_takes_no_memory);
 }
 
 /// A ring of items with stamps.

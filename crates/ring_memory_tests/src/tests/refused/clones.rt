@@ -7,7 +7,7 @@ use crate::tests::{
 };
 use ring_test_support::counted::{Counted, Supply};
 use ring_test_support::drought::{is_in_turn, spared};
-use ring_test_support::{on_each_of_any, on_growable_of_any, on_heap_of_any, refused_in_turn};
+use ring_test_support::{on_each_of_any, on_ring_of_any, refused_in_turn};
 use ringbuffer::{ConstGenericRingBuffer, RingBuffer};
 use std::alloc::AllocError;
 use std::process::Abort;
@@ -89,8 +89,15 @@ fn assert_copies_refused<'a, R: RingBuffer<Counted<'a>> + Clone + Drop>(
 fn a_refused_clone_of_an_item_ends_a_clone_or_a_list(rt: HostRuntime) {
     let supply = supply(&rt, 6);
     on_each_of_any!(&rt, 3, assert_clones_refused, &supply, Copying::Ring);
-    on_heap_of_any!(&rt, 3, assert_clones_refused, &supply, Copying::List);
-    on_growable_of_any!(&rt, 3, assert_clones_refused, &supply, Copying::List);
+    on_ring_of_any!(heap, &rt, 3, assert_clones_refused, &supply, Copying::List);
+    on_ring_of_any!(
+        growable,
+        &rt,
+        3,
+        assert_clones_refused,
+        &supply,
+        Copying::List
+    );
 }
 
 /// Clones the three items of a ring into another that holds three, where from none to three clones are had.
@@ -123,8 +130,22 @@ fn a_refused_clone_into_a_ring_leaves_those_before_it(rt: HostRuntime) {
 #[test]
 fn a_clone_and_a_list_are_refused_in_turn(rt: HostRuntime) {
     let supply = supply(&rt, 6);
-    on_heap_of_any!(&rt, 3, assert_copies_refused, &supply, Copying::Ring);
-    on_growable_of_any!(&rt, 0, assert_copies_refused, &supply, Copying::Ring);
-    on_heap_of_any!(&rt, 3, assert_copies_refused, &supply, Copying::List);
-    on_growable_of_any!(&rt, 3, assert_copies_refused, &supply, Copying::List);
+    on_ring_of_any!(heap, &rt, 3, assert_copies_refused, &supply, Copying::Ring);
+    on_ring_of_any!(
+        growable,
+        &rt,
+        0,
+        assert_copies_refused,
+        &supply,
+        Copying::Ring
+    );
+    on_ring_of_any!(heap, &rt, 3, assert_copies_refused, &supply, Copying::List);
+    on_ring_of_any!(
+        growable,
+        &rt,
+        3,
+        assert_copies_refused,
+        &supply,
+        Copying::List
+    );
 }
