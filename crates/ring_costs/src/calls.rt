@@ -1,14 +1,11 @@
 //! The calls of every ring, each in a loop of its own.
 
-use crate::blocks::{
-    bring, bring_clones, bring_contiguous, clear_extend, copy, drain_extend, extend, extend_more,
-    fill, keep_newest_in, remove_range_extend, retain_push, take_in, truncate_in,
-};
+use crate::blocks;
 use crate::case::Case;
 use crate::item::Item;
 use crate::ring::Measured;
 use crate::sums::{sum_of, xor_of};
-use crate::whole::{clone, clone_into, eq, eq_slice, found, to_vec};
+use crate::whole::{self, found};
 use ringbuffer::{RingBufferIterator, partition_point};
 use std::alloc::{AllocError, Global};
 
@@ -35,28 +32,28 @@ pub fn by<T: Item, R: Measured<T> + Drop>(
         "contains" => contains(ring, times),
         "partition_point" => point(ring, times),
         "iter" => iter(ring, times),
-        "to_vec" => to_vec(alloc, ring, times),
-        "clone" => clone(ring, times),
-        "clone_into" => clone_into(ring, times),
-        "eq" => eq(ring, times),
-        "eq_slice" => eq_slice(alloc, ring, times),
-        "fill" => fill(ring, times),
-        "clear_extend" => clear_extend(ring, items, times),
-        "extend" => extend(ring, items, times),
-        "extend_more" => extend_more(ring, items, times),
-        "drain_extend" => drain_extend(ring, items, times),
-        "retain_push" => retain_push(ring, times),
-        "in" => bring(ring, items, times),
-        "clones_in" => bring_clones(ring, items, times),
-        "in_contiguous" => bring_contiguous(ring, items, times),
-        "copy" => copy(ring, output, times),
-        "take_in" => take_in(ring, items, output, times),
+        "to_vec" => whole::to_vec(alloc, ring, times),
+        "clone" => whole::clone(ring, times),
+        "clone_into" => whole::clone_into(ring, times),
+        "eq" => whole::eq(ring, times),
+        "eq_slice" => whole::eq_slice(alloc, ring, times),
+        "fill" => blocks::fill(ring, times),
+        "clear_extend" => blocks::clear_extend(ring, items, times),
+        "extend" => blocks::extend(ring, items, times),
+        "extend_more" => blocks::extend_more(ring, items, times),
+        "drain_extend" => blocks::drain_extend(ring, items, times),
+        "retain_push" => blocks::retain_push(ring, times),
+        "in" => blocks::bring(ring, items, times),
+        "clones_in" => blocks::bring_clones(ring, items, times),
+        "in_contiguous" => blocks::bring_contiguous(ring, items, times),
+        "copy" => blocks::copy(ring, output, times),
+        "take_in" => blocks::take_in(ring, items, output, times),
         "remove_insert" => remove_insert(ring, case.count, times),
-        "remove_range_extend" => remove_range_extend(ring, items, times),
+        "remove_range_extend" => blocks::remove_range_extend(ring, items, times),
         "swap" => swap(ring, case.count, times),
         "rotate_left" => rotate_left(ring, case.count, times),
-        "truncate_in" => truncate_in(ring, items, case.held, times),
-        "keep_newest_in" => keep_newest_in(ring, items, case.held, times),
+        "truncate_in" => blocks::truncate_in(ring, items, case.held, times),
+        "keep_newest_in" => blocks::keep_newest_in(ring, items, case.held, times),
         _ => 0,
     })
 }

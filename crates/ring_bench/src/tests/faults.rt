@@ -3,12 +3,8 @@
 use super::assert_equal;
 use ring_slots::RingSlots;
 use ring_test_support::on_fixed;
-use ring_test_support::steps::Outcome::{Answers, Counts, Differs, Finds, NoItem, Says};
-use ring_test_support::steps::Step::{
-    Back, Below, Clear, Contains, Dequeue, DequeueAll, Enqueue, Front, Get, GetAll, GetAllSigned,
-    GetSigned, Holds, Insert, IsFull, Len, PopBack, Push, PushAll, PushFront, PushToLen, Remove,
-    Search, Slots, TryPush, WriteBack,
-};
+use ring_test_support::steps::Outcome::*;
+use ring_test_support::steps::Step::*;
 use ring_test_support::steps::{Outcome, Step, first_fault};
 use ringbuffer::{DoubleEndedRing, FixedRing};
 use std::process::Abort;

@@ -4,10 +4,7 @@ use super::{List, assert_equal, assert_lists, assert_steps};
 use ring_slots::RingSlots;
 use ring_test_support::kinds::{EACH, FIXED, Kind};
 use ring_test_support::steps::Step;
-use ring_test_support::steps::Step::{
-    Back, Begin, Clear, Dequeue, DequeueAll, Extend, Front, Get, GetAll, GetAllSigned, GetSigned,
-    Holds, IsFull, Len, PushAll, Write, WriteSigned,
-};
+use ring_test_support::steps::Step::*;
 use ring_test_support::{on_each, on_fixed};
 use ringbuffer::{DoubleEndedRing, FixedRing, GrowableAllocRingBuffer, RingBuffer};
 use std::process::Abort;

@@ -7,10 +7,7 @@ use super::{List, assert_equal, assert_lists, assert_steps, push_all};
 use ring_slots::RingSlots;
 use ring_test_support::kinds::{Calls, EACH, FIXED, Kind, first_fault_on};
 use ring_test_support::steps::Step;
-use ring_test_support::steps::Step::{
-    Back, Capacity, Clear, Dequeue, DequeueAll, Enqueue, Extend, Fill, Front, GetSigned, Holds,
-    IsEmpty, IsFull, Len, Push, PushAll, PushToLen, Skip, Slots,
-};
+use ring_test_support::steps::Step::*;
 use ring_test_support::{on_each, on_fixed, on_ring};
 use ringbuffer::{
     AllocRingBuffer, ConstGenericRingBuffer, DoubleEndedRing, FixedRing, GrowableAllocRingBuffer,

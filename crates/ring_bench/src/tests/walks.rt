@@ -9,8 +9,8 @@ use ring_test_support::steps::Step::{
 };
 use ring_test_support::{on_each, on_each_of_any, on_fixed, on_ring};
 use ringbuffer::{
-    DoubleEndedRing, FixedRing, GrowableAllocRingBuffer, RingBuffer, RingBufferExt,
-    RingBufferIntoIterator,
+    ConstGenericRingBuffer, DoubleEndedRing, FixedRing, GrowableAllocRingBuffer, RingBuffer,
+    RingBufferExt, RingBufferIntoIterator,
 };
 use std::alloc::AllocError;
 use std::fmt::Debug;
@@ -137,27 +137,11 @@ macro_rules! loop_over {
     }};
 }
 
-/// A ring that a loop goes over.
-trait LoopedOver {
-    fn assert_looped_over(self, rt: &impl Abort);
-}
-
-impl<S: RingSlots<i64>> LoopedOver for FixedRing<i64, S> {
-    fn assert_looped_over(self, rt: &impl Abort) {
-        loop_over!(rt, self);
-    }
-}
-
-impl LoopedOver for GrowableAllocRingBuffer<i64> {
-    fn assert_looped_over(self, rt: &impl Abort) {
-        loop_over!(rt, self);
-    }
-}
-
 #[test]
 fn rings_are_looped_over_and_walked_side_by_side(rt: HostRuntime) {
     on_each!(&rt, 8, assert_reads_twice);
-    on_each!(&rt, 3, assert_looped_over);
+    loop_over!(&rt, ConstGenericRingBuffer::<i64, 3>::new());
+    loop_over!(&rt, GrowableAllocRingBuffer::new(rt.alloc()));
 }
 
 /// A ring that is walked over.

@@ -1,13 +1,8 @@
 //! What becomes of items: each is dropped exactly once.
 
 use super::assert_equal;
-use ring_test_support::drops::Call::{
-    self, Apply, Clear, CopyOut, Dequeue, DequeueBelow, Drain, DrainRange, Dropped, EndInOrder,
-    Enqueue, Extend, ExtendClones, Fill, FillWith, Given, Holds, Insert, KeepNewest, MapEach,
-    MoveAll, PopBack, Push, PushFront, PushOver, Remove, RemoveRange, RetainOdd, RotateLeft,
-    RotateRight, Skip, SplitOff, Swap, TakeAll, Truncate, Walk, Write,
-};
-use ring_test_support::drops::first_fault_of_drops;
+use ring_test_support::drops::Call::*;
+use ring_test_support::drops::{Call, first_fault_of_drops};
 use ring_test_support::kinds::Kind;
 
 /// The types that take any items, and have a limit.
