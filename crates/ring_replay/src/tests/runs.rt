@@ -8,11 +8,7 @@ use super::digests::DIGESTS;
 use super::items::{Maker, Values};
 use super::player::Player;
 use super::rings::Played;
-use ringbuffer::{
-    AllocRingBuffer, ConstGenericRingBuffer, CopyRingBuffer, GrowableAllocRingBuffer,
-};
 use std::alloc::Global;
-use std::fmt::Debug;
 use std::process::Abort;
 
 /// How often a run looks at what its ring holds, and how many calls come between.
@@ -92,11 +88,7 @@ pub trait Replays<T: Clone + Drop>: Played<T> {
     }
 }
 
-impl<T: Clone + Drop, const CAP: usize> Replays<T> for ConstGenericRingBuffer<T, CAP> {}
-
-impl<T: Clone + Drop> Replays<T> for AllocRingBuffer<T> {}
-
-impl<T: Clone + Drop> Replays<T> for GrowableAllocRingBuffer<T> {}
+impl<T: Clone + Drop, R: Played<T>> Replays<T> for R {}
 
 /// A ring that plays runs of items that can be copied.
 pub trait ReplaysCopies<T: Plain>: PlayedCopies<T> {
@@ -122,13 +114,7 @@ pub trait ReplaysCopies<T: Plain>: PlayedCopies<T> {
     }
 }
 
-impl<T: Plain, const CAP: usize> ReplaysCopies<T> for ConstGenericRingBuffer<T, CAP> {}
-
-impl<T: Plain, const CAP: usize> ReplaysCopies<T> for CopyRingBuffer<T, CAP> {}
-
-impl<T: Plain> ReplaysCopies<T> for AllocRingBuffer<T> {}
-
-impl<T: Plain> ReplaysCopies<T> for GrowableAllocRingBuffer<T> {}
+impl<T: Plain, R: PlayedCopies<T>> ReplaysCopies<T> for R {}
 
 /// A ring that plays runs of bytes.
 pub trait ReplaysBytes: PlayedBytes {
@@ -151,10 +137,4 @@ pub trait ReplaysBytes: PlayedBytes {
     }
 }
 
-impl<const CAP: usize> ReplaysBytes for ConstGenericRingBuffer<u8, CAP> {}
-
-impl<const CAP: usize> ReplaysBytes for CopyRingBuffer<u8, CAP> {}
-
-impl ReplaysBytes for AllocRingBuffer<u8> {}
-
-impl ReplaysBytes for GrowableAllocRingBuffer<u8> {}
+impl<R: PlayedBytes> ReplaysBytes for R {}
