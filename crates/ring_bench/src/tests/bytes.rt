@@ -2,7 +2,7 @@
 
 use super::assert_equal;
 use ring_test_support::{on_fixed, on_ring};
-use ringbuffer::{FixedRing, GrowableAllocRingBuffer, RingBuffer, TakesCopies};
+use ringbuffer::{GrowableAllocRingBuffer, RingBuffer};
 use std::io::{self, BufRead, Read, Write};
 use std::process::Abort;
 
@@ -36,6 +36,4 @@ trait OfBytes: BufRead + Read + Write + RingBuffer<u8> + Drop {
     }
 }
 
-impl<S: TakesCopies<u8>> OfBytes for FixedRing<u8, S> {}
-
-impl OfBytes for GrowableAllocRingBuffer<u8> {}
+impl<R: BufRead + Read + Write + RingBuffer<u8> + Drop> OfBytes for R {}

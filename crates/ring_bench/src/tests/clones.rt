@@ -1,9 +1,8 @@
 //! Clones of a slice's items pushed onto a ring, and of a ring's items put into a slice, through the trait alone.
 
 use super::{assert_equal, assert_holds};
-use ring_slots::RingSlots;
 use ring_test_support::on_each;
-use ringbuffer::{FixedRing, GrowableAllocRingBuffer, RingBuffer};
+use ringbuffer::RingBuffer;
 use std::process::Abort;
 
 #[test]
@@ -33,6 +32,4 @@ trait ClonedTo: RingBuffer<i64> + Drop {
     }
 }
 
-impl<S: RingSlots<i64>> ClonedTo for FixedRing<i64, S> {}
-
-impl ClonedTo for GrowableAllocRingBuffer<i64> {}
+impl<R: RingBuffer<i64> + Drop> ClonedTo for R {}

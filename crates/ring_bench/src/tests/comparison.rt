@@ -164,10 +164,4 @@ trait Compared: RingBuffer<i64> + PartialEq + Clone + Drop {
     }
 }
 
-impl<const CAP: usize> Compared for ConstGenericRingBuffer<i64, CAP> {}
-
-impl<const CAP: usize> Compared for CopyRingBuffer<i64, CAP> {}
-
-impl Compared for AllocRingBuffer<i64> {}
-
-impl Compared for GrowableAllocRingBuffer<i64> {}
+impl<R: RingBuffer<i64> + PartialEq + Clone + Drop> Compared for R {}

@@ -1,13 +1,10 @@
 //! Fills.
 
 use super::{assert_equal, assert_holds, push_all};
-use ring_slots::RingSlots;
 use ring_test_support::steps::Step::{DequeueAll, Fill, FillDefault, Len, PushAll};
 use ring_test_support::steps::{Step, first_fault};
 use ring_test_support::{on_fixed, on_ring};
-use ringbuffer::{
-    AllocRingBuffer, DoubleEndedRing, FixedRing, GrowableAllocRingBuffer, RingBuffer,
-};
+use ringbuffer::{AllocRingBuffer, DoubleEndedRing, RingBuffer};
 use std::alloc::AllocError;
 use std::process::Abort;
 
@@ -112,6 +109,4 @@ trait Filled: DoubleEndedRing<i64> + Drop {
     }
 }
 
-impl<S: RingSlots<i64>> Filled for FixedRing<i64, S> {}
-
-impl Filled for GrowableAllocRingBuffer<i64> {}
+impl<R: DoubleEndedRing<i64> + Drop> Filled for R {}

@@ -4,15 +4,11 @@ ghost use Rattle.std.specs.Prelude.{◌-◌, ◌<◌};
 ghost use Rattle.std.specs.Iterator.{at_most};
 
 use super::{List, assert_equal, assert_lists, assert_steps, push_all};
-use ring_slots::RingSlots;
 use ring_test_support::kinds::{Calls, EACH, FIXED, Kind, first_fault_on};
 use ring_test_support::steps::Step;
 use ring_test_support::steps::Step::*;
 use ring_test_support::{on_each, on_fixed, on_ring};
-use ringbuffer::{
-    AllocRingBuffer, ConstGenericRingBuffer, DoubleEndedRing, FixedRing, GrowableAllocRingBuffer,
-    RingBuffer,
-};
+use ringbuffer::{AllocRingBuffer, ConstGenericRingBuffer, DoubleEndedRing, RingBuffer};
 use std::process::Abort;
 
 const HEAP: &[Kind] = &[Kind::Heap];
@@ -335,6 +331,4 @@ trait Pushed: DoubleEndedRing<i64> + Drop {
     }
 }
 
-impl<S: RingSlots<i64>> Pushed for FixedRing<i64, S> {}
-
-impl Pushed for GrowableAllocRingBuffer<i64> {}
+impl<R: DoubleEndedRing<i64> + Drop> Pushed for R {}

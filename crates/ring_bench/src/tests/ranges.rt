@@ -1,10 +1,9 @@
 //! Reading walks over a range of indexes.
 
 use super::{assert_equal, assert_steps};
-use ring_slots::RingSlots;
 use ring_test_support::on_each;
 use ring_test_support::steps::Step::{self, Begin, PushAll};
-use ringbuffer::{DoubleEndedRing, FixedRing, GrowableAllocRingBuffer, RingBuffer, RingBufferExt};
+use ringbuffer::{DoubleEndedRing, RingBuffer, RingBufferExt};
 use std::ops::{Bound, RangeBounds};
 use std::process::Abort;
 
@@ -55,6 +54,4 @@ trait Ranged: DoubleEndedRing<i64> + Drop {
     }
 }
 
-impl<S: RingSlots<i64>> Ranged for FixedRing<i64, S> {}
-
-impl Ranged for GrowableAllocRingBuffer<i64> {}
+impl<R: DoubleEndedRing<i64> + Drop> Ranged for R {}

@@ -1,12 +1,9 @@
 //! Commands, one by one and in runs.
 
 use super::{assert_equal, assert_holds, push_all};
-use ring_slots::RingSlots;
 use ring_test_support::commands::{REPLIES_OF_TWO, every_command};
 use ring_test_support::{on_each, on_fixed, on_ring};
-use ringbuffer::{
-    Command, FixedRing, GrowableAllocRingBuffer, Reply, RingBuffer, run, run_into, runs_join,
-};
+use ringbuffer::{Command, Reply, RingBuffer, run, run_into, runs_join};
 use std::process::Abort;
 use std::slice::from_ref;
 
@@ -116,6 +113,4 @@ trait Commanded: RingBuffer<i64> + Drop {
     }
 }
 
-impl<S: RingSlots<i64>> Commanded for FixedRing<i64, S> {}
-
-impl Commanded for GrowableAllocRingBuffer<i64> {}
+impl<R: RingBuffer<i64> + Drop> Commanded for R {}

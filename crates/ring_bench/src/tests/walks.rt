@@ -1,7 +1,6 @@
 //! Walks over the items: reading, writing and taking; lists of the items.
 
 use super::{List, assert_equal, assert_lists, assert_steps, push_all};
-use ring_slots::RingSlots;
 use ring_test_support::kinds::EACH;
 use ring_test_support::steps::End::{self, Back, Front};
 use ring_test_support::steps::Step::{
@@ -9,8 +8,8 @@ use ring_test_support::steps::Step::{
 };
 use ring_test_support::{on_each, on_each_of_any, on_fixed, on_ring};
 use ringbuffer::{
-    ConstGenericRingBuffer, DoubleEndedRing, FixedRing, GrowableAllocRingBuffer, RingBuffer,
-    RingBufferExt, RingBufferIntoIterator,
+    ConstGenericRingBuffer, DoubleEndedRing, GrowableAllocRingBuffer, RingBuffer, RingBufferExt,
+    RingBufferIntoIterator,
 };
 use std::alloc::AllocError;
 use std::fmt::Debug;
@@ -196,9 +195,7 @@ trait Walked: DoubleEndedRing<i64> + Drop {
     }
 }
 
-impl<S: RingSlots<i64>> Walked for FixedRing<i64, S> {}
-
-impl Walked for GrowableAllocRingBuffer<i64> {}
+impl<R: DoubleEndedRing<i64> + Drop> Walked for R {}
 
 /// Pushes three items, which a walk reads as their equals. The oldest is then written over the newest.
 fn assert_borrows<T: Copy + PartialEq + Debug + Drop, R: RingBuffer<T> + Drop>(

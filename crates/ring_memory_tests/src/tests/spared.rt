@@ -1,12 +1,11 @@
 //! Calls that need one block of memory, where there is one of that size and no other.
 
 use super::{assert_equal, assert_numbers, drought};
-use ring_slots::RingSlots;
 use ring_test_support::drought::Drought;
 use ring_test_support::numbered::block;
 use ringbuffer::{
     AllocRingBuffer, ConstGenericRingBuffer, CopyRingBuffer, DoubleEndedRing, DoubleEndedRingExt,
-    FixedRing, GrowableAllocRingBuffer, RingBuffer, RingBufferExt,
+    GrowableAllocRingBuffer, RingBuffer, RingBufferExt,
 };
 use std::alloc::AllocError;
 use std::process::Abort;
@@ -158,6 +157,4 @@ trait Taken: DoubleEndedRing<u64> + Drop {
     }
 }
 
-impl<S: RingSlots<u64>> Taken for FixedRing<u64, S> {}
-
-impl Taken for GrowableAllocRingBuffer<u64> {}
+impl<R: DoubleEndedRing<u64> + Drop> Taken for R {}

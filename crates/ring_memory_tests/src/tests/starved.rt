@@ -1,7 +1,6 @@
 //! Calls that are refused memory, and calls that ask for none.
 
 use super::{assert_equal, assert_holds, drought, push_all};
-use ring_slots::RingSlots;
 use ring_test_support::commands::{REPLIES_OF_TWO, every_command};
 use ring_test_support::kinds::{Calls, EACH, FIXED, Kind, first_fault_on};
 use ring_test_support::steps::End::{self, Front};
@@ -14,8 +13,8 @@ use ring_test_support::steps::Step::{
 use ring_test_support::steps::{Outcome, Step, first_fault};
 use ring_test_support::{on_each, on_ring};
 use ringbuffer::{
-    AllocRingBuffer, Command, DoubleEndedRing, FixedRing, GrowableAllocRingBuffer, Reply,
-    RingBuffer, RunFault, apply, move_all, run, run_into,
+    AllocRingBuffer, Command, DoubleEndedRing, GrowableAllocRingBuffer, Reply, RingBuffer,
+    RunFault, apply, move_all, run, run_into,
 };
 use std::alloc::AllocError;
 use std::mem::size_of;
@@ -233,6 +232,4 @@ trait Starved: DoubleEndedRing<i64> + Drop {
     }
 }
 
-impl<S: RingSlots<i64>> Starved for FixedRing<i64, S> {}
-
-impl Starved for GrowableAllocRingBuffer<i64> {}
+impl<R: DoubleEndedRing<i64> + Drop> Starved for R {}

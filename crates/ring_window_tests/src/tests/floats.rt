@@ -2,12 +2,8 @@
 
 use super::assert_equal;
 use super::random_calls::{Call, Sliding, call_window};
-use ring_slots::RingSlots;
 use ring_test_support::on_ring;
-use ringbuffer::{
-    ConstGenericRingBuffer, CopyRingBuffer, FixedRing, GrowableAllocRingBuffer, RingBuffer,
-    RingBufferExt,
-};
+use ringbuffer::{ConstGenericRingBuffer, CopyRingBuffer, RingBuffer, RingBufferExt};
 use std::collections::VecDeque;
 use std::num::nearest_i64_to_f64;
 use std::process::Abort;
@@ -125,9 +121,7 @@ trait OfSummands: RingBuffer<Summand> + Drop {
     }
 }
 
-impl<S: RingSlots<Summand>> OfSummands for FixedRing<Summand, S> {}
-
-impl OfSummands for GrowableAllocRingBuffer<Summand> {}
+impl<R: RingBuffer<Summand> + Drop> OfSummands for R {}
 
 impl<R: RingBuffer<Summand> + Drop> Sliding for WindowFloatSum<R> {
     type Answer = f64;

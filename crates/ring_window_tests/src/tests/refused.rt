@@ -1,10 +1,9 @@
 //! Pushes that are refused memory: the item comes back, and the window answers as before.
 
 use super::assert_equal;
-use ring_slots::RingSlots;
 use ring_test_support::drought::Drought;
 use ring_test_support::on_ring;
-use ringbuffer::{FixedRing, GrowableAllocRingBuffer, RingBuffer};
+use ringbuffer::{GrowableAllocRingBuffer, RingBuffer};
 use std::mem::size_of;
 use std::process::Abort;
 use window::{
@@ -119,9 +118,7 @@ trait SummedUp: RingBuffer<i64> + Drop {
     }
 }
 
-impl<S: RingSlots<i64>> SummedUp for FixedRing<i64, S> {}
-
-impl SummedUp for GrowableAllocRingBuffer<i64> {}
+impl<R: RingBuffer<i64> + Drop> SummedUp for R {}
 
 /// Makes a window on the heap of each capacity, while there is a block for its slots and no other, and no smaller one.
 macro_rules! assert_made_of_one_block {

@@ -1,9 +1,8 @@
 //! Sums over each type of ring.
 
 use super::assert_equal;
-use ring_slots::RingSlots;
 use ring_test_support::{on_each, on_fixed, on_ring};
-use ringbuffer::{FixedRing, GrowableAllocRingBuffer, RingBuffer};
+use ringbuffer::RingBuffer;
 use std::process::Abort;
 use window::WindowSum;
 
@@ -85,6 +84,4 @@ trait Slid: RingBuffer<i64> + Drop {
     }
 }
 
-impl<S: RingSlots<i64>> Slid for FixedRing<i64, S> {}
-
-impl Slid for GrowableAllocRingBuffer<i64> {}
+impl<R: RingBuffer<i64> + Drop> Slid for R {}

@@ -1,10 +1,9 @@
 //! Windows of the items that came within a span of time.
 
 use super::assert_equal;
-use ring_slots::RingSlots;
 use ring_test_support::drought::Drought;
 use ring_test_support::on_ring;
-use ringbuffer::{FixedRing, GrowableAllocRingBuffer, RingBuffer, RingBufferExt};
+use ringbuffer::{GrowableAllocRingBuffer, RingBuffer, RingBufferExt};
 use std::process::Abort;
 use window::{AllocWindowTime, GrowableAllocWindowTime, Stamped, WindowTime};
 
@@ -162,6 +161,4 @@ trait OfStamped: RingBuffer<Stamped<u32>> + Drop {
     }
 }
 
-impl<S: RingSlots<Stamped<u32>>> OfStamped for FixedRing<Stamped<u32>, S> {}
-
-impl OfStamped for GrowableAllocRingBuffer<Stamped<u32>> {}
+impl<R: RingBuffer<Stamped<u32>> + Drop> OfStamped for R {}
