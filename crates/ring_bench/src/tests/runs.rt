@@ -3,7 +3,8 @@
 use super::{assert_equal, assert_holds, push_all};
 use ring_test_support::commands::{REPLIES_OF_TWO, every_command};
 use ring_test_support::{on_each, on_fixed, on_ring};
-use ringbuffer::{Command, Reply, RingBuffer, run, run_into, runs_join};
+use ringbuffer::Command::{self, Dequeue};
+use ringbuffer::{Reply, RingBuffer, run, run_into, runs_join};
 use std::process::Abort;
 use std::slice::from_ref;
 
@@ -102,12 +103,7 @@ trait Commanded: RingBuffer<i64> + Drop {
     fn assert_takes_all(mut self, rt: &(impl Abort + AllocGlobal)) {
         push_all(rt, &mut self, &[1, 2, 3]);
         let taken = [Some(1), Some(2), Some(3), None].map(Reply::Dequeued);
-        let commands = vec![in rt.alloc();
-            Command::Dequeue,
-            Command::Dequeue,
-            Command::Dequeue,
-            Command::Dequeue,
-        ];
+        let commands = vec![in rt.alloc(); Dequeue, Dequeue, Dequeue, Dequeue];
         assert_run_into(rt, &mut self, commands.expect(rt, "memory"), &taken);
         assert_holds(rt, &self, &[]);
     }

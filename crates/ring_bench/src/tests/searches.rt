@@ -68,11 +68,8 @@ fn assert_compared(rt: &impl Abort, alloc: Global, levels: u32) -> Result<(), Al
     let most = (u32::BITS - levels.leading_zeros()).saturating_add(1);
     for height in 0..levels.saturating_add(1) {
         compared.set(0);
-        assert_equal(
-            rt,
-            binary_search(&ring, &Level { height, compared }).is_ok(),
-            height < levels,
-        );
+        let found = binary_search(&ring, &Level { height, compared });
+        assert_equal(rt, found.is_ok(), height < levels);
         assert!(rt; compared.get() <= most);
     }
     Ok(())

@@ -21,11 +21,8 @@ fn assert_turned<S: LendsRows<i64> + ShowsRows<i64>>(
     assert_steps(rt, ring, &[Begin(start), PushAll(items)]);
     let slots = ring.buffer_size();
     let to_the_last = slots.saturating_sub(start.checked_rem(slots).unwrap_or(0));
-    assert_equal(
-        rt,
-        ring.as_slices(),
-        items.split_at(to_the_last.min(items.len())),
-    );
+    let halves = items.split_at(to_the_last.min(items.len()));
+    assert_equal(rt, ring.as_slices(), halves);
     assert_equal(rt, &*ring.make_contiguous(), items);
     assert_equal(rt, ring.as_slices(), (items, [].as_slice()));
     assert_steps(rt, ring, &[Holds(items)]);

@@ -32,12 +32,8 @@ fn names_the_first_line_that_is_no_command(rt: HostRuntime) {
         (511, "ringrun: line 512: not a command\n"),
     ];
     let outcome = run_script(&rt, &["array", "2"], b"push 1\npush x");
-    assert_ended(
-        &rt,
-        1,
-        &outcome,
-        fails(1, "ringrun: line 2: not a command\n"),
-    );
+    let second = fails(1, "ringrun: line 2: not a command\n");
+    assert_ended(&rt, "the second", &outcome, second);
     for (blanks, want) in rows {
         let script = repeated(&rt, &[("\n", blanks), ("push x\n", 1)]);
         let outcome = run_script(&rt, &["array", "3"], script.as_bytes());

@@ -135,10 +135,8 @@ impl<R: RingBuffer<Summand> + Drop> Sliding for WindowFloatSum<R> {
     }
 
     fn by_walk(samples: &VecDeque<i64>) -> f64 {
-        samples
-            .iter()
-            .map(|sample| nearest_i64_to_f64(*sample))
-            .sum()
+        let samples = samples.iter().map(|sample| nearest_i64_to_f64(*sample));
+        samples.sum()
     }
 }
 

@@ -1,9 +1,6 @@
 //! What a ring of two items is made of, and how a ring of each type is made of it.
 
-use Source::{
-    Array, ArrayRef, ArrayRing, Deque, GrowableRing, HeapRing, Iterated, List, MutArray, MutSlice,
-    Slice, Vector,
-};
+use Source::*;
 use ring_test_support::counted::Counted;
 use ringbuffer::{AllocRingBuffer, ConstGenericRingBuffer, GrowableAllocRingBuffer, RingBuffer};
 use std::alloc::{AllocError, Global};
