@@ -70,8 +70,15 @@ pub fn first_fault_on(
             Kind::Copies => {
                 by_capacity!(capacity, NO_RING, fault_of_copies, (alloc, calls), 1 2 3 4 5 8 13 16)
             }
-            Kind::Heap => fault_on_heap(alloc, capacity, calls),
-            Kind::Growable => fault_of_growable(alloc, capacity, calls),
+            Kind::Heap if capacity > 0 => match AllocRingBuffer::new(alloc, capacity) {
+                Ok(mut ring) => fault_of(alloc, &mut ring, calls),
+                Err(_) => Some(NO_RING),
+            },
+            Kind::Heap => Some(NO_RING),
+            Kind::Growable => match GrowableAllocRingBuffer::with_capacity(alloc, capacity) {
+                Ok(mut ring) => fault_of(alloc, &mut ring, calls),
+                Err(_) => Some(NO_RING),
+            },
         };
         if let Some(fault) = fault {
             return Some((*kind, fault));
@@ -111,21 +118,4 @@ fn fault_of_copies<const CAP: usize>(alloc: Global, calls: Calls) -> Option<Faul
     requires few { CAP < 1000 }
 {
     fault_of(alloc, &mut CopyRingBuffer::<i64, CAP>::new(0), calls)
-}
-
-fn fault_on_heap(alloc: Global, capacity: usize, calls: Calls) -> Option<Fault> {
-    if capacity == 0 {
-        return Some(NO_RING);
-    }
-    match AllocRingBuffer::new(alloc, capacity) {
-        Ok(mut ring) => fault_of(alloc, &mut ring, calls),
-        Err(_) => Some(NO_RING),
-    }
-}
-
-fn fault_of_growable(alloc: Global, room: usize, calls: Calls) -> Option<Fault> {
-    match GrowableAllocRingBuffer::with_capacity(alloc, room) {
-        Ok(mut ring) => fault_of(alloc, &mut ring, calls),
-        Err(_) => Some(NO_RING),
-    }
 }
