@@ -193,7 +193,8 @@ impl<'a, R: DoubleEndedRing<Counted<'a>> + Drop> Supplied<'a, R> {
         let taken = match call {
             Call::SplitOff(at) if *at <= len => self.ring.split_off(*at, self.supply.alloc()),
             Call::DrainRange(from, to) => self.ring.drain_range(*from..*to, self.supply.alloc()),
-            _ => self.ring.take_all(self.supply.alloc()),
+            Call::TakeAll => self.ring.take_all(self.supply.alloc()),
+            _ => return Err(None),
         };
         let count = taken.map_err(|_| None)?.len();
         unless(self.ring.len().saturating_add(count), len, Some(count))
@@ -218,23 +219,21 @@ impl<'a, R: DoubleEndedRing<Counted<'a>> + Drop> Supplied<'a, R> {
             Call::DequeueBelow(number) => {
                 let _ = self.ring.dequeue_while(|item| item.number < *number);
             }
-            Call::Write(index) => *self.ring.get_mut(*index).ok_or(None)? = supply
-                .next()
-                .ok_or(None)?,
-            Call::Insert(index) if *index <= len => {
-                self.ring
-                    .insert(*index, supply.next().ok_or(None)?)
-                    .map_err(|_| None)?
+            Call::Write(index) => {
+                let item = self.next()?;
+                *self.ring.get_mut(*index).ok_or(None)? = item;
             }
-            Call::Fill => self
-                .ring
-                .fill(supply.next().ok_or(None)?)
-                .map_err(|_| None)?,
+            Call::Insert(index) if *index <= len => {
+                let item = self.next()?;
+                self.ring.insert(*index, item).map_err(|_| None)?;
+            }
+            Call::Fill => {
+                let item = self.next()?;
+                self.ring.fill(item).map_err(|_| None)?;
+            }
             Call::Enqueue => {
-                let _ = self
-                    .ring
-                    .enqueue(supply.next().ok_or(None)?)
-                    .map_err(|_| None)?;
+                let item = self.next()?;
+                let _ = self.ring.enqueue(item).map_err(|_| None)?;
             }
             Call::FillWith => self.ring.fill_with(|| supply.more()).map_err(|_| None)?,
             Call::MapEach => self.ring.map_each(|_| supply.more()),
