@@ -20,17 +20,14 @@ use ringbuffer::{AllocRingBuffer, ConstGenericRingBuffer, GrowableAllocRingBuffe
 use rings::Played;
 use std::mem::size_of;
 
-/// How many digests a run has, one after every 256 calls.
-const BLOCKS: usize = 4;
-
 /// The capacities of heap rings and of growable rings.
 const CAPACITIES: [usize; 16] = [1, 2, 3, 4, 5, 7, 8, 9, 12, 13, 16, 17, 32, 33, 100, 300];
 
 /// Plays a run. Runs are numbered from one.
 fn replay<'a, T: Item<'a>, R: Played<'a, T>>(digests: &mut Vec<u32>, tally: &'a Tally, mut ring: R, capacity: usize) {
-    let mut player = Player::new(tally, capacity, digests.len() / BLOCKS + 1);
+    let mut player = Player::new(tally, capacity, digests.len() + 1);
     calls::rotate(&mut ring, &mut player);
-    for _ in 0..BLOCKS {
+    for _ in 0..4 {
         for _ in 0..64 {
             for _ in 0..3 {
                 calls::play(&mut ring, &mut player);
@@ -40,8 +37,8 @@ fn replay<'a, T: Item<'a>, R: Played<'a, T>>(digests: &mut Vec<u32>, tally: &'a 
         player.note_ring(&ring);
         player.note(tally.count.get());
         player.note(tally.sum.get());
-        digests.push(player.digest());
     }
+    digests.push(player.digest());
 }
 
 /// Plays the runs of a kind of items, on array rings of these capacities.
@@ -78,9 +75,7 @@ fn main() {
     println!("//! Written by `bench/replay/run`. Do not edit.\n");
     println!("/// Runs are numbered from one. The draws of each begin at this seed and its number.");
     println!("pub const SEED: u64 = {SEED};\n");
-    println!("/// How many digests a run has, one after every 256 calls.");
-    println!("pub const BLOCKS: usize = {BLOCKS};\n");
-    println!("/// The digests of {} calls.", digests.len() * 256);
+    println!("/// The digest of each run, of 1024 calls.");
     println!("pub const DIGESTS: &[u32] = &[");
     digests.iter().for_each(|digest| println!("    {digest:#010x},"));
     println!("];");

@@ -2,6 +2,7 @@
 
 use crate::item::Item;
 use crate::ring::Measured;
+use crate::sums::{sum_of, xor_of};
 use ringbuffer::RingBufferExt;
 
 #[inline(never)]
@@ -89,11 +90,7 @@ pub fn bring_clones<T: Item, R: Measured<T>>(ring: &mut R, items: &[T], times: u
 
 #[inline(never)]
 pub fn copy<T: Item, R: Measured<T>>(ring: &R, output: &mut [T], times: u32) -> u64 {
-    let mut sum = 0u64;
-    for _ in 0..times {
-        sum = sum.wrapping_add(ring.copy(output) as u64);
-    }
-    sum
+    sum_of!(times, |_| ring.copy(output) as u64)
 }
 
 #[inline(never)]
@@ -103,12 +100,11 @@ pub fn take_in<T: Item, R: Measured<T>>(
     output: &mut [T],
     times: u32,
 ) -> u64 {
-    let mut sum = 0u64;
-    for _ in 0..times {
-        sum = sum.wrapping_add(ring.take(output) as u64);
+    sum_of!(times, |_| {
+        let count = ring.take(output);
         ring.bring(items);
-    }
-    sum
+        count as u64
+    })
 }
 
 #[inline(never)]
@@ -151,10 +147,8 @@ pub fn keep_newest_in<T: Item, R: Measured<T>>(
 // Pushes move the first item on, so that the ring goes round its slots again.
 #[inline(never)]
 pub fn bring_contiguous<T: Item, R: Measured<T>>(ring: &mut R, items: &[T], times: u32) -> u64 {
-    let mut sum = 0u64;
-    for _ in 0..times {
+    xor_of!(times, |_| {
         ring.bring(items);
-        sum ^= ring.contiguous();
-    }
-    sum
+        ring.contiguous()
+    })
 }

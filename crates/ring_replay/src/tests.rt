@@ -1,6 +1,6 @@
-//! A run is a ring, and 1,024 calls of it that a seed draws. What the calls answer and what the ring then holds is summed
-//! up in a digest after every 256 of them, and compared with that of the Rust crate's ring, or of a `VecDeque` where that
-//! crate is at fault or lacks the call (`bench/replay`).
+//! A run is a ring, and 1,024 calls of it that a seed draws. What the calls answer, and what the ring holds after every 256 of
+//! them, is summed up in a digest, and compared with that of the Rust crate's ring, or of a `VecDeque` where that crate is at
+//! fault or lacks the call (`bench/replay`).
 
 mod both_ends;
 mod bytes;

@@ -2,11 +2,12 @@
 
 ghost use Rattle.std.specs.Prelude.{◌<◌, ◌≤◌};
 
+use crate::Task;
 use crate::digest::Digest;
 use crate::random::Random;
 use ringbuffer::{
-    AllocRingBuffer, ConstGenericRingBuffer, CopyRingBuffer, DoubleEndedRing,
-    GrowableAllocRingBuffer, RingBuffer,
+    AllocRingBuffer, ConstGenericRingBuffer, CopyRingBuffer, DoubleEndedRing, FixedRing,
+    GrowableAllocRingBuffer, RingBuffer, TakesCopies,
 };
 use std::alloc::{AllocError, Global};
 
@@ -61,27 +62,7 @@ trait Frames<T: Sample>: DoubleEndedRing<T> {
     fn take(&mut self, output: &mut [T]) -> usize;
 }
 
-impl<T: Sample> Frames<T> for ConstGenericRingBuffer<T, 1920> {
-    fn bring(&mut self, frame: &[T]) {
-        self.extend_from_slice(frame);
-    }
-
-    fn take(&mut self, output: &mut [T]) -> usize {
-        self.dequeue_into(output)
-    }
-}
-
-impl<T: Sample> Frames<T> for CopyRingBuffer<T, 1920> {
-    fn bring(&mut self, frame: &[T]) {
-        self.extend_from_slice(frame);
-    }
-
-    fn take(&mut self, output: &mut [T]) -> usize {
-        self.dequeue_into(output)
-    }
-}
-
-impl<T: Sample> Frames<T> for AllocRingBuffer<T> {
+impl<T: Sample, S: TakesCopies<T>> Frames<T> for FixedRing<T, S> {
     fn bring(&mut self, frame: &[T]) {
         self.extend_from_slice(frame);
     }
@@ -103,53 +84,42 @@ impl<T: Sample> Frames<T> for GrowableAllocRingBuffer<T> {
     }
 }
 
-/// Sends frames through rings of a type for `rounds` rounds, and returns a digest of what went out.
-pub fn run(alloc: Global, ring: &str, seed: u64, rounds: u32) -> Result<u64, AllocError> {
+type InArray<T> = ConstGenericRingBuffer<T, 1920>;
+
+type InPlainArray<T> = CopyRingBuffer<T, 1920>;
+
+/// Sends frames through rings of a type, and returns a digest of what went out.
+pub fn run(ring: &str, task: Task) -> Result<u64, AllocError> {
+    let alloc = task.alloc;
     match ring {
-        "array" => over(
-            alloc,
-            ConstGenericRingBuffer::<i16, 1920>::new(),
-            ConstGenericRingBuffer::<u8, 1920>::new(),
-            seed,
-            rounds,
-        ),
+        "array" => over(task, InArray::<i16>::new(), InArray::<u8>::new()),
         "copy" => over(
-            alloc,
-            CopyRingBuffer::<i16, 1920>::new(0),
-            CopyRingBuffer::<u8, 1920>::new(0),
-            seed,
-            rounds,
+            task,
+            InPlainArray::<i16>::new(0),
+            InPlainArray::<u8>::new(0),
         ),
-        "heap" => over(
-            alloc,
-            AllocRingBuffer::<i16>::new(alloc, LIMIT)?,
-            AllocRingBuffer::<u8>::new(alloc, LIMIT)?,
-            seed,
-            rounds,
-        ),
-        _ => over(
-            alloc,
-            GrowableAllocRingBuffer::<i16>::new(alloc),
-            GrowableAllocRingBuffer::<u8>::new(alloc),
-            seed,
-            rounds,
-        ),
+        "heap" => {
+            let samples = AllocRingBuffer::<i16>::new(alloc, LIMIT)?;
+            over(task, samples, AllocRingBuffer::<u8>::new(alloc, LIMIT)?)
+        }
+        _ => {
+            let samples = GrowableAllocRingBuffer::<i16>::new(alloc);
+            over(task, samples, GrowableAllocRingBuffer::<u8>::new(alloc))
+        }
     }
 }
 
 /// Sends frames of samples through one ring, and of bytes through the other.
 fn over<A: Frames<i16> + Drop, B: Frames<u8> + Drop>(
-    alloc: Global,
+    task: Task,
     mut samples: A,
     mut bytes: B,
-    seed: u64,
-    rounds: u32,
 ) -> Result<u64, AllocError> {
-    let mut random = Random::new(seed);
+    let mut random = Random::new(task.seed);
     let mut digest = Digest::new();
-    let mut wide = Buffers::new(alloc)?;
-    let mut narrow = Buffers::new(alloc)?;
-    for _ in 0..rounds {
+    let mut wide = Buffers::new(task.alloc)?;
+    let mut narrow = Buffers::new(task.alloc)?;
+    for _ in 0..task.rounds {
         for _ in 0..FRAMES {
             pass(&mut samples, &mut wide, &mut random, &mut digest)?;
             pass(&mut bytes, &mut narrow, &mut random, &mut digest)?;

@@ -2,6 +2,7 @@
 
 ghost use Rattle.std.specs.Prelude.{IsSome};
 
+use crate::Task;
 use crate::digest::Digest;
 use crate::random::Random;
 use ringbuffer::{
@@ -18,67 +19,46 @@ const ROOM: usize = 1000;
 /// How many words of eight bytes a round's text has.
 const WORDS: u32 = 8192;
 
-/// Sends `rounds` texts through a ring of a type, and returns a digest of the lines and of what was kept.
-pub fn run(alloc: Global, ring: &str, seed: u64, rounds: u32) -> Result<u64, AllocError> {
+type InArray = ConstGenericRingBuffer<u8, 1000>;
+
+type InPlainArray = CopyRingBuffer<u8, 1000>;
+
+/// Sends texts through a ring of a type, and returns a digest of the lines and of what was kept.
+pub fn run(ring: &str, task: Task) -> Result<u64, AllocError> {
+    let alloc = task.alloc;
     match ring {
-        "array" => over(
-            alloc,
-            ConstGenericRingBuffer::<u8, 1000>::new(),
-            ConstGenericRingBuffer::<u8, 1000>::new(),
-            seed,
-            rounds,
-        ),
-        "copy" => over(
-            alloc,
-            CopyRingBuffer::<u8, 1000>::new(0),
-            CopyRingBuffer::<u8, 1000>::new(0),
-            seed,
-            rounds,
-        ),
-        "heap" => over(
-            alloc,
-            AllocRingBuffer::new(alloc, ROOM)?,
-            AllocRingBuffer::new(alloc, ROOM)?,
-            seed,
-            rounds,
-        ),
+        "array" => over(task, InArray::new(), InArray::new()),
+        "copy" => over(task, InPlainArray::new(0), InPlainArray::new(0)),
+        "heap" => {
+            let lines = AllocRingBuffer::new(alloc, ROOM)?;
+            over(task, lines, AllocRingBuffer::new(alloc, ROOM)?)
+        }
         // The last bytes are kept by a limit, which no growable ring has.
-        _ => over(
-            alloc,
-            GrowableAllocRingBuffer::new(alloc),
-            AllocRingBuffer::new(alloc, ROOM)?,
-            seed,
-            rounds,
-        ),
+        _ => {
+            let lines = GrowableAllocRingBuffer::new(alloc);
+            over(task, lines, AllocRingBuffer::new(alloc, ROOM)?)
+        }
     }
 }
 
 /// Sends texts through one ring, and keeps the last bytes in the other.
 fn over<R: BufRead + Write + Drop, L: RingBuffer<u8> + Drop>(
-    alloc: Global,
+    task: Task,
     mut lines: R,
     kept: L,
-    seed: u64,
-    rounds: u32,
 ) -> Result<u64, AllocError>
     requires { IsSome (L.limit kept) }
 {
-    let mut random = Random::new(seed);
+    let mut random = Random::new(task.seed);
     let mut digest = Digest::new();
     let mut last = LastBytes::new(kept);
-    let mut text = Vec::with_capacity(alloc, 16 * WORDS as usize)?;
-    let mut line = String::new(alloc);
-    for _ in 0..rounds {
+    let mut text = Vec::with_capacity(task.alloc, 16 * WORDS as usize)?;
+    let mut line = String::new(task.alloc);
+    for _ in 0..task.rounds {
         write_text(&mut text, &mut random)?;
         // A ring that fails took no memory, so its bytes stay.
-        let _ = relay(
-            &mut lines,
-            &mut last,
-            text.as_slice(),
-            &mut line,
-            &mut random,
-            &mut digest,
-        );
+        let (text, line) = (text.as_slice(), &mut line);
+        let _ = relay(&mut lines, &mut last, text, line, &mut random, &mut digest);
         for byte in last.ring().iter() {
             digest.add(u64::from(*byte));
         }

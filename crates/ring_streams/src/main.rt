@@ -9,7 +9,7 @@ mod frames;
 mod lines;
 mod random;
 
-use std::alloc::{AllocError, Global};
+use std::alloc::Global;
 use std::rt::Env;
 use std::{env, io};
 
@@ -21,20 +21,22 @@ fn main(rt: HostRuntime) -> io::Result<()> {
     let (Ok(seed), Ok(rounds)) = (seed.parse::<u32>(), rounds.parse::<u32>()) else {
         return eprintln!(rt; "SEED and ROUNDS are numbers below 2^32");
     };
-    let digest = run(
-        rt.alloc(),
-        job.as_str(),
-        ring.as_str(),
-        u64::from(seed),
+    let task = Task {
+        alloc: rt.alloc(),
+        seed: u64::from(seed),
         rounds,
-    )?;
+    };
+    let digest = match job.as_str() {
+        "frames" => frames::run(ring, task)?,
+        _ => lines::run(ring, task)?,
+    };
     println!(rt; "{digest}")
 }
 
-/// Does the job of this name, and returns its digest.
-fn run(alloc: Global, job: &str, ring: &str, seed: u64, rounds: u32) -> Result<u64, AllocError> {
-    match job {
-        "frames" => frames::run(alloc, ring, seed, rounds),
-        _ => lines::run(alloc, ring, seed, rounds),
-    }
+/// How often a job is done, and on which inputs.
+#[derive(Clone, Copy)]
+struct Task {
+    alloc: Global,
+    seed: u64,
+    rounds: u32,
 }

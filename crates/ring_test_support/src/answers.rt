@@ -2,47 +2,36 @@
 
 use crate::steps::Outcome;
 
-pub(crate) fn unless_refused(is_done: bool) -> Outcome {
-    if is_done {
+/// Agrees if both are equal.
+fn unless<T: PartialEq + Drop>(found: T, wanted: T, otherwise: Outcome) -> Outcome {
+    if found == wanted {
         Outcome::Agrees
     } else {
-        Outcome::Refused
+        otherwise
     }
+}
+
+pub(crate) fn unless_refused(is_done: bool) -> Outcome {
+    unless(is_done, true, Outcome::Refused)
 }
 
 pub(crate) fn taken(found: Option<i64>, wanted: Option<i64>) -> Outcome {
-    if found == wanted {
-        Outcome::Agrees
-    } else {
-        Outcome::Differs(0, found)
-    }
+    unless(found, wanted, Outcome::Differs(0, found))
 }
 
 pub(crate) fn counted(found: usize, wanted: usize) -> Outcome {
-    if found == wanted {
-        Outcome::Agrees
-    } else {
-        Outcome::Counts(found)
-    }
+    unless(found, wanted, Outcome::Counts(found))
 }
 
 pub(crate) fn said(found: bool, wanted: bool) -> Outcome {
-    if found == wanted {
-        Outcome::Agrees
-    } else {
-        Outcome::Says(found)
-    }
+    unless(found, wanted, Outcome::Says(found))
 }
 
 pub(crate) fn answered(
     found: Result<Option<i64>, i64>,
     wanted: Result<Option<i64>, i64>,
 ) -> Outcome {
-    if found == wanted {
-        Outcome::Agrees
-    } else {
-        Outcome::Answers(found)
-    }
+    unless(found, wanted, Outcome::Answers(found))
 }
 
 pub(crate) fn put(found: Result<(), i64>, wanted: Result<(), i64>) -> Outcome {
@@ -55,11 +44,7 @@ pub(crate) fn put(found: Result<(), i64>, wanted: Result<(), i64>) -> Outcome {
 }
 
 pub(crate) fn searched(found: Result<usize, usize>, wanted: Result<usize, usize>) -> Outcome {
-    if found == wanted {
-        Outcome::Agrees
-    } else {
-        Outcome::Finds(found)
-    }
+    unless(found, wanted, Outcome::Finds(found))
 }
 
 pub(crate) fn written(place: Option<&mut i64>, item: i64) -> Outcome {

@@ -189,36 +189,30 @@ fn lengthened<R: DoubleEndedRing<i64>>(ring: &mut R, lengths: &[usize]) -> Outco
     Outcome::Agrees
 }
 
+/// Finds the items by a call that reads and one that lends, at a position and at those after it.
+macro_rules! find_all {
+    ($ring:expr, $first:expr, $items:expr, $get:ident, $get_mut:ident) => {{
+        let mut at = $first;
+        for (i, item) in $items.iter().enumerate() {
+            let (read, lent) = ($ring.$get(at).copied(), $ring.$get_mut(at).copied());
+            if read != Some(*item) {
+                return Outcome::Differs(i, read);
+            }
+            if lent != read {
+                return Outcome::LendsAnother(read, lent);
+            }
+            at = at.wrapping_add(1);
+        }
+        Outcome::Agrees
+    }};
+}
+
 fn found_all<R: DoubleEndedRing<i64>>(ring: &mut R, first: usize, items: &[i64]) -> Outcome {
-    for (i, item) in items.iter().enumerate() {
-        let at = first.wrapping_add(i);
-        let (read, lent) = (ring.get(at).copied(), ring.get_mut(at).copied());
-        if read != Some(*item) {
-            return Outcome::Differs(i, read);
-        }
-        if lent != read {
-            return Outcome::LendsAnother(read, lent);
-        }
-    }
-    Outcome::Agrees
+    find_all!(ring, first, items, get, get_mut)
 }
 
 fn found_all_signed<R: DoubleEndedRing<i64>>(ring: &mut R, first: isize, items: &[i64]) -> Outcome {
-    let mut at = first;
-    for (i, item) in items.iter().enumerate() {
-        let (read, lent) = (
-            ring.get_signed(at).copied(),
-            ring.get_mut_signed(at).copied(),
-        );
-        if read != Some(*item) {
-            return Outcome::Differs(i, read);
-        }
-        if lent != read {
-            return Outcome::LendsAnother(read, lent);
-        }
-        at = at.wrapping_add(1);
-    }
-    Outcome::Agrees
+    find_all!(ring, first, items, get_signed, get_mut_signed)
 }
 
 fn dequeued<R: DoubleEndedRing<i64>>(ring: &mut R, items: &[i64]) -> Outcome {

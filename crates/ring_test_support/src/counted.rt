@@ -6,6 +6,7 @@ use std::cell::Cell;
 /// Gives out items, clones among them, and numbers them in that order. It counts how often each is dropped.
 #[derive(Drop)]
 pub struct Supply {
+    alloc: Global,
     drops: Vec<Cell<u8>>,
     most: Cell<usize>,
     given: Cell<usize>,
@@ -21,12 +22,18 @@ impl Supply {
             drops.push(Cell::new(0))?;
         }
         Ok(Supply {
+            alloc,
             drops,
             most: Cell::new(items),
             given: Cell::new(0),
             last_dropped: Cell::new(0),
             in_order: Cell::new(true),
         })
+    }
+
+    /// Returns the allocator that its memory came from.
+    pub fn alloc(&self) -> Global {
+        self.alloc
     }
 
     /// Forgets the items that were given out, and has as many as at first.

@@ -26,17 +26,3 @@ pub fn held<R: RingBuffer<i64>>(ring: &R, items: &[i64]) -> Outcome {
     }
     Outcome::Agrees
 }
-
-/// Agrees if the ring holds one item so many times, and no other.
-pub fn held_times<R: RingBuffer<i64>>(ring: &R, times: usize, item: i64) -> Outcome {
-    if ring.len() != times {
-        return Outcome::Counts(ring.len());
-    }
-    for i in 0..times {
-        let found = ring.get(i).copied();
-        if found != Some(item) {
-            return Outcome::Differs(i, found);
-        }
-    }
-    Outcome::Agrees
-}

@@ -39,6 +39,18 @@ pub enum Calls<'a> {
 /// There is no ring in an array of this capacity, or no memory for one.
 const NO_RING: Fault = (0, 0, 0, Outcome::Refused);
 
+/// Calls a function that has the capacity as a parameter, if it is one of these.
+macro_rules! by_capacity {
+    ($capacity:expr, $no_ring:expr, $function:ident, $arguments:tt, $($one:literal)*) => {
+        match $capacity {
+            $($one => $function::<$one> $arguments,)*
+            _ => Some($no_ring),
+        }
+    };
+}
+
+pub(crate) use by_capacity;
+
 /// Does the calls on a new ring of each of these types, with this capacity or this room. Returns the first type whose ring
 /// doesn't answer as they say, and where that is.
 ///
@@ -52,10 +64,21 @@ pub fn first_fault_on(
 ) -> Option<(Kind, Fault)> {
     for kind in kinds {
         let fault = match kind {
-            Kind::Array => fault_in_array(alloc, capacity, calls),
-            Kind::Copies => fault_of_copies(alloc, capacity, calls),
-            Kind::Heap => fault_on_heap(alloc, capacity, calls),
-            Kind::Growable => fault_of_growable(alloc, capacity, calls),
+            Kind::Array => {
+                by_capacity!(capacity, NO_RING, fault_in_array, (alloc, calls), 1 2 3 4 5 8 13 16 50)
+            }
+            Kind::Copies => {
+                by_capacity!(capacity, NO_RING, fault_of_copies, (alloc, calls), 1 2 3 4 5 8 13 16)
+            }
+            Kind::Heap if capacity > 0 => match AllocRingBuffer::new(alloc, capacity) {
+                Ok(mut ring) => fault_of(alloc, &mut ring, calls),
+                Err(_) => Some(NO_RING),
+            },
+            Kind::Heap => Some(NO_RING),
+            Kind::Growable => match GrowableAllocRingBuffer::with_capacity(alloc, capacity) {
+                Ok(mut ring) => fault_of(alloc, &mut ring, calls),
+                Err(_) => Some(NO_RING),
+            },
         };
         if let Some(fault) = fault {
             return Some((*kind, fault));
@@ -82,52 +105,17 @@ fn fault_of<R: DoubleEndedRing<i64>>(alloc: Global, ring: &mut R, calls: Calls) 
     Some((0, 0, step, outcome))
 }
 
-/// Calls a function that has the capacity as a parameter, if it is one of these.
-macro_rules! by_capacity {
-    ($capacity:expr, $function:ident, $alloc:expr, $calls:expr, $($one:literal)*) => {
-        match $capacity {
-            $($one => $function::<$one>($alloc, $calls),)*
-            _ => Some(NO_RING),
-        }
-    };
-}
-
 /// Does the calls on an array ring. Its capacity is a parameter, so that rings of all capacities are one type to prove.
-fn fault_in_array_of<const CAP: usize>(alloc: Global, calls: Calls) -> Option<Fault>
+fn fault_in_array<const CAP: usize>(alloc: Global, calls: Calls) -> Option<Fault>
     requires some { 0 < CAP }
     requires few { CAP < 1000 }
 {
     fault_of(alloc, &mut ConstGenericRingBuffer::<i64, CAP>::new(), calls)
 }
 
-fn fault_in_array(alloc: Global, capacity: usize, calls: Calls) -> Option<Fault> {
-    by_capacity!(capacity, fault_in_array_of, alloc, calls, 1 2 3 4 5 8 13 16 50)
-}
-
-fn fault_of_copies_in<const CAP: usize>(alloc: Global, calls: Calls) -> Option<Fault>
+fn fault_of_copies<const CAP: usize>(alloc: Global, calls: Calls) -> Option<Fault>
     requires some { 0 < CAP }
     requires few { CAP < 1000 }
 {
     fault_of(alloc, &mut CopyRingBuffer::<i64, CAP>::new(0), calls)
-}
-
-fn fault_of_copies(alloc: Global, capacity: usize, calls: Calls) -> Option<Fault> {
-    by_capacity!(capacity, fault_of_copies_in, alloc, calls, 1 2 3 4 5 8 13 16)
-}
-
-fn fault_on_heap(alloc: Global, capacity: usize, calls: Calls) -> Option<Fault> {
-    if capacity == 0 {
-        return Some(NO_RING);
-    }
-    match AllocRingBuffer::new(alloc, capacity) {
-        Ok(mut ring) => fault_of(alloc, &mut ring, calls),
-        Err(_) => Some(NO_RING),
-    }
-}
-
-fn fault_of_growable(alloc: Global, room: usize, calls: Calls) -> Option<Fault> {
-    match GrowableAllocRingBuffer::with_capacity(alloc, room) {
-        Ok(mut ring) => fault_of(alloc, &mut ring, calls),
-        Err(_) => Some(NO_RING),
-    }
 }

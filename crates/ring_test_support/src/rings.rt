@@ -10,6 +10,9 @@ macro_rules! new_ring {
     (array, $rt:expr, $capacity:literal) => {
         ringbuffer::ConstGenericRingBuffer::<_, $capacity>::new()
     };
+    (copies, $rt:expr, $capacity:literal) => {
+        ringbuffer::CopyRingBuffer::<_, $capacity>::default()
+    };
     (heap, $rt:expr, $capacity:literal) => {
         ringbuffer::AllocRingBuffer::new($rt.alloc(), $capacity).expect($rt, "memory")
     };
@@ -18,35 +21,11 @@ macro_rules! new_ring {
     };
 }
 
-/// Calls a method on a new array ring of this capacity: with the runtime and these arguments.
+/// Calls a method on a new ring of a type, with this capacity or this room: with the runtime and these arguments.
 #[macro_export]
-macro_rules! on_array {
-    ($rt:expr, $capacity:literal, $test:ident $(, $argument:expr)*) => {
-        $crate::new_ring!(array, $rt, $capacity).$test($rt $(, $argument)*);
-    };
-}
-
-/// Calls a method on a new heap ring of this capacity.
-#[macro_export]
-macro_rules! on_heap {
-    ($rt:expr, $capacity:literal, $test:ident $(, $argument:expr)*) => {
-        $crate::new_ring!(heap, $rt, $capacity).$test($rt $(, $argument)*);
-    };
-}
-
-/// Calls a method on a new growable ring with this room.
-#[macro_export]
-macro_rules! on_growable {
-    ($rt:expr, $room:literal, $test:ident $(, $argument:expr)*) => {
-        $crate::new_ring!(growable, $rt, $room).$test($rt $(, $argument)*);
-    };
-}
-
-/// Calls a method on a new ring of plain items of this capacity.
-#[macro_export]
-macro_rules! on_copies {
-    ($rt:expr, $capacity:literal, $test:ident $(, $argument:expr)*) => {
-        ringbuffer::CopyRingBuffer::<_, $capacity>::default().$test($rt $(, $argument)*);
+macro_rules! on_ring {
+    ($type:ident, $rt:expr, $capacity:literal, $test:ident $(, $argument:expr)*) => {
+        $crate::new_ring!($type, $rt, $capacity).$test($rt $(, $argument)*);
     };
 }
 
@@ -54,9 +33,9 @@ macro_rules! on_copies {
 #[macro_export]
 macro_rules! on_fixed {
     ($rt:expr, $capacity:literal, $test:ident $(, $argument:expr)*) => {
-        $crate::on_array!($rt, $capacity, $test $(, $argument)*);
-        $crate::on_heap!($rt, $capacity, $test $(, $argument)*);
-        $crate::on_copies!($rt, $capacity, $test $(, $argument)*);
+        $crate::on_ring!(array, $rt, $capacity, $test $(, $argument)*);
+        $crate::on_ring!(heap, $rt, $capacity, $test $(, $argument)*);
+        $crate::on_ring!(copies, $rt, $capacity, $test $(, $argument)*);
     };
 }
 
@@ -65,32 +44,15 @@ macro_rules! on_fixed {
 macro_rules! on_each {
     ($rt:expr, $capacity:literal, $test:ident $(, $argument:expr)*) => {
         $crate::on_fixed!($rt, $capacity, $test $(, $argument)*);
-        $crate::on_growable!($rt, $capacity, $test $(, $argument)*);
+        $crate::on_ring!(growable, $rt, $capacity, $test $(, $argument)*);
     };
 }
 
-/// Calls a function on a new heap ring of any items: with the runtime, the ring and these arguments.
+/// Calls a function on a new ring of any items: with the runtime, the ring and these arguments.
 #[macro_export]
-macro_rules! on_heap_of_any {
-    ($rt:expr, $capacity:literal, $test:ident $(, $argument:expr)*) => {
-        $test($rt, $crate::new_ring!(heap, $rt, $capacity) $(, $argument)*);
-    };
-}
-
-/// Calls a function on a new growable ring of any items.
-#[macro_export]
-macro_rules! on_growable_of_any {
-    ($rt:expr, $room:literal, $test:ident $(, $argument:expr)*) => {
-        $test($rt, $crate::new_ring!(growable, $rt, $room) $(, $argument)*);
-    };
-}
-
-/// Calls a function on a new ring of each type that has a limit and takes any items.
-#[macro_export]
-macro_rules! on_fixed_of_any {
-    ($rt:expr, $capacity:literal, $test:ident $(, $argument:expr)*) => {
-        $test($rt, $crate::new_ring!(array, $rt, $capacity) $(, $argument)*);
-        $crate::on_heap_of_any!($rt, $capacity, $test $(, $argument)*);
+macro_rules! on_ring_of_any {
+    ($type:ident, $rt:expr, $capacity:literal, $test:ident $(, $argument:expr)*) => {
+        $test($rt, $crate::new_ring!($type, $rt, $capacity) $(, $argument)*);
     };
 }
 
@@ -98,7 +60,8 @@ macro_rules! on_fixed_of_any {
 #[macro_export]
 macro_rules! on_each_of_any {
     ($rt:expr, $capacity:literal, $test:ident $(, $argument:expr)*) => {
-        $crate::on_fixed_of_any!($rt, $capacity, $test $(, $argument)*);
-        $crate::on_growable_of_any!($rt, $capacity, $test $(, $argument)*);
+        $crate::on_ring_of_any!(array, $rt, $capacity, $test $(, $argument)*);
+        $crate::on_ring_of_any!(heap, $rt, $capacity, $test $(, $argument)*);
+        $crate::on_ring_of_any!(growable, $rt, $capacity, $test $(, $argument)*);
     };
 }

@@ -1,8 +1,6 @@
 //! Rings that are made of the characters of a text.
 
-use ringbuffer::{
-    AllocRingBuffer, ConstGenericRingBuffer, CopyRingBuffer, GrowableAllocRingBuffer, RingBuffer,
-};
+use ringbuffer::{AllocRingBuffer, ConstGenericRingBuffer, GrowableAllocRingBuffer, RingBuffer};
 use std::alloc::{AllocError, Global};
 
 /// A ring that can be made of the characters of a text.
@@ -27,22 +25,6 @@ impl<const CAP: usize> Spelled for ConstGenericRingBuffer<char, CAP> {
             return Err(AllocError);
         }
         Ok(ConstGenericRingBuffer::from_string(text))
-    }
-}
-
-impl<const CAP: usize> Spelled for CopyRingBuffer<char, CAP> {
-    fn of_text(_: Global, text: &str) -> Result<Self, AllocError> {
-        if CAP == 0 {
-            return Err(AllocError);
-        }
-        Ok(CopyRingBuffer::from_text(text))
-    }
-
-    fn of_string(_: Global, text: String) -> Result<Self, AllocError> {
-        if CAP == 0 {
-            return Err(AllocError);
-        }
-        Ok(CopyRingBuffer::from_string(text))
     }
 }
 

@@ -13,35 +13,45 @@ macro_rules! step_from {
     };
 }
 
+/// Takes steps of a walk from these ends, which find these items and then none. It knows before each how many are left.
+macro_rules! walk_from {
+    ($ends:expr, $items:expr, $left:expr, $walk:ident = $new:expr, $len:expr $(, $copied:ident)?) => {{
+        let mut left = $left;
+        let mut $walk = $new;
+        for (i, end) in $ends.iter().enumerate() {
+            if $walk.size_hint() != (left, Some(left)) || $len != left {
+                return Outcome::Counts($len);
+            }
+            let found = step_from!(end, $walk)$(.$copied())?;
+            if found != $items.get(i).copied() {
+                return Outcome::Differs(i, found);
+            }
+            left = left.saturating_sub(1);
+        }
+        Outcome::Agrees
+    }};
+}
+
 pub(crate) fn read<R: DoubleEndedRing<i64>>(ring: &R, ends: &[End], items: &[i64]) -> Outcome {
-    let (mut walk, mut left) = (ring.iter(), ring.len());
-    for (i, end) in ends.iter().enumerate() {
-        if walk.size_hint() != (left, Some(left)) || walk.len() != left {
-            return Outcome::Counts(walk.len());
-        }
-        let found = step_from!(end, walk);
-        if found != items.get(i) {
-            return Outcome::Differs(i, found.copied());
-        }
-        left = left.saturating_sub(1);
-    }
-    Outcome::Agrees
+    walk_from!(
+        ends,
+        items,
+        ring.len(),
+        walk = ring.iter(),
+        walk.len(),
+        copied
+    )
 }
 
 pub(crate) fn lent<R: DoubleEndedRing<i64>>(ring: &mut R, ends: &[End], items: &[i64]) -> Outcome {
-    let mut left = ring.len();
-    let mut walk = ring.iter_mut();
-    for (i, end) in ends.iter().enumerate() {
-        if walk.size_hint() != (left, Some(left)) {
-            return Outcome::Counts(walk.size_hint().0);
-        }
-        let found = step_from!(end, walk).copied();
-        if found != items.get(i).copied() {
-            return Outcome::Differs(i, found);
-        }
-        left = left.saturating_sub(1);
-    }
-    Outcome::Agrees
+    walk_from!(
+        ends,
+        items,
+        ring.len(),
+        walk = ring.iter_mut(),
+        walk.size_hint().0,
+        copied
+    )
 }
 
 pub(crate) fn added<R: DoubleEndedRing<i64>>(ring: &mut R, additions: &[(End, i64)]) -> Outcome {
@@ -60,17 +70,5 @@ pub(crate) fn drained<R: DoubleEndedRing<i64>>(
     ends: &[End],
     items: &[i64],
 ) -> Outcome {
-    let mut left = ring.len();
-    let mut walk = ring.drain();
-    for (i, end) in ends.iter().enumerate() {
-        if walk.size_hint() != (left, Some(left)) || walk.len() != left {
-            return Outcome::Counts(walk.len());
-        }
-        let found = step_from!(end, walk);
-        if found != items.get(i).copied() {
-            return Outcome::Differs(i, found);
-        }
-        left = left.saturating_sub(1);
-    }
-    Outcome::Agrees
+    walk_from!(ends, items, ring.len(), walk = ring.drain(), walk.len())
 }

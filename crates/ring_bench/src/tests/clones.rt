@@ -1,15 +1,13 @@
 //! Clones of a slice's items pushed onto a ring, and of a ring's items put into a slice, through the trait alone.
 
 use super::{assert_equal, assert_holds};
-use ring_slots::RingSlots;
-use ring_test_support::{on_each, on_fixed};
-use ringbuffer::{FixedRing, GrowableAllocRingBuffer, RingBuffer};
+use ring_test_support::on_each;
+use ringbuffer::RingBuffer;
 use std::process::Abort;
 
 #[test]
 fn slices_go_onto_any_ring_and_come_out(rt: HostRuntime) {
     on_each!(&rt, 4, assert_takes_and_gives);
-    on_fixed!(&rt, 4, assert_keeps_the_newest);
 }
 
 /// A ring that slices are cloned onto.
@@ -32,19 +30,6 @@ trait ClonedTo: RingBuffer<i64> + Drop {
         assert_equal(rt, RingBuffer::copy_to_slice(&self, &mut six), Ok(4));
         assert_equal(rt, six, [2, 3, 4, 5, 9, 9]);
     }
-
-    /// Asserts that the newest of many items stay, in a ring of four that begins anywhere.
-    fn assert_keeps_the_newest(mut self, rt: &impl Abort) {
-        for first in 0..6 {
-            let items = [first, 11, 12, 13, 14, 15];
-            assert!(rt; self.is_extended(&items[..3]) && self.is_extended(&items));
-            assert_holds(rt, &self, &[12, 13, 14, 15]);
-            assert!(rt; self.is_extended(&[first]));
-            assert_holds(rt, &self, &[13, 14, 15, first]);
-        }
-    }
 }
 
-impl<S: RingSlots<i64>> ClonedTo for FixedRing<i64, S> {}
-
-impl ClonedTo for GrowableAllocRingBuffer<i64> {}
+impl<R: RingBuffer<i64> + Drop> ClonedTo for R {}

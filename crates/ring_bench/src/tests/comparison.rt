@@ -2,7 +2,7 @@
 
 use super::{assert_equal, assert_holds, assert_steps, push_all};
 use ring_test_support::steps::Step;
-use ring_test_support::{on_fixed, on_growable, on_heap};
+use ring_test_support::{on_fixed, on_ring};
 use ringbuffer::{
     AllocRingBuffer, ConstGenericRingBuffer, CopyRingBuffer, DoubleEndedRing,
     GrowableAllocRingBuffer, RingBuffer,
@@ -87,16 +87,23 @@ fn a_clone_stays_equal_under_the_same_pushes(rt: HostRuntime) {
     on_fixed!(&rt, 4, assert_stays_equal, &[], &[32, 22, 11, 12]);
     // The items that are cloned lie in two pieces.
     on_fixed!(&rt, 4, assert_stays_equal, &[1, 2], &[32, 22, 11, 12]);
-    on_growable!(&rt, 4, assert_stays_equal, &[], &[42, 32, 22, 11, 12]);
+    on_ring!(
+        growable,
+        &rt,
+        4,
+        assert_stays_equal,
+        &[],
+        &[42, 32, 22, 11, 12]
+    );
 }
 
 #[test]
 fn pushes_on_a_clone_leave_the_source(rt: HostRuntime) {
     on_fixed!(&rt, 2, assert_cloned_empty);
-    on_heap!(&rt, 5, assert_cloned_empty);
-    on_growable!(&rt, 0, assert_cloned_empty);
+    on_ring!(heap, &rt, 5, assert_cloned_empty);
+    on_ring!(growable, &rt, 0, assert_cloned_empty);
     on_fixed!(&rt, 4, assert_source_is_left);
-    on_growable!(&rt, 0, assert_source_is_left);
+    on_ring!(growable, &rt, 0, assert_source_is_left);
     GrowableAllocRingBuffer::new(rt.alloc()).assert_source_is_left(&rt);
 }
 
@@ -157,10 +164,4 @@ trait Compared: RingBuffer<i64> + PartialEq + Clone + Drop {
     }
 }
 
-impl<const CAP: usize> Compared for ConstGenericRingBuffer<i64, CAP> {}
-
-impl<const CAP: usize> Compared for CopyRingBuffer<i64, CAP> {}
-
-impl Compared for AllocRingBuffer<i64> {}
-
-impl Compared for GrowableAllocRingBuffer<i64> {}
+impl<R: RingBuffer<i64> + PartialEq + Clone + Drop> Compared for R {}

@@ -12,6 +12,20 @@ use std::process::Abort;
 
 const ITEMS: [char; 2] = ['1', '2'];
 
+type Array = ConstGenericRingBuffer<char, 2>;
+
+type Plain = CopyRingBuffer<char, 2>;
+
+type Heap = AllocRingBuffer<char>;
+
+type Growable = GrowableAllocRingBuffer<char>;
+
+/// Asserts that a ring lists these items.
+fn assert_listed<R: RingBuffer<char>>(rt: &(impl Abort + AllocGlobal), ring: &R, items: &[char]) {
+    let listed = ring.to_vec(rt.alloc()).expect(rt, "memory");
+    assert_equal(rt, listed.as_slice(), items);
+}
+
 /// Asserts that a ring was made of '1' and '2'. It lists them, and these after a push of '3', and equals itself.
 fn assert_lists<R: RingBuffer<char> + PartialEq + Drop>(
     rt: &(impl Abort + AllocGlobal),
@@ -19,12 +33,17 @@ fn assert_lists<R: RingBuffer<char> + PartialEq + Drop>(
     pushed: &[char],
 ) {
     let mut ring = made.expect(rt, "memory");
-    let listed = ring.to_vec(rt.alloc()).expect(rt, "memory");
-    assert_equal(rt, listed.as_slice(), ITEMS.as_slice());
+    assert_listed(rt, &ring, &ITEMS);
     assert!(rt; ring.push('3').is_ok());
-    let listed = ring.to_vec(rt.alloc()).expect(rt, "memory");
-    assert_equal(rt, listed.as_slice(), pushed);
+    assert_listed(rt, &ring, pushed);
     assert!(rt; ring == ring);
+}
+
+/// Asserts the same of each of these rings.
+macro_rules! assert_each {
+    ($assert:ident, $rt:expr, $wanted:expr, $($made:expr),* $(,)?) => {
+        $($assert($rt, $made, $wanted);)*
+    };
 }
 
 /// Makes a vector of two characters.
@@ -45,139 +64,116 @@ fn text(rt: &(impl Abort + AllocGlobal)) -> String {
     String::from_str(rt.alloc(), "12").expect(rt, "memory")
 }
 
-/// Makes an array ring of two characters.
-fn array() -> ConstGenericRingBuffer<char, 2> {
-    ConstGenericRingBuffer::from_text("12")
+/// Makes a deque of two characters.
+fn deque(rt: &(impl Abort + AllocGlobal)) -> VecDeque<char> {
+    VecDeque::from(vector(rt))
 }
 
 /// Makes a growable ring of two characters.
-fn growable(rt: &(impl Abort + AllocGlobal)) -> GrowableAllocRingBuffer<char> {
+fn growable(rt: &(impl Abort + AllocGlobal)) -> Growable {
     GrowableAllocRingBuffer::from(vector(rt))
 }
 
 /// Makes a heap ring of two characters.
-fn heap(rt: &(impl Abort + AllocGlobal)) -> AllocRingBuffer<char> {
+fn heap(rt: &(impl Abort + AllocGlobal)) -> Heap {
     AllocRingBuffer::from_text(rt.alloc(), "12").expect(rt, "memory")
 }
 
 #[test]
 fn heap_rings_of_two_characters(rt: HostRuntime) {
-    let (rt, alloc, pushed) = (&rt, rt.alloc(), &['2', '3']);
-    let (vector, deque, list) = (vector(rt), VecDeque::from(vector(rt)), list(rt));
-    let (text, array, growable) = (text(rt), array(), growable(rt));
-    assert!(rt; 0 < vector.len() && 0 < deque.len() && 0 < list.len());
-    assert!(rt; 0 < text.len() && 0 < array.len() && 0 < growable.len());
-    assert_lists(rt, AllocRingBuffer::from_vec(alloc, vector), pushed);
-    assert_lists(rt, AllocRingBuffer::from_linked_list(alloc, list), pushed);
-    assert_lists(rt, AllocRingBuffer::from_deque(alloc, deque), pushed);
-    assert_lists(rt, AllocRingBuffer::from_string(alloc, text), pushed);
-    assert_lists(rt, AllocRingBuffer::from_text(alloc, "12"), pushed);
-    assert_lists(rt, AllocRingBuffer::from_slice(alloc, &ITEMS), pushed);
-    assert_lists(rt, AllocRingBuffer::from_array_ref(alloc, &ITEMS), pushed);
-    let places = ITEMS.map(Some);
-    assert_lists(rt, AllocRingBuffer::from_array(alloc, places), pushed);
-    assert_lists(rt, AllocRingBuffer::from_const(alloc, array), pushed);
-    assert_lists(rt, AllocRingBuffer::from_growable(alloc, growable), pushed);
+    let (rt, alloc, mut items) = (&rt, rt.alloc(), ITEMS);
+    let (vector, deque, list) = (vector(rt), deque(rt), list(rt));
+    let (text, array, plain) = (text(rt), Array::from_text("12"), Plain::from_text("12"));
+    let growable = growable(rt);
+    assert!(rt; 0 < vector.len() && 0 < deque.len() && 0 < list.len() && 0 < text.len());
+    assert!(rt; 0 < array.len() && 0 < plain.len() && 0 < growable.len());
+    assert_each!(
+        assert_lists,
+        rt,
+        &['2', '3'],
+        Heap::from_vec(alloc, vector),
+        Heap::from_linked_list(alloc, list),
+        Heap::from_deque(alloc, deque),
+        Heap::from_string(alloc, text),
+        Heap::from_text(alloc, "12"),
+        Heap::from_slice(alloc, &ITEMS),
+        Heap::from_mut_slice(alloc, &mut items),
+        Heap::from_array_ref(alloc, &ITEMS),
+        Heap::from_mut_array(alloc, &mut items),
+        Heap::from_array(alloc, ITEMS.map(Some)),
+        Heap::from_const(alloc, array),
+        Heap::from_const(alloc, plain),
+        Heap::from_growable(alloc, growable),
+    );
 }
 
 #[test]
 fn growable_rings_of_two_characters(rt: HostRuntime) {
-    let (rt, alloc, pushed) = (&rt, rt.alloc(), &['1', '2', '3']);
-    let deque = VecDeque::from(vector(rt));
-    assert_lists(
+    let (rt, alloc) = (&rt, rt.alloc());
+    assert_each!(
+        assert_lists,
         rt,
-        GrowableAllocRingBuffer::from_vec(alloc, vector(rt)),
-        pushed,
-    );
-    assert_lists(
-        rt,
-        GrowableAllocRingBuffer::from_linked_list(alloc, list(rt)),
-        pushed,
-    );
-    assert_lists(rt, Ok(GrowableAllocRingBuffer::from(deque)), pushed);
-    assert_lists(
-        rt,
-        GrowableAllocRingBuffer::from_string(alloc, text(rt)),
-        pushed,
-    );
-    assert_lists(rt, GrowableAllocRingBuffer::from_text(alloc, "12"), pushed);
-    assert_lists(
-        rt,
-        GrowableAllocRingBuffer::from_slice(alloc, &ITEMS),
-        pushed,
-    );
-    assert_lists(
-        rt,
-        GrowableAllocRingBuffer::from_array_ref(alloc, &ITEMS),
-        pushed,
-    );
-    assert_lists(
-        rt,
-        GrowableAllocRingBuffer::from_array(alloc, ITEMS.map(Some)),
-        pushed,
-    );
-    assert_lists(
-        rt,
-        GrowableAllocRingBuffer::from_const(alloc, array()),
-        pushed,
-    );
-    assert_lists(
-        rt,
-        GrowableAllocRingBuffer::from_alloc(alloc, heap(rt)),
-        pushed,
+        &['1', '2', '3'],
+        Growable::from_vec(alloc, vector(rt)),
+        Growable::from_linked_list(alloc, list(rt)),
+        Ok(Growable::from(deque(rt))),
+        Growable::from_string(alloc, text(rt)),
+        Growable::from_text(alloc, "12"),
+        Growable::from_slice(alloc, &ITEMS),
+        Growable::from_array_ref(alloc, &ITEMS),
+        Growable::from_array(alloc, ITEMS.map(Some)),
+        Growable::from_const(alloc, Array::from_text("12")),
+        Growable::from_const(alloc, Plain::from_text("12")),
+        Growable::from_alloc(alloc, heap(rt)),
     );
 }
 
 #[test]
 fn array_rings_of_two_characters(rt: HostRuntime) {
-    type Array = ConstGenericRingBuffer<char, 2>;
-    let (rt, pushed) = (&rt, &['2', '3']);
-    assert_lists(rt, Ok(Array::from_vec(vector(rt))), pushed);
-    assert_lists(rt, Ok(Array::from_linked_list(list(rt))), pushed);
-    assert_lists(
+    let (rt, mut items) = (&rt, ITEMS);
+    assert_each!(
+        assert_lists,
         rt,
-        Ok(Array::from_deque(VecDeque::from(vector(rt)))),
-        pushed,
+        &['2', '3'],
+        Ok(Array::from_vec(vector(rt))),
+        Ok(Array::from_linked_list(list(rt))),
+        Ok(Array::from_deque(deque(rt))),
+        Ok(Array::from_string(text(rt))),
+        Ok(Array::from_text("12")),
+        Array::from_slice(&ITEMS),
+        Array::from_mut_slice(&mut items),
+        Array::from_array_ref(&ITEMS),
+        Array::from_mut_array(&mut items),
+        Ok(Array::from_array(ITEMS.map(Some))),
+        Ok(Array::from_growable(growable(rt))),
+        Ok(Array::from_alloc(heap(rt))),
     );
-    assert_lists(rt, Ok(Array::from_string(text(rt))), pushed);
-    assert_lists(rt, Ok(array()), pushed);
-    assert_lists(rt, Array::from_slice(&ITEMS), pushed);
-    assert_lists(rt, Array::from_array_ref(&ITEMS), pushed);
-    assert_lists(rt, Ok(Array::from_array(ITEMS.map(Some))), pushed);
-    assert_lists(rt, Ok(Array::from_growable(growable(rt))), pushed);
-    assert_lists(rt, Ok(Array::from_alloc(heap(rt))), pushed);
 }
 
 #[test]
 fn plain_rings_of_two_characters(rt: HostRuntime) {
-    type Plain = CopyRingBuffer<char, 2>;
-    let (rt, alloc, pushed, all) = (&rt, rt.alloc(), &['2', '3'], &['1', '2', '3']);
-    let mut items = ITEMS;
-    assert_lists(rt, Ok(Plain::from_iter('x', vector(rt))), pushed);
-    assert_lists(rt, Ok(Plain::from_vec('x', vector(rt))), pushed);
-    assert_lists(rt, Ok(Plain::from_linked_list('x', list(rt))), pushed);
-    let deque = VecDeque::from(vector(rt));
-    assert_lists(rt, Ok(Plain::from_deque('x', deque)), pushed);
-    assert_lists(rt, Ok(Plain::from_string(text(rt))), pushed);
-    assert_lists(rt, Ok(Plain::from_text("12")), pushed);
-    assert_lists(rt, Ok(Plain::from_slice('x', &ITEMS)), pushed);
-    assert_lists(rt, Ok(Plain::from_mut_slice('x', &mut items)), pushed);
-    assert_lists(rt, Ok(Plain::from_array(ITEMS)), pushed);
-    assert_lists(rt, Ok(Plain::from_array_ref(&ITEMS)), pushed);
-    assert_lists(rt, Ok(Plain::from_mut_array(&mut items)), pushed);
-    assert_lists(rt, Ok(Plain::from_growable('x', growable(rt))), pushed);
-    assert_lists(rt, Ok(Plain::from_alloc('x', heap(rt))), pushed);
-    assert_lists(rt, Ok(Plain::from_const('x', array())), pushed);
+    let (rt, mut items) = (&rt, ITEMS);
     let larger = CopyRingBuffer::<char, 3>::from_slice('x', &['0', '1', '2']);
-    assert_lists(rt, Ok(Plain::from_const('x', larger)), pushed);
-    let plain = Plain::from_array(ITEMS);
-    assert!(rt; 0 < plain.len());
-    assert_lists(
+    assert_each!(
+        assert_lists,
         rt,
-        AllocRingBuffer::from_const(alloc, plain.copied()),
-        pushed,
+        &['2', '3'],
+        Ok(Plain::from_iter('x', vector(rt))),
+        Ok(Plain::from_vec('x', vector(rt))),
+        Ok(Plain::from_linked_list('x', list(rt))),
+        Ok(Plain::from_deque('x', deque(rt))),
+        Ok(Plain::from_string(text(rt))),
+        Ok(Plain::from_text("12")),
+        Ok(Plain::from_slice('x', &ITEMS)),
+        Ok(Plain::from_mut_slice('x', &mut items)),
+        Ok(Plain::from_array(ITEMS)),
+        Ok(Plain::from_array_ref(&ITEMS)),
+        Ok(Plain::from_mut_array(&mut items)),
+        Ok(Plain::from_growable('x', growable(rt))),
+        Ok(Plain::from_alloc('x', heap(rt))),
+        Ok(Plain::from_const('x', Array::from_text("12"))),
+        Ok(Plain::from_const('x', larger)),
     );
-    assert_lists(rt, GrowableAllocRingBuffer::from_const(alloc, plain), all);
 }
 
 /// Makes a vector of 1, 2 and 3.
@@ -185,82 +181,70 @@ fn numbers(rt: &(impl Abort + AllocGlobal)) -> Vec<i64> {
     vec![in rt.alloc(); 1, 2, 3].expect(rt, "memory")
 }
 
-/// Asserts that an array ring was made, and holds 1, 2 and 3.
-fn assert_three(rt: &impl Abort, made: Result<ConstGenericRingBuffer<i64, 3>, AllocError>) {
-    assert_holds(rt, &made.expect(rt, "memory"), &[1, 2, 3]);
+/// Asserts that a ring was made, and holds these items.
+fn assert_made<R: RingBuffer<i64> + Drop>(
+    rt: &impl Abort,
+    made: Result<R, AllocError>,
+    items: &[i64],
+) {
+    assert_holds(rt, &made.expect(rt, "memory"), items);
 }
 
 #[test]
-fn array_rings_of_three_numbers(rt: HostRuntime) {
-    type Array = ConstGenericRingBuffer<i64, 3>;
+fn array_rings_of_three_numbers(rt: HostRuntime) -> Result<(), AllocError> {
+    type Three = ConstGenericRingBuffer<i64, 3>;
     let (rt, mut items) = (&rt, [1, 2, 3]);
-    assert_three(rt, Ok(Array::from_array(items.map(Some))));
-    assert_three(rt, Array::from_array_ref(&items));
-    assert_three(rt, Array::from_slice(&items));
-    assert_three(rt, Array::from_mut_array(&mut items));
-    assert_three(rt, Array::from_mut_slice(&mut items));
-    assert_three(rt, Ok(Array::from_vec(numbers(rt))));
-    assert_three(rt, Ok(Array::from_deque(VecDeque::from(numbers(rt)))));
     let mut list = LinkedList::new(rt.alloc());
     for item in items {
-        list.push_back(item).expect(rt, "memory");
+        list.push_back(item)?;
     }
-    assert_three(rt, Ok(Array::from_linked_list(list)));
-    let growable = GrowableAllocRingBuffer::from(numbers(rt));
-    assert_three(rt, Ok(Array::from_growable(growable)));
-    let heap = AllocRingBuffer::from_array_ref(rt.alloc(), &items).expect(rt, "memory");
-    assert_three(rt, Ok(Array::from_alloc(heap)));
+    assert_each!(
+        assert_made,
+        rt,
+        &[1, 2, 3],
+        Ok(Three::from_array(items.map(Some))),
+        Three::from_array_ref(&items),
+        Three::from_slice(&items),
+        Three::from_mut_array(&mut items),
+        Three::from_mut_slice(&mut items),
+        Ok(Three::from_vec(numbers(rt))),
+        Ok(Three::from_deque(VecDeque::from(numbers(rt)))),
+        Ok(Three::from_linked_list(list)),
+        Ok(Three::from_growable(GrowableAllocRingBuffer::from(numbers(rt)))),
+        Ok(Three::from_alloc(AllocRingBuffer::from_slice(rt.alloc(), &[1, 2, 3])?)),
+    );
+    Ok(())
 }
 
-/// Asserts that a heap ring was made, is full of these items, and has `slots` slots.
-fn assert_full(
-    rt: &impl Abort,
-    made: Result<AllocRingBuffer<i64>, AllocError>,
-    slots: usize,
-    items: &[i64],
-) {
+/// Asserts that a heap ring was made, is full of these items, and has as few slots as it can.
+fn assert_full(rt: &impl Abort, made: Result<AllocRingBuffer<i64>, AllocError>, items: &[i64]) {
     let ring = made.expect(rt, "memory");
     let found = (ring.capacity(), ring.buffer_size(), ring.is_full());
+    let slots = items.len().next_power_of_two();
     assert_equal(rt, found, (items.len(), slots, true));
     assert_holds(rt, &ring, items);
 }
 
 #[test]
 fn a_heap_ring_has_room_for_its_source(rt: HostRuntime) -> Result<(), AllocError> {
-    let (rt, alloc) = (&rt, rt.alloc());
-    let (four, places) = ([1, 2, 3, 4], [Some(1), Some(2), Some(3), Some(4)]);
-    assert_full(rt, AllocRingBuffer::from_slice(alloc, &four), 4, &four);
-    assert_full(rt, AllocRingBuffer::from_array_ref(alloc, &four), 4, &four);
-    assert_full(rt, AllocRingBuffer::from_array(alloc, places), 4, &four);
-    assert_full(rt, AllocRingBuffer::from_slice(alloc, &[1]), 1, &[1]);
+    let (rt, alloc, four) = (&rt, rt.alloc(), [1, 2, 3, 4]);
     let growable = GrowableAllocRingBuffer::from(numbers(rt));
-    assert!(rt; !growable.is_empty());
+    let array = ConstGenericRingBuffer::<i64, 4>::from_slice(&[1, 2])?;
+    assert!(rt; !growable.is_empty() && !array.is_empty());
+    assert_full(rt, AllocRingBuffer::from_slice(alloc, &four), &four);
+    assert_full(rt, AllocRingBuffer::from_array_ref(alloc, &four), &four);
+    assert_full(
+        rt,
+        AllocRingBuffer::from_array(alloc, four.map(Some)),
+        &four,
+    );
+    assert_full(rt, AllocRingBuffer::from_slice(alloc, &[1]), &[1]);
     assert_full(
         rt,
         AllocRingBuffer::from_growable(alloc, growable),
-        4,
         &[1, 2, 3],
     );
-    let mut two = [1, 2];
-    assert_full(
-        rt,
-        AllocRingBuffer::from_mut_slice(alloc, &mut two),
-        2,
-        &[1, 2],
-    );
-    assert_full(
-        rt,
-        AllocRingBuffer::from_mut_array(alloc, &mut two),
-        2,
-        &[1, 2],
-    );
-    let array = ConstGenericRingBuffer::<i64, 2>::from_mut_array(&mut two)?;
-    assert_holds(rt, &array, &[1, 2]);
-    let array = ConstGenericRingBuffer::<i64, 2>::from_mut_slice(&mut two)?;
-    assert_holds(rt, &array, &[1, 2]);
-    let array = ConstGenericRingBuffer::<i64, 4>::from_slice(&[1, 2])?;
-    assert!(rt; !array.is_empty());
-    assert_full(rt, AllocRingBuffer::from_const(alloc, array), 2, &[1, 2]);
+    assert_full(rt, AllocRingBuffer::from_const(alloc, array), &[1, 2]);
     Ok(())
 }
 
@@ -334,11 +318,13 @@ fn in_two_pieces(rt: &(impl Abort + AllocGlobal)) -> VecDeque<i64> {
 
 #[test]
 fn a_deque_in_two_pieces_is_taken_whole(rt: HostRuntime) {
-    let (rt, alloc) = (&rt, rt.alloc());
-    let deque = in_two_pieces(rt);
+    let (rt, deque) = (&rt, in_two_pieces(&rt));
     assert!(rt; !deque.is_empty());
-    let heap = AllocRingBuffer::from_deque(alloc, deque).expect(rt, "memory");
-    assert_holds(rt, &heap, &[2, 3, 1]);
+    assert_made(
+        rt,
+        AllocRingBuffer::from_deque(rt.alloc(), deque),
+        &[2, 3, 1],
+    );
     let array = ConstGenericRingBuffer::<i64, 3>::from_deque(in_two_pieces(rt));
     assert_holds(rt, &array, &[2, 3, 1]);
     let plain = CopyRingBuffer::<i64, 3>::from_deque(9, in_two_pieces(rt));
@@ -360,21 +346,16 @@ const LONG: &str = "abcdefghijklmnopqrstuvwxyz";
 fn texts_may_be_short_long_or_beyond_ascii(rt: HostRuntime) -> Result<(), AllocError> {
     let (rt, alloc) = (&rt, rt.alloc());
     for (text, spelled) in [("abc", "bc"), ("\u{e9}1z", "1z"), ("", ""), (LONG, "yz")] {
-        let array = ConstGenericRingBuffer::<char, 2>::of_text(alloc, text);
-        assert_spells(rt, array, spelled);
         let string = String::from_str(alloc, text)?;
-        let array = ConstGenericRingBuffer::<char, 2>::of_string(alloc, string);
-        assert_spells(rt, array, spelled);
+        assert_spells(rt, Array::of_text(alloc, text), spelled);
+        assert_spells(rt, Array::of_string(alloc, string), spelled);
         assert_spells(rt, GrowableAllocRingBuffer::of_text(alloc, text), text);
         if !text.is_empty() {
             assert_spells(rt, AllocRingBuffer::of_text(alloc, text), text);
         }
     }
-    assert_spells(
-        rt,
-        ConstGenericRingBuffer::<char, 3>::of_text(alloc, "abc"),
-        "abc",
-    );
+    let array = ConstGenericRingBuffer::<char, 3>::of_text(alloc, "abc");
+    assert_spells(rt, array, "abc");
     // The first character takes two bytes, for which there is room.
     let heap = AllocRingBuffer::from_text(alloc, "\u{e9}1")?;
     let found = (heap.capacity(), heap.len(), heap.buffer_size());

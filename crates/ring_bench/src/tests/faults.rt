@@ -1,16 +1,11 @@
 //! A step that a ring doesn't answer so is found: else a test by steps could not fail.
 
 use super::assert_equal;
-use ring_slots::RingSlots;
 use ring_test_support::on_fixed;
-use ring_test_support::steps::Outcome::{Answers, Counts, Differs, Finds, NoItem, Says};
-use ring_test_support::steps::Step::{
-    Back, Below, Clear, Contains, Dequeue, DequeueAll, Enqueue, Front, Get, GetAll, GetAllSigned,
-    GetSigned, Holds, Insert, IsFull, Len, PopBack, Push, PushAll, PushFront, PushToLen, Remove,
-    Search, Slots, TryPush, WriteBack,
-};
+use ring_test_support::steps::Outcome::*;
+use ring_test_support::steps::Step::*;
 use ring_test_support::steps::{Outcome, Step, first_fault};
-use ringbuffer::{DoubleEndedRing, FixedRing};
+use ringbuffer::DoubleEndedRing;
 use std::process::Abort;
 
 /// Steps on a full ring of 1 and 2, and what comes of each.
@@ -62,4 +57,4 @@ trait Faulty: DoubleEndedRing<i64> + Drop {
     }
 }
 
-impl<S: RingSlots<i64>> Faulty for FixedRing<i64, S> {}
+impl<R: DoubleEndedRing<i64> + Drop> Faulty for R {}

@@ -1,13 +1,10 @@
 //! Fills.
 
 use super::{assert_equal, assert_holds, push_all};
-use ring_slots::RingSlots;
 use ring_test_support::steps::Step::{DequeueAll, Fill, FillDefault, Len, PushAll};
 use ring_test_support::steps::{Step, first_fault};
-use ring_test_support::{on_fixed, on_growable};
-use ringbuffer::{
-    AllocRingBuffer, DoubleEndedRing, FixedRing, GrowableAllocRingBuffer, RingBuffer,
-};
+use ring_test_support::{on_fixed, on_ring};
+use ringbuffer::{AllocRingBuffer, DoubleEndedRing, RingBuffer};
 use std::alloc::AllocError;
 use std::process::Abort;
 
@@ -61,21 +58,9 @@ fn assert_agrees<R: RingBuffer<i64>>(rt: &impl Abort, ring: &R) {
 
 #[test]
 fn a_growable_ring_is_filled_to_its_capacity(rt: HostRuntime) {
-    on_growable!(&rt, 4, assert_filled_to_capacity);
-    on_growable!(&rt, 100, assert_filled_to_capacity);
-    on_growable!(&rt, 1000, assert_filled_to_capacity);
-}
-
-#[test]
-fn a_growable_ring_has_the_room_that_was_asked_for(rt: HostRuntime) -> Result<(), AllocError> {
-    for asked in [0, 1, 2, 3, 4, 5, 8, 9, 1000] {
-        let ring = GrowableAllocRingBuffer::<i64>::with_capacity(rt.alloc(), asked)?;
-        assert!(rt; ring.capacity() >= asked, "at {asked}");
-        assert_equal(&rt, ring.as_ref().capacity(), ring.capacity());
-        assert_agrees(&rt, &ring);
-        assert!(rt; ring.is_empty());
-    }
-    Ok(())
+    on_ring!(growable, &rt, 4, assert_filled_to_capacity);
+    on_ring!(growable, &rt, 100, assert_filled_to_capacity);
+    on_ring!(growable, &rt, 1000, assert_filled_to_capacity);
 }
 
 /// A ring that is filled.
@@ -99,16 +84,14 @@ trait Filled: DoubleEndedRing<i64> + Drop {
     }
 
     fn assert_filled_by_turns(mut self, rt: &impl Abort) {
-        let mut calls = 0i64;
-        let mut last = 0i64;
+        let (mut calls, mut last) = (0i64, 0i64);
         let filled = self.fill_with(|| {
             calls = calls.wrapping_add(1);
             last = 1i64.wrapping_sub(last);
             last
         });
-        assert!(rt; filled.is_ok());
+        assert!(rt; filled.is_ok() && calls == 4);
         assert_holds(rt, &self, &[1, 0, 1, 0]);
-        assert_equal(rt, calls, 4);
     }
 
     fn assert_filled_to_capacity(mut self, rt: &impl Abort) {
@@ -126,6 +109,4 @@ trait Filled: DoubleEndedRing<i64> + Drop {
     }
 }
 
-impl<S: RingSlots<i64>> Filled for FixedRing<i64, S> {}
-
-impl Filled for GrowableAllocRingBuffer<i64> {}
+impl<R: DoubleEndedRing<i64> + Drop> Filled for R {}

@@ -2,7 +2,7 @@
 
 use super::{assert_equal, assert_numbers};
 use ring_test_support::numbered::{Numbered, block};
-use ringbuffer::{AllocRingBuffer, DoubleEndedRing, GrowableAllocRingBuffer, RingBuffer};
+use ringbuffer::{GrowableAllocRingBuffer, RingBuffer};
 use std::alloc::{AllocError, Global};
 
 /// How many items stand, and how many come by a slice and by a source.
@@ -63,23 +63,5 @@ fn a_source_may_give_more_than_it_promises(rt: HostRuntime) -> Result<(), AllocE
         let all = held.saturating_add(promised).saturating_add(more);
         assert_numbers(&rt, &ring, 0, all);
     }
-    Ok(())
-}
-
-#[test]
-fn many_items_are_cloned_onto_a_ring(rt: HostRuntime) -> Result<(), AllocError> {
-    let ring = growable::<u64>(rt.alloc(), 2000)?;
-    let mut other = growable::<u64>(rt.alloc(), 3)?;
-    DoubleEndedRing::clone_into(&ring, &mut other)?;
-    assert_numbers(&rt, &other, 0, 2000);
-    let mut heap = AllocRingBuffer::<u64>::new(rt.alloc(), 3000)?;
-    heap.extend_from_slice(block(rt.alloc(), 0, 2000)?.as_slice());
-    let mut other = AllocRingBuffer::<u64>::new(rt.alloc(), 2000)?;
-    let _ = other.push(7);
-    if heap.len() <= other.capacity() {
-        DoubleEndedRing::clone_into(&heap, &mut other)?;
-    }
-    assert_numbers(&rt, &other, 0, 2000);
-    assert_equal(&rt, other.capacity(), 2000);
     Ok(())
 }

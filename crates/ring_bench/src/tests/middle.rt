@@ -1,36 +1,26 @@
-//! Calls at an index or an end that a limit refuses, searches, and another capacity.
+//! Items that a call picks, searches, and another capacity.
 
 ghost use Rattle.std.specs.Prelude.{◌<◌};
 
 use super::{assert_equal, assert_rows, assert_steps};
-use ring_test_support::kinds::{EACH, FIXED, Kind};
+use ring_test_support::kinds::EACH;
 use ring_test_support::steps::Row;
 use ring_test_support::steps::Step::{
-    Begin, Below, Capacity, Holds, Insert, Leaves, PushAll, PushFront, Remove, RetainAlternate,
-    Search, TryPush,
+    Begin, Below, Capacity, Holds, Leaves, PushAll, Remove, RetainAlternate, Search,
 };
 use ringbuffer::AllocRingBuffer;
 
 const FIVE: &[i64] = &[1, 2, 3, 4, 5];
 
-/// On a ring of five that is full.
-const FULL: &[Row] = &[
-    (FIVE, TryPush(9, Err(9)), FIVE),
-    (FIVE, Insert(2, 9, Err(9)), FIVE),
-    (FIVE, PushFront(9, Ok(Some(5))), &[9, 1, 2, 3, 4]),
+const PICKED: &[Row] = &[
     (FIVE, Remove(usize::MAX, None), FIVE),
-    (FIVE, RetainAlternate, &[1, 3, 5]),
-];
-
-const WITHOUT_LIMIT: &[Row] = &[
-    (FIVE, TryPush(9, Ok(())), &[1, 2, 3, 4, 5, 9]),
-    (FIVE, Insert(2, 9, Ok(())), &[1, 2, 9, 3, 4, 5]),
-    (FIVE, PushFront(9, Ok(None)), &[9, 1, 2, 3, 4, 5]),
     (FIVE, RetainAlternate, &[1, 3, 5]),
 ];
 
 /// The items of std's own examples of searches.
 const FIBONACCI: &[i64] = &[0, 1, 1, 1, 1, 2, 3, 5, 8, 13, 21, 34, 55];
+
+const EIGHT: &[i64] = &[1, 2, 3, 4, 5, 6, 7, 8];
 
 const RISING: &[i64] = &[1, 2, 3, 3, 5, 6, 7];
 
@@ -46,13 +36,14 @@ const SEARCHED: &[Row] = &[
     (FIBONACCI, Below(100, 13), FIBONACCI),
     (&[], Below(5, 0), &[]),
     (&[5], Below(6, 1), &[5]),
+    (FIVE, Below(9, 5), FIVE),
+    (EIGHT, Below(9, 8), EIGHT),
 ];
 
 // On the heap a ring of five has spare slots.
 #[test]
-fn calls_at_an_index_and_searches(rt: HostRuntime) {
-    assert_rows(&rt, FIXED, 5, FULL);
-    assert_rows(&rt, &[Kind::Growable], 5, WITHOUT_LIMIT);
+fn items_are_picked_and_found(rt: HostRuntime) {
+    assert_rows(&rt, EACH, 5, PICKED);
     assert_rows(&rt, EACH, 13, SEARCHED);
 }
 

@@ -4,10 +4,7 @@ use super::{List, assert_equal, assert_lists, assert_steps};
 use ring_slots::RingSlots;
 use ring_test_support::kinds::{EACH, FIXED, Kind};
 use ring_test_support::steps::Step;
-use ring_test_support::steps::Step::{
-    Back, Begin, Clear, Dequeue, DequeueAll, Extend, Front, Get, GetAll, GetAllSigned, GetSigned,
-    Holds, IsFull, Len, PushAll, Write, WriteBack, WriteFront, WriteSigned,
-};
+use ring_test_support::steps::Step::*;
 use ring_test_support::{on_each, on_fixed};
 use ringbuffer::{DoubleEndedRing, FixedRing, GrowableAllocRingBuffer, RingBuffer};
 use std::process::Abort;
@@ -18,13 +15,6 @@ const OLDEST_FIRST: &[Step] = &[
 ];
 
 const THE_ENDS: &[Step] = &[PushAll(&[1, 2]), Front(Some(1)), Back(Some(2))];
-
-const ENDS_WRITTEN: &[Step] = &[
-    PushAll(&[1, 2, 3]),
-    WriteFront(8),
-    WriteBack(9),
-    Holds(&[8, 2, 9]),
-];
 
 const NONE_WHILE_EMPTY: &[Step] = &[
     Front(None),
@@ -48,14 +38,6 @@ const WRITTEN: &[Step] = &[
     Holds(&[3, 1]),
     Write(1, 4),
     Holds(&[3, 4]),
-];
-
-const WRAPPED_WRITES: &[Step] = &[
-    PushAll(&[1, 2, 3]),
-    WriteSigned(-4, 9),
-    Holds(&[1, 2, 9]),
-    Write(4, 8),
-    Holds(&[1, 8, 9]),
 ];
 
 /// A push of each item in turn, and a read of the newest item after it.
@@ -105,14 +87,11 @@ const LISTS: &[List] = &[
     (EACH, 8, "the oldest first", OLDEST_FIRST),
     (EACH, 8, "the ends", THE_ENDS),
     (EACH, 2, "the ends of two", THE_ENDS),
-    (EACH, 8, "the ends are written", ENDS_WRITTEN),
     (EACH, 8, "none while empty", NONE_WHILE_EMPTY),
     (EACH, 8, "wrap by the length", WRAPPED),
     (EACH, 8, "wrap below zero", BELOW_ZERO),
     (FIXED, 2, "wrap below zero", BELOW_ZERO),
     (EACH, 8, "one place is written", WRITTEN),
-    (EACH, 8, "writes wrap", WRAPPED_WRITES),
-    (EACH, 4, "writes wrap in four slots", WRAPPED_WRITES),
     (EACH, 8, "the newest", NEWEST),
     (FIXED, 2, "move with the oldest", MOVED),
     (FIXED, 2, "move where items left", MOVED_TWICE),
@@ -209,32 +188,38 @@ trait Indexed: DoubleEndedRing<i64> + Drop {
     }
 }
 
+/// Reads at an index, unless there is none.
+macro_rules! item_at {
+    ($ring:expr, $index:expr) => {
+        if $ring.is_empty() { None } else { Some($ring[$index]) }
+    };
+}
+
+/// Writes at an index, unless there is none.
+macro_rules! write_at {
+    ($ring:expr, $index:expr, $item:expr) => {
+        if !$ring.is_empty() {
+            $ring[$index] = $item;
+        }
+    };
+}
+
 impl<S: RingSlots<i64>> Indexed for FixedRing<i64, S> {
     fn item(&self, index: usize) -> Option<i64> {
-        if self.is_empty() {
-            return None;
-        }
-        Some(self[index])
+        item_at!(self, index)
     }
 
     fn write(&mut self, index: usize, item: i64) {
-        if !self.is_empty() {
-            self[index] = item;
-        }
+        write_at!(self, index, item);
     }
 }
 
 impl Indexed for GrowableAllocRingBuffer<i64> {
     fn item(&self, index: usize) -> Option<i64> {
-        if self.is_empty() {
-            return None;
-        }
-        Some(self[index])
+        item_at!(self, index)
     }
 
     fn write(&mut self, index: usize, item: i64) {
-        if !self.is_empty() {
-            self[index] = item;
-        }
+        write_at!(self, index, item);
     }
 }

@@ -4,18 +4,11 @@ ghost use Rattle.std.specs.Prelude.{◌-◌, ◌<◌};
 ghost use Rattle.std.specs.Iterator.{at_most};
 
 use super::{List, assert_equal, assert_lists, assert_steps, push_all};
-use ring_slots::RingSlots;
 use ring_test_support::kinds::{Calls, EACH, FIXED, Kind, first_fault_on};
 use ring_test_support::steps::Step;
-use ring_test_support::steps::Step::{
-    Back, Capacity, Clear, Dequeue, DequeueAll, Enqueue, Extend, Fill, Front, GetSigned, Holds,
-    IsEmpty, IsFull, Len, Push, PushAll, PushToLen, Skip, Slots,
-};
-use ring_test_support::{on_each, on_fixed, on_heap};
-use ringbuffer::{
-    AllocRingBuffer, ConstGenericRingBuffer, DoubleEndedRing, FixedRing, GrowableAllocRingBuffer,
-    RingBuffer,
-};
+use ring_test_support::steps::Step::*;
+use ring_test_support::{on_each, on_fixed, on_ring};
+use ringbuffer::{AllocRingBuffer, ConstGenericRingBuffer, DoubleEndedRing, RingBuffer};
 use std::process::Abort;
 
 const HEAP: &[Kind] = &[Kind::Heap];
@@ -297,7 +290,7 @@ const COMES_AND_GOES: &[Step] = &[
 fn items_come_and_go_for_long(rt: HostRuntime) {
     on_fixed!(&rt, 10, keeps_the_last_ten);
     on_fixed!(&rt, 2, takes_ten_thousand_numbers);
-    on_heap!(&rt, 3, keeps_the_last_three);
+    on_ring!(heap, &rt, 3, keeps_the_last_three);
     on_each!(&rt, 8, comes_and_goes);
 }
 
@@ -338,6 +331,4 @@ trait Pushed: DoubleEndedRing<i64> + Drop {
     }
 }
 
-impl<S: RingSlots<i64>> Pushed for FixedRing<i64, S> {}
-
-impl Pushed for GrowableAllocRingBuffer<i64> {}
+impl<R: DoubleEndedRing<i64> + Drop> Pushed for R {}

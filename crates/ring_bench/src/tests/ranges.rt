@@ -1,31 +1,13 @@
 //! Reading walks over a range of indexes.
 
 use super::{assert_equal, assert_steps};
-use ring_slots::RingSlots;
 use ring_test_support::on_each;
 use ring_test_support::steps::Step::{self, Begin, PushAll};
-use ringbuffer::{
-    DoubleEndedRing, FixedRing, GrowableAllocRingBuffer, RingBuffer, RingBufferExt,
-    RingBufferIterator,
-};
+use ringbuffer::{DoubleEndedRing, RingBuffer, RingBufferExt};
 use std::ops::{Bound, RangeBounds};
 use std::process::Abort;
 
-/// Asserts that a walk has these items to come, and gives them from the front.
-fn assert_gives<R: RingBuffer<i64>>(
-    rt: &impl Abort,
-    mut walk: RingBufferIterator<'_, i64, R>,
-    items: &[i64],
-) {
-    assert_equal(rt, walk.len(), items.len());
-    for item in items {
-        assert_equal(rt, walk.next().copied(), Some(*item));
-    }
-    assert_equal(rt, walk.next(), None);
-    assert_equal(rt, walk.next_back(), None);
-}
-
-/// Asserts that a range of a ring has these items.
+/// Asserts that a walk over a range of a ring has these items to come, and gives them from the front.
 fn assert_range<R: RingBuffer<i64>, X: RangeBounds<usize>>(
     rt: &impl Abort,
     ring: &R,
@@ -34,7 +16,12 @@ fn assert_range<R: RingBuffer<i64>, X: RangeBounds<usize>>(
 )
     requires { X.has_bounds range }
 {
-    assert_gives(rt, ring.range(range), items);
+    let mut walk = ring.range(range);
+    assert_equal(rt, walk.len(), items.len());
+    for item in items {
+        assert_equal(rt, walk.next().copied(), Some(*item));
+    }
+    assert_equal(rt, (walk.next(), walk.next_back()), (None, None));
 }
 
 /// Leaves the items from 1 to 7. On a ring of eight slots the last of them lie at the first slots.
@@ -67,6 +54,4 @@ trait Ranged: DoubleEndedRing<i64> + Drop {
     }
 }
 
-impl<S: RingSlots<i64>> Ranged for FixedRing<i64, S> {}
-
-impl Ranged for GrowableAllocRingBuffer<i64> {}
+impl<R: DoubleEndedRing<i64> + Drop> Ranged for R {}

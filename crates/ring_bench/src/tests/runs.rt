@@ -1,13 +1,10 @@
 //! Commands, one by one and in runs.
 
 use super::{assert_equal, assert_holds, push_all};
-use ring_slots::RingSlots;
 use ring_test_support::commands::{REPLIES_OF_TWO, every_command};
-use ring_test_support::{on_each, on_fixed, on_growable};
-use ringbuffer::{
-    Command, FixedRing, GrowableAllocRingBuffer, Refused, Reply, RingBuffer, apply, run, run_into,
-    runs_join,
-};
+use ring_test_support::{on_each, on_fixed, on_ring};
+use ringbuffer::Command::{self, Dequeue};
+use ringbuffer::{Reply, RingBuffer, run, run_into, runs_join};
 use std::process::Abort;
 use std::slice::from_ref;
 
@@ -53,17 +50,8 @@ fn assert_run<R: RingBuffer<i64>>(
 #[test]
 fn a_run_makes_its_replies(rt: HostRuntime) {
     on_fixed!(&rt, 2, assert_runs, &REPLIES_OF_TWO);
-    on_growable!(&rt, 2, assert_runs, &REPLIES_WITHOUT_LIMIT);
+    on_ring!(growable, &rt, 2, assert_runs, &REPLIES_WITHOUT_LIMIT);
     on_fixed!(&rt, 2, assert_runs_join);
-}
-
-/// Makes a run of dequeues.
-fn dequeues(rt: &(impl Abort + AllocGlobal), count: usize) -> Vec<Command<i64>> {
-    let mut commands = Vec::new(rt.alloc());
-    for _ in 0..count {
-        commands.push(Command::Dequeue).expect(rt, "memory");
-    }
-    commands
 }
 
 #[test]
@@ -71,21 +59,6 @@ fn a_run_leaves_what_its_commands_leave(rt: HostRuntime) {
     on_fixed!(&rt, 2, assert_leaves_items);
     on_each!(&rt, 3, assert_run_of_nothing);
     on_each!(&rt, 3, assert_takes_all);
-}
-
-/// Asserts what a command answers.
-fn assert_applied<R: RingBuffer<i64>>(
-    rt: &impl Abort,
-    ring: &mut R,
-    command: Command<i64>,
-    answer: Result<Reply<i64>, Refused<i64>>,
-) {
-    assert_equal(rt, apply(ring, command), answer);
-}
-
-#[test]
-fn a_command_does_what_it_names(rt: HostRuntime) {
-    on_each!(&rt, 8, assert_each_command);
 }
 
 /// A ring that commands are run on.
@@ -130,39 +103,10 @@ trait Commanded: RingBuffer<i64> + Drop {
     fn assert_takes_all(mut self, rt: &(impl Abort + AllocGlobal)) {
         push_all(rt, &mut self, &[1, 2, 3]);
         let taken = [Some(1), Some(2), Some(3), None].map(Reply::Dequeued);
-        assert_run_into(rt, &mut self, dequeues(rt, 4), &taken);
+        let commands = vec![in rt.alloc(); Dequeue, Dequeue, Dequeue, Dequeue];
+        assert_run_into(rt, &mut self, commands.expect(rt, "memory"), &taken);
         assert_holds(rt, &self, &[]);
-        let answered = run(rt.alloc(), &mut self, dequeues(rt, 5000));
-        assert_equal(
-            rt,
-            answered.expect(rt, "memory for the replies").len(),
-            5000,
-        );
-    }
-
-    fn assert_each_command(mut self, rt: &(impl Abort + AllocGlobal)) {
-        assert_applied(rt, &mut self, Command::Push(1), Ok(Reply::Pushed(None)));
-        let extension = vec![in rt.alloc(); 2, 3, 4].expect(rt, "memory");
-        assert_applied(
-            rt,
-            &mut self,
-            Command::Extend(extension),
-            Ok(Reply::Extended),
-        );
-        assert_holds(rt, &self, &[1, 2, 3, 4]);
-        assert_applied(
-            rt,
-            &mut self,
-            Command::Dequeue,
-            Ok(Reply::Dequeued(Some(1))),
-        );
-        assert_applied(rt, &mut self, Command::Skip, Ok(Reply::Skipped));
-        assert_holds(rt, &self, &[3, 4]);
-        assert_applied(rt, &mut self, Command::Clear, Ok(Reply::Cleared));
-        assert_applied(rt, &mut self, Command::Dequeue, Ok(Reply::Dequeued(None)));
     }
 }
 
-impl<S: RingSlots<i64>> Commanded for FixedRing<i64, S> {}
-
-impl Commanded for GrowableAllocRingBuffer<i64> {}
+impl<R: RingBuffer<i64> + Drop> Commanded for R {}

@@ -5,7 +5,7 @@ ghost use Rattle.std.specs.Cmp.{eq_by_cmp_equiv, nat_cmp_total, on_total, partia
 ghost use Rattle.std.specs.Ordering.{as_partial_cmp, eq_by_cmp, nat_cmp, on};
 
 use super::assert_equal;
-use ringbuffer::{GrowableAllocRingBuffer, RingBuffer, binary_search, partition_point};
+use ringbuffer::{GrowableAllocRingBuffer, RingBuffer, binary_search};
 use std::alloc::{AllocError, Global};
 use std::cell::Cell;
 use std::cmp::Ordering;
@@ -68,11 +68,8 @@ fn assert_compared(rt: &impl Abort, alloc: Global, levels: u32) -> Result<(), Al
     let most = (u32::BITS - levels.leading_zeros()).saturating_add(1);
     for height in 0..levels.saturating_add(1) {
         compared.set(0);
-        assert_equal(
-            rt,
-            binary_search(&ring, &Level { height, compared }).is_ok(),
-            height < levels,
-        );
+        let found = binary_search(&ring, &Level { height, compared });
+        assert_equal(rt, found.is_ok(), height < levels);
         assert!(rt; compared.get() <= most);
     }
     Ok(())
@@ -84,24 +81,4 @@ fn a_search_compares_once_a_binary_digit_and_once_more(rt: HostRuntime) -> Resul
         assert_compared(&rt, rt.alloc(), levels)?;
     }
     Ok(())
-}
-
-#[test]
-fn a_partition_point_is_found_by_as_many_questions(rt: HostRuntime) {
-    for len in [1, 2, 1000, 1023, 1024, 5000] {
-        let mut ring = GrowableAllocRingBuffer::new(rt.alloc());
-        for number in 0..len {
-            assert!(rt; ring.push(number).is_ok());
-        }
-        let mut asked = 0u32;
-        let below = partition_point(&ring, |item| {
-            asked = asked.saturating_add(1);
-            *item < len
-        });
-        assert_equal(&rt, below as u32, len);
-        assert!(rt;
-            asked <= u32::BITS - len.leading_zeros(),
-            "{asked} of {len}"
-        );
-    }
 }

@@ -21,11 +21,8 @@ fn assert_turned<S: LendsRows<i64> + ShowsRows<i64>>(
     assert_steps(rt, ring, &[Begin(start), PushAll(items)]);
     let slots = ring.buffer_size();
     let to_the_last = slots.saturating_sub(start.checked_rem(slots).unwrap_or(0));
-    assert_equal(
-        rt,
-        ring.as_slices(),
-        items.split_at(to_the_last.min(items.len())),
-    );
+    let halves = items.split_at(to_the_last.min(items.len()));
+    assert_equal(rt, ring.as_slices(), halves);
     assert_equal(rt, &*ring.make_contiguous(), items);
     assert_equal(rt, ring.as_slices(), (items, [].as_slice()));
     assert_steps(rt, ring, &[Holds(items)]);
@@ -69,28 +66,6 @@ fn items_are_made_one_slice(rt: HostRuntime) -> Result<(), AllocError> {
         let second = ring.as_slices().1;
         assert_equal(&rt, second.len(), 0);
         assert_steps(&rt, &mut ring, &[DequeueAll(&[1, 2, 3, 4, 6])]);
-    }
-    Ok(())
-}
-
-/// Copies growable and plain rings of each number of items, from each start, onto one that holds another item.
-#[test]
-fn rings_are_copied_onto_others(rt: HostRuntime) -> Result<(), AllocError> {
-    let mut ring = GrowableAllocRingBuffer::with_capacity(rt.alloc(), 8)?;
-    let mut other = GrowableAllocRingBuffer::new(rt.alloc());
-    let mut plain = CopyRingBuffer::<i64, 8>::new(7);
-    let mut other_plain = CopyRingBuffer::new(7);
-    for len in 0..9 {
-        let items = &EIGHT[..len];
-        for start in 0..STARTS {
-            assert_steps(&rt, &mut ring, &[Begin(start), PushAll(items)]);
-            assert_equal(&rt, ring.copy_into(&mut other).is_ok(), true);
-            assert_steps(&rt, &mut other, &[Holds(items), PushAll(&[9])]);
-            assert_steps(&rt, &mut ring, &[DequeueAll(items)]);
-            assert_steps(&rt, &mut plain, &[Begin(start), PushAll(items)]);
-            plain.copy_into(&mut other_plain);
-            assert_steps(&rt, &mut other_plain, &[Holds(items), PushAll(&[9])]);
-        }
     }
     Ok(())
 }

@@ -1,15 +1,14 @@
 //! Walks over the items: reading, writing and taking; lists of the items.
 
 use super::{List, assert_equal, assert_lists, assert_steps, push_all};
-use ring_slots::RingSlots;
 use ring_test_support::kinds::EACH;
 use ring_test_support::steps::End::{self, Back, Front};
 use ring_test_support::steps::Step::{
-    self, Adds, Begin, Contains, Drains, Holds, Lends, PushAll, Reads, Skip,
+    self, Adds, Begin, Contains, Drains, Holds, Lends, PushAll, Reads,
 };
-use ring_test_support::{on_each, on_each_of_any, on_fixed, on_growable};
+use ring_test_support::{on_each, on_each_of_any, on_fixed, on_ring};
 use ringbuffer::{
-    DoubleEndedRing, FixedRing, GrowableAllocRingBuffer, RingBuffer, RingBufferExt,
+    ConstGenericRingBuffer, DoubleEndedRing, GrowableAllocRingBuffer, RingBuffer, RingBufferExt,
     RingBufferIntoIterator,
 };
 use std::alloc::AllocError;
@@ -30,11 +29,7 @@ const WALKS: &[(&[i64], &[End], &[i64])] = &[
         &[Front, Back, Front, Front, Back, Back, Front, Front],
         &[1, 7, 2, 3, 6, 5, 4],
     ),
-    (
-        &[1, 2, 3, 4, 5, 6, 7],
-        &[Front, Front, Front, Front, Front, Front, Front, Front],
-        &[1, 2, 3, 4, 5, 6, 7],
-    ),
+    (&[1, 2, 3, 4, 5, 6, 7], &[Front; 8], &[1, 2, 3, 4, 5, 6, 7]),
 ];
 
 #[test]
@@ -67,14 +62,7 @@ const ALL_THREE: &[Step] = &[
 fn an_overwritten_item_is_not_seen(rt: HostRuntime) {
     on_fixed!(&rt, 2, assert_seen, &[2, 3], THE_LAST_TWO);
     on_each!(&rt, 8, assert_seen, &[1, 2, 3], ALL_THREE);
-    on_growable!(&rt, 2, assert_seen, &[1, 2, 3], ALL_THREE);
-}
-
-/// Adds to an item. Returns what it was.
-fn add(item: &mut i64, more: i64) -> i64 {
-    let was = *item;
-    *item = was.wrapping_add(more);
-    was
+    on_ring!(growable, &rt, 2, assert_seen, &[1, 2, 3], ALL_THREE);
 }
 
 const ONE_TO_FOUR: Step = PushAll(&[1, 2, 3, 4]);
@@ -108,10 +96,7 @@ const IN_PART: &[Step] = &[
 /// Drains a ring that holds eight.
 const DRAINED: &[Step] = &[
     PushAll(&[0, 1, 2, 3, 4, 5, 6, 7]),
-    Drains(
-        &[Front, Front, Front, Front, Front, Front, Front, Front],
-        &[0, 1, 2, 3, 4, 5, 6, 7],
-    ),
+    Drains(&[Front; 8], &[0, 1, 2, 3, 4, 5, 6, 7]),
     Holds(&[]),
 ];
 
@@ -131,7 +116,6 @@ const LISTS: &[List] = &[
 #[test]
 fn a_dropped_walk_leaves_the_rest(rt: HostRuntime) {
     assert_lists(&rt, LISTS);
-    on_each!(&rt, 4, assert_lends_both_ends);
 }
 
 /// Goes from 1 to 3 by loops over the ring, by reference and by value.
@@ -152,27 +136,11 @@ macro_rules! loop_over {
     }};
 }
 
-/// A ring that a loop goes over.
-trait LoopedOver {
-    fn assert_looped_over(self, rt: &impl Abort);
-}
-
-impl<S: RingSlots<i64>> LoopedOver for FixedRing<i64, S> {
-    fn assert_looped_over(self, rt: &impl Abort) {
-        loop_over!(rt, self);
-    }
-}
-
-impl LoopedOver for GrowableAllocRingBuffer<i64> {
-    fn assert_looped_over(self, rt: &impl Abort) {
-        loop_over!(rt, self);
-    }
-}
-
 #[test]
 fn rings_are_looped_over_and_walked_side_by_side(rt: HostRuntime) {
     on_each!(&rt, 8, assert_reads_twice);
-    on_each!(&rt, 3, assert_looped_over);
+    loop_over!(&rt, ConstGenericRingBuffer::<i64, 3>::new());
+    loop_over!(&rt, GrowableAllocRingBuffer::new(rt.alloc()));
 }
 
 /// A ring that is walked over.
@@ -225,27 +193,9 @@ trait Walked: DoubleEndedRing<i64> + Drop {
         assert_listed(rt, &self, kept);
         assert_steps(rt, &mut self, steps);
     }
-
-    /// Writes the first item and the last through a cursor, which knows how many are left, as a walk that takes does.
-    fn assert_lends_both_ends(mut self, rt: &impl Abort) {
-        push_all(rt, &mut self, &[1, 2, 3, 4]);
-        {
-            let mut cursor = self.iter_mut();
-            assert_equal(rt, cursor.next().map(|item| add(item, 10)), Some(1));
-            assert_equal(rt, cursor.next_back().map(|item| add(item, 20)), Some(4));
-            assert_equal(rt, cursor.size_hint(), (2, Some(2)));
-        }
-        assert_steps(rt, &mut self, &[Holds(&[11, 2, 3, 24]), Skip]);
-        let mut walk = RingBufferIntoIterator::new(self);
-        assert_equal(rt, walk.size_hint(), (3, Some(3)));
-        assert_equal(rt, walk.next(), Some(2));
-        assert_equal(rt, walk.size_hint(), (2, Some(2)));
-    }
 }
 
-impl<S: RingSlots<i64>> Walked for FixedRing<i64, S> {}
-
-impl Walked for GrowableAllocRingBuffer<i64> {}
+impl<R: DoubleEndedRing<i64> + Drop> Walked for R {}
 
 /// Pushes three items, which a walk reads as their equals. The oldest is then written over the newest.
 fn assert_borrows<T: Copy + PartialEq + Debug + Drop, R: RingBuffer<T> + Drop>(

@@ -1,18 +1,9 @@
-//! What becomes of items: each is dropped exactly once, also where items have no size.
+//! What becomes of items: each is dropped exactly once.
 
 use super::assert_equal;
-use ring_slots::RingSlots;
-use ring_test_support::drops::Call::{
-    self, Apply, Clear, CopyOut, Dequeue, DequeueBelow, Drain, DrainRange, Dropped, EndInOrder,
-    Enqueue, Extend, ExtendClones, Fill, FillWith, Given, Holds, Insert, KeepNewest, MapEach,
-    MoveAll, PopBack, Push, PushFront, PushOver, Remove, RemoveRange, RetainOdd, RotateLeft,
-    RotateRight, Skip, SplitOff, Swap, TakeAll, Truncate, Walk, Write,
-};
-use ring_test_support::drops::first_fault_of_drops;
+use ring_test_support::drops::Call::*;
+use ring_test_support::drops::{Call, first_fault_of_drops};
 use ring_test_support::kinds::Kind;
-use ring_test_support::{on_fixed, on_growable};
-use ringbuffer::{FixedRing, GrowableAllocRingBuffer, RingBuffer};
-use std::process::Abort;
 
 /// The types that take any items, and have a limit.
 const FIXED: &[Kind] = &[Kind::Array, Kind::Heap];
@@ -191,28 +182,3 @@ fn each_item_is_dropped_once(rt: HostRuntime) {
         assert_equal(&rt, (*capacity, *name, fault), (*capacity, *name, None));
     }
 }
-
-#[test]
-fn items_may_have_no_size(rt: HostRuntime) {
-    on_fixed!(&rt, 5, assert_takes_nothings, 5);
-    on_growable!(&rt, 5, assert_takes_nothings, 7);
-}
-
-/// A ring of items without size.
-trait OfNothings: RingBuffer<()> + Drop {
-    fn assert_takes_nothings(mut self, rt: &impl Abort, kept: usize) {
-        for _ in 0..7 {
-            assert!(rt; self.push(()).is_ok());
-        }
-        let newest = self.get_signed(-1).copied();
-        assert_equal(rt, (self.len(), newest), (kept, Some(())));
-        for _ in 0..kept {
-            assert_equal(rt, self.dequeue(), Some(()));
-        }
-        assert_equal(rt, self.dequeue(), None);
-    }
-}
-
-impl<S: RingSlots<()>> OfNothings for FixedRing<(), S> {}
-
-impl OfNothings for GrowableAllocRingBuffer<()> {}

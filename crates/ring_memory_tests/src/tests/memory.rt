@@ -36,24 +36,6 @@ fn rings_of_a_gibibyte_give_back_their_memory(rt: HostRuntime) -> Result<(), All
     Ok(())
 }
 
-fn assert_takes_two<R: RingBuffer<i64> + Drop>(rt: &impl Abort, mut ring: R) {
-    push_all(rt, &mut ring, &[1, 2]);
-    assert_holds(rt, &ring, &[1, 2]);
-}
-
-#[test]
-fn large_capacities_are_had_where_there_is_memory(rt: HostRuntime) -> Result<(), AllocError> {
-    for capacity in [(1 << 16) + 1, (1 << 20) + 1, 1 << 24, (1 << 24) + 1] {
-        let heap = AllocRingBuffer::new(rt.alloc(), capacity)?;
-        assert_equal(&rt, heap.capacity(), capacity);
-        assert_takes_two(&rt, heap);
-        let growable = GrowableAllocRingBuffer::with_capacity(rt.alloc(), capacity)?;
-        assert!(rt; growable.capacity() >= capacity);
-        assert_takes_two(&rt, growable);
-    }
-    Ok(())
-}
-
 // A start and a length lie beside the items.
 #[test]
 fn plain_items_have_no_mark(rt: HostRuntime) {

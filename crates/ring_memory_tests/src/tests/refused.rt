@@ -9,8 +9,9 @@ mod pushes;
 mod runs;
 mod sources;
 
-use super::push_items;
+use super::{drought, push_items};
 use ring_test_support::counted::{Counted, Supply};
+use ring_test_support::drought::Drought;
 use ringbuffer::RingBuffer;
 use std::process::Abort;
 
@@ -28,6 +29,14 @@ fn hold_first<'a, R: RingBuffer<Counted<'a>>>(
     ring.clear();
     supply.begin_again_with(most);
     push_items(rt, ring, supply, held);
+}
+
+/// Makes a drought, if it is said what it spares.
+fn in_drought(rt: &(impl Abort + AllocGlobal), spare: Option<usize>) -> Option<Drought> {
+    match spare {
+        Some(bytes) => Some(drought(rt, bytes)),
+        None => None,
+    }
 }
 
 /// Tells whether the items are numbered in order, from the number `first` on.

@@ -1,12 +1,11 @@
 //! Calls that need one block of memory, where there is one of that size and no other.
 
 use super::{assert_equal, assert_numbers, drought};
-use ring_slots::RingSlots;
 use ring_test_support::drought::Drought;
 use ring_test_support::numbered::block;
 use ringbuffer::{
     AllocRingBuffer, ConstGenericRingBuffer, CopyRingBuffer, DoubleEndedRing, DoubleEndedRingExt,
-    FixedRing, GrowableAllocRingBuffer, RingBuffer, RingBufferExt,
+    GrowableAllocRingBuffer, RingBuffer, RingBufferExt,
 };
 use std::alloc::AllocError;
 use std::process::Abort;
@@ -38,7 +37,7 @@ fn heap_rings_ask_for_one_block(rt: HostRuntime) -> Result<(), AllocError> {
     let ring = sparing!(
         &rt,
         IN_SLOTS,
-        AllocRingBuffer::from_slice(rt.alloc(), items.as_slice())
+        AllocRingBuffer::from_slice(rt.alloc(), &items)
     );
     assert_numbers(&rt, &ring, 0, COUNT);
     let mut twin = sparing!(&rt, IN_SLOTS, ring.clone());
@@ -59,23 +58,25 @@ fn growable_rings_ask_for_one_block(rt: HostRuntime) -> Result<(), AllocError> {
     let ring = sparing!(
         &rt,
         EXACT,
-        GrowableAllocRingBuffer::from_slice(rt.alloc(), items.as_slice())
+        GrowableAllocRingBuffer::from_slice(rt.alloc(), &items)
     );
     assert_numbers(&rt, &ring, 0, COUNT);
     let twin = sparing!(&rt, EXACT, ring.clone());
     assert_numbers(&rt, &twin, 0, COUNT);
-    let mut extended = GrowableAllocRingBuffer::<u64>::new(rt.alloc());
-    sparing!(&rt, EXACT, extended.extend_from_slice(items.as_slice()));
-    assert_numbers(&rt, &extended, 0, COUNT);
-    let mut extended = GrowableAllocRingBuffer::<u64>::new(rt.alloc());
-    sparing!(&rt, EXACT, extended.extend(items.iter().copied()));
-    assert_numbers(&rt, &extended, 0, COUNT);
-    let mut other = GrowableAllocRingBuffer::<u64>::new(rt.alloc());
-    sparing!(&rt, EXACT, DoubleEndedRing::clone_into(&ring, &mut other));
-    assert_numbers(&rt, &other, 0, COUNT);
-    let mut other = GrowableAllocRingBuffer::<u64>::new(rt.alloc());
-    sparing!(&rt, EXACT, ring.copy_into(&mut other));
-    assert_numbers(&rt, &other, 0, COUNT);
+    for call in 0..4 {
+        let mut other = GrowableAllocRingBuffer::<u64>::new(rt.alloc());
+        sparing!(
+            &rt,
+            EXACT,
+            match call {
+                0 => other.extend_from_slice(&items),
+                1 => other.extend(items.iter().copied()),
+                2 => DoubleEndedRing::clone_into(&ring, &mut other),
+                _ => ring.copy_into(&mut other),
+            }
+        );
+        assert_numbers(&rt, &other, 0, COUNT);
+    }
     Ok(())
 }
 
@@ -106,12 +107,8 @@ fn items_that_go_round_are_taken_in_one_block(rt: HostRuntime) -> Result<(), All
     ConstGenericRingBuffer::<u64, 5>::new().assert_taken(&rt, 5);
     CopyRingBuffer::<u64, 5>::new(0).assert_taken(&rt, 5);
     let array = ConstGenericRingBuffer::<u64, 5>::from_iter(0..7);
-    assert_equal(
-        &rt,
-        sparing!(&rt, 40, array.to_vec_copied(rt.alloc())).len(),
-        5,
-    );
-
+    let copied = sparing!(&rt, 40, array.to_vec_copied(rt.alloc()));
+    assert_equal(&rt, copied.len(), 5);
     let mut heap = AllocRingBuffer::new(rt.alloc(), 70_000)?;
     heap.extend_from_slice(block(rt.alloc(), 0, 131_000)?.as_slice());
     let copied = sparing!(&rt, 8 * 70_000, heap.to_vec_copied(rt.alloc()));
@@ -119,6 +116,11 @@ fn items_that_go_round_are_taken_in_one_block(rt: HostRuntime) -> Result<(), All
     sparing!(&rt, 8 << 16, heap.set_capacity(60_000));
     assert_numbers(&rt, &heap, 71_000, 60_000);
     Ok(())
+}
+
+/// Returns how many bytes so many numbers take.
+fn bytes_of(count: usize) -> usize {
+    count.saturating_mul(8)
 }
 
 /// A ring whose items are taken out, with as much memory as these need.
@@ -138,35 +140,21 @@ trait Taken: DoubleEndedRing<u64> + Drop {
     fn assert_taken(mut self, rt: &(impl Abort + AllocGlobal), count: usize) {
         let (alloc, few) = (rt.alloc(), count.min(3));
         self.fill_round(rt, count);
-        let listed = sparing!(rt, 8usize.saturating_mul(count), self.to_vec(alloc));
-        let all = sparing!(rt, 8usize.saturating_mul(count), self.take_all(alloc));
+        let listed = sparing!(rt, bytes_of(count), self.to_vec(alloc));
+        let all = sparing!(rt, bytes_of(count), self.take_all(alloc));
         assert!(rt; listed == all && self.is_empty());
         self.fill_round(rt, count);
-        let first = sparing!(
-            rt,
-            8usize.saturating_mul(few),
-            self.drain_range(..few, alloc)
-        );
+        let first = sparing!(rt, bytes_of(few), self.drain_range(..few, alloc));
         let (front, rest) = all.split_at(few.min(all.len()));
         assert!(rt; first.as_slice() == front);
         let few = few.min(rest.len());
         let (middle, back) = rest.split_at(rest.len().saturating_sub(few));
         assert!(rt; middle.len() <= self.len());
-        let last = sparing!(
-            rt,
-            8usize.saturating_mul(few),
-            self.split_off(middle.len(), alloc)
-        );
+        let last = sparing!(rt, bytes_of(few), self.split_off(middle.len(), alloc));
         assert!(rt; last.as_slice() == back);
-        let others = sparing!(
-            rt,
-            8usize.saturating_mul(middle.len()),
-            self.take_all(alloc)
-        );
+        let others = sparing!(rt, bytes_of(middle.len()), self.take_all(alloc));
         assert!(rt; others.as_slice() == middle);
     }
 }
 
-impl<S: RingSlots<u64>> Taken for FixedRing<u64, S> {}
-
-impl Taken for GrowableAllocRingBuffer<u64> {}
+impl<R: DoubleEndedRing<u64> + Drop> Taken for R {}

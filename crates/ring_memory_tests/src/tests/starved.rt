@@ -1,7 +1,6 @@
 //! Calls that are refused memory, and calls that ask for none.
 
 use super::{assert_equal, assert_holds, drought, push_all};
-use ring_slots::RingSlots;
 use ring_test_support::commands::{REPLIES_OF_TWO, every_command};
 use ring_test_support::kinds::{Calls, EACH, FIXED, Kind, first_fault_on};
 use ring_test_support::steps::End::{self, Front};
@@ -12,10 +11,10 @@ use ring_test_support::steps::Step::{
     TryPush, Write, WriteBack, WriteFront, WriteSigned,
 };
 use ring_test_support::steps::{Outcome, Step, first_fault};
-use ring_test_support::{on_array, on_each, on_growable, on_heap};
+use ring_test_support::{on_each, on_ring};
 use ringbuffer::{
-    AllocRingBuffer, Command, DoubleEndedRing, FixedRing, GrowableAllocRingBuffer, Reply,
-    RingBuffer, RunFault, apply, move_all, run, run_into,
+    AllocRingBuffer, Command, DoubleEndedRing, GrowableAllocRingBuffer, Reply, RingBuffer,
+    RunFault, apply, move_all, run, run_into,
 };
 use std::alloc::AllocError;
 use std::mem::size_of;
@@ -23,10 +22,10 @@ use std::process::Abort;
 
 #[test]
 fn a_refused_call_leaves_what_there_was_room_for(rt: HostRuntime) {
-    on_growable!(&rt, 0, assert_refused);
+    on_ring!(growable, &rt, 0, assert_refused);
     GrowableAllocRingBuffer::new(rt.alloc()).assert_refused(&rt);
-    on_growable!(&rt, 0, assert_extension_refused);
-    on_growable!(&rt, 0, assert_move_refused);
+    on_ring!(growable, &rt, 0, assert_extension_refused);
+    on_ring!(growable, &rt, 0, assert_move_refused);
 }
 
 #[test]
@@ -132,8 +131,8 @@ fn calls_that_are_never_refused_take_no_memory(rt: HostRuntime) {
 
 #[test]
 fn a_run_on_a_fixed_ring_asks_for_its_replies_alone(rt: HostRuntime) {
-    on_array!(&rt, 2, assert_runs_take_none);
-    on_heap!(&rt, 2, assert_run_takes_its_replies);
+    on_ring!(array, &rt, 2, assert_runs_take_none);
+    on_ring!(heap, &rt, 2, assert_run_takes_its_replies);
 }
 
 #[test]
@@ -233,6 +232,4 @@ trait Starved: DoubleEndedRing<i64> + Drop {
     }
 }
 
-impl<S: RingSlots<i64>> Starved for FixedRing<i64, S> {}
-
-impl Starved for GrowableAllocRingBuffer<i64> {}
+impl<R: DoubleEndedRing<i64> + Drop> Starved for R {}

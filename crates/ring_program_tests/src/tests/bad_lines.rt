@@ -20,28 +20,20 @@ fn names_a_line_that_is_no_command(rt: HostRuntime) {
     assert_eq!(rt; lines, 14);
 }
 
-#[test]
-fn names_the_first_line_that_is_no_command(rt: HostRuntime) {
-    let scripts: [(&str, &[u8], &str); 2] = [
-        ("2", b"push 1\npush x", "ringrun: line 2: not a command\n"),
-        ("3", b"\n\npush x", "ringrun: line 3: not a command\n"),
-    ];
-    for (capacity, script, want) in scripts {
-        let outcome = run_script(&rt, &["array", capacity], script);
-        assert_ended(&rt, script, &outcome, fails(1, want));
-    }
-}
-
 // The line feeds before a bad line are counted in blocks of 255 bytes.
 #[test]
-fn names_a_line_on_both_sides_of_a_block(rt: HostRuntime) {
+fn names_the_first_line_that_is_no_command(rt: HostRuntime) {
     let rows = [
+        (2, "ringrun: line 3: not a command\n"),
         (254, "ringrun: line 255: not a command\n"),
         (255, "ringrun: line 256: not a command\n"),
         (256, "ringrun: line 257: not a command\n"),
         (510, "ringrun: line 511: not a command\n"),
         (511, "ringrun: line 512: not a command\n"),
     ];
+    let outcome = run_script(&rt, &["array", "2"], b"push 1\npush x");
+    let second = fails(1, "ringrun: line 2: not a command\n");
+    assert_ended(&rt, "the second", &outcome, second);
     for (blanks, want) in rows {
         let script = repeated(&rt, &[("\n", blanks), ("push x\n", 1)]);
         let outcome = run_script(&rt, &["array", "3"], script.as_bytes());

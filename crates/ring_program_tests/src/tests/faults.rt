@@ -2,31 +2,26 @@
 
 use super::streams::{Refusal, Sink, Source};
 use super::{
-    ANSWER_WITH_ROOM, FAILED, FIRST_LINE_IS_NONE, NO_MEMORY, Outcome, SCRIPT, USAGE, assert_ended,
-    assert_ended_unread, fails, prints, run, run_on_three, serve_words, sink, strings,
+    ANSWER_WITH_ROOM, Ending, FAILED, FIRST_LINE_IS_NONE, NO_MEMORY, Outcome, SCRIPT, USAGE,
+    assert_ended, assert_ended_unread, fails, prints, run, run_on_three, serve_words, sink,
+    strings,
 };
 use std::io::ErrorKind;
 use std::process::Abort;
 
 #[test]
-fn refuses_arguments_before_it_reads(rt: HostRuntime) {
-    let cases: [&[&str]; 3] = [&["array", "5"], &["heap", "0"], &["heap"]];
-    for arguments in cases {
+fn ends_before_it_reads(rt: HostRuntime) {
+    let cases: [(&[&str], Ending<'_>); 5] = [
+        (&["array", "5"], fails(2, USAGE)),
+        (&["heap", "0"], fails(2, USAGE)),
+        (&["heap"], fails(2, USAGE)),
+        (&["heap", "9223372036854775809"], fails(3, NO_MEMORY)),
+        (&["grow", "18446744073709551615"], fails(3, NO_MEMORY)),
+    ];
+    for (arguments, ending) in cases {
         let input = Source::failing_between((b"", SCRIPT), ErrorKind::BrokenPipe);
         let outcome = run(&rt, arguments, input, sink(&rt));
-        assert_ended_unread(&rt, arguments, &outcome, fails(2, USAGE));
-    }
-}
-
-#[test]
-fn makes_the_ring_before_it_reads(rt: HostRuntime) {
-    for arguments in [
-        ["heap", "9223372036854775809"],
-        ["grow", "18446744073709551615"],
-    ] {
-        let input = Source::failing_between((b"", SCRIPT), ErrorKind::BrokenPipe);
-        let outcome = run(&rt, &arguments, input, sink(&rt));
-        assert_ended_unread(&rt, &arguments, &outcome, fails(3, NO_MEMORY));
+        assert_ended_unread(&rt, arguments, &outcome, ending);
     }
 }
 
@@ -63,6 +58,22 @@ fn run_refused(
     run_on_three(rt, Source::of(SCRIPT), output.refusing(call, refusal))
 }
 
+/// Runs on an array ring of a capacity, with a writer for errors.
+fn run_with_errors(
+    rt: &(impl Abort + AllocGlobal),
+    capacity: &str,
+    input: Source<'_>,
+    errors: Sink,
+) -> Outcome {
+    let words = strings(rt, &["array", capacity]);
+    serve_words(rt.alloc(), words.as_slice(), input, sink(rt), errors)
+}
+
+/// Makes a writer that takes a byte a call.
+fn sink_of_bytes(rt: &(impl Abort + AllocGlobal)) -> Sink {
+    Sink::in_pieces(rt.alloc(), 1).expect(rt, "memory")
+}
+
 #[test]
 fn says_where_writing_failed(rt: HostRuntime) {
     let broken = Refusal::Fails(ErrorKind::BrokenPipe);
@@ -91,19 +102,15 @@ fn says_where_writing_failed(rt: HostRuntime) {
 fn stops_where_nothing_more_is_taken(rt: HostRuntime) {
     for refusal in [Refusal::Fails(ErrorKind::BrokenPipe), Refusal::TakesNothing] {
         for call in 1..=ANSWER_WITH_ROOM.len() {
-            let output = Sink::in_pieces(rt.alloc(), 1).expect(&rt, "memory");
-            let output = output.refusing_from(call, refusal);
+            let output = sink_of_bytes(&rt).refusing_from(call, refusal);
             let outcome = run_on_three(&rt, Source::of(SCRIPT), output);
             let taken = ANSWER_WITH_ROOM.get(..call.saturating_sub(1));
             assert_eq!(rt; outcome.output.taken().ok(), taken);
             assert_ended(&rt, call, &outcome, fails(4, FAILED));
         }
         for call in 1..=FIRST_LINE_IS_NONE.len() {
-            let words = strings(&rt, &["array", "2"]);
-            let errors = Sink::in_pieces(rt.alloc(), 1).expect(&rt, "memory");
-            let errors = errors.refusing_from(call, refusal);
-            let input = Source::of(b"push x");
-            let outcome = serve_words(rt.alloc(), words.as_slice(), input, sink(&rt), errors);
+            let errors = sink_of_bytes(&rt).refusing_from(call, refusal);
+            let outcome = run_with_errors(&rt, "2", Source::of(b"push x"), errors);
             let taken = FIRST_LINE_IS_NONE.get(..call.saturating_sub(1));
             assert_eq!(rt; (outcome.status, outcome.errors.taken().ok()), (1, taken));
         }
@@ -129,13 +136,12 @@ fn keeps_the_status_where_no_error_is_taken(rt: HostRuntime) {
     ];
     for (capacity, script, fault, want) in cases {
         for refusal in [Refusal::Fails(ErrorKind::BrokenPipe), Refusal::TakesNothing] {
-            let words = strings(&rt, &["array", capacity]);
             let input = match fault {
                 Some(kind) => Source::failing_between((b"", script), kind),
                 None => Source::of(script),
             };
             let errors = sink(&rt).refusing_from(1, refusal);
-            let outcome = serve_words(rt.alloc(), words.as_slice(), input, sink(&rt), errors);
+            let outcome = run_with_errors(&rt, capacity, input, errors);
             let output = outcome.output.text().expect(&rt, "a text");
             let found = (outcome.status, output, outcome.errors.calls());
             // A write that is refused, and a flush.
@@ -148,11 +154,8 @@ fn keeps_the_status_where_no_error_is_taken(rt: HostRuntime) {
 fn writes_the_whole_line_of_an_error(rt: HostRuntime) {
     let interruption = Refusal::Fails(ErrorKind::Interrupted);
     for call in 1..=FIRST_LINE_IS_NONE.len() {
-        let words = strings(&rt, &["array", "2"]);
-        let errors = Sink::in_pieces(rt.alloc(), 1).expect(&rt, "memory");
-        let errors = errors.refusing(call, interruption);
-        let input = Source::of(b"push x");
-        let outcome = serve_words(rt.alloc(), words.as_slice(), input, sink(&rt), errors);
+        let errors = sink_of_bytes(&rt).refusing(call, interruption);
+        let outcome = run_with_errors(&rt, "2", Source::of(b"push x"), errors);
         assert_ended(&rt, call, &outcome, fails(1, FIRST_LINE_IS_NONE));
     }
 }

@@ -1,16 +1,6 @@
 //! Numbers as they are read and printed, and what only begins as one.
 
-use super::{FIRST_LINE_IS_NONE, assert_ended, fails, prints, run_script};
-use std::process::Abort;
-
-/// Returns the texts one after the other.
-fn joined(rt: &(impl Abort + AllocGlobal), texts: &[&str]) -> String {
-    let mut all = String::new(rt.alloc());
-    for text in texts {
-        all.push_str(text).expect(rt, "memory");
-    }
-    all
-}
+use super::{FIRST_LINE_IS_NONE, assert_ended, fails, prints, repeated, run_script};
 
 /// A line's numbers, and as they are printed: on both sides of eight digits and of sixteen, with zeros in front, in pairs and
 /// after signs, one blank or several.
@@ -37,8 +27,8 @@ fn reads_and_prints_numbers(rt: HostRuntime) {
     for (numbers, shown) in NUMBERS {
         // before the text's end, a line's end, and blanks
         for end in ["", "\n", "\r\n", " ", " \n", "\n\n\n\n\n\n\n"] {
-            let script = joined(&rt, &["extend", numbers, end]);
-            let want = joined(&rt, &["extended\nitems", shown, "\n"]);
+            let script = repeated(&rt, &[("extend", 1), (*numbers, 1), (end, 1)]);
+            let want = repeated(&rt, &[("extended\nitems", 1), (*shown, 1), ("\n", 1)]);
             for words in [["array", "3"], ["heap", "3"], ["grow", "0"]] {
                 let outcome = run_script(&rt, &words, script.as_bytes());
                 assert_ended(&rt, (*numbers, end), &outcome, prints(want.as_str()));

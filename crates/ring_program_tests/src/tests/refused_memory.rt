@@ -11,17 +11,6 @@ use std::io::ErrorKind;
 use std::process::Abort;
 
 /// Runs with no memory but one block of `room` bytes.
-fn run_in_drought(
-    rt: &(impl Abort + AllocGlobal),
-    arguments: &[&str],
-    script: &str,
-    room: usize,
-) -> Outcome {
-    let input = Source::of(script.as_bytes());
-    serve_in_drought(rt, arguments, input, room)
-}
-
-/// Runs on any input, with no memory but one block of `room` bytes.
 fn serve_in_drought(
     rt: &(impl Abort + AllocGlobal),
     arguments: &[&str],
@@ -47,7 +36,8 @@ fn refusals(
 ) -> usize {
     let _most = Drought::of_most(rt.alloc()).expect(rt, "memory");
     for refused in 0..400 {
-        let outcome = run_in_drought(rt, arguments, script, step.saturating_mul(refused));
+        let (input, room) = (Source::of(script.as_bytes()), step.saturating_mul(refused));
+        let outcome = serve_in_drought(rt, arguments, input, room);
         if outcome.status == ending.status {
             assert_ended(rt, refused, &outcome, ending);
             return refused;
@@ -88,7 +78,7 @@ fn keeps_no_more_room_than_two_long_lines_need(rt: HostRuntime) {
     let line = repeated(&rt, &[("extend", 1), (" 0", 131_072), ("\n", 1)]);
     let script = repeated(&rt, &[(line.as_str(), 2), ("clear\n", 1)]);
     let arguments = ["grow", "1023"];
-    let outcome = run_in_drought(&rt, &arguments, script.as_str(), 7 << 20);
+    let outcome = serve_in_drought(&rt, &arguments, Source::of(script.as_bytes()), 7 << 20);
     let ending = prints("extended\nextended\ncleared\nitems\n");
     assert_ended(&rt, &arguments, &outcome, ending);
 }
@@ -123,7 +113,10 @@ fn is_refused_a_ring(rt: HostRuntime) {
         let outcome = serve_in_drought(&rt, &arguments, input, room);
         assert_ended_unread(&rt, &arguments, &outcome, fails(3, NO_MEMORY));
     }
-    assert_eq!(rt; room_to_read(&rt, &["grow", "0"]), room_to_read(&rt, &["array", "3"]));
+    assert_eq!(rt;
+        room_to_read(&rt, &["grow", "0"]),
+        room_to_read(&rt, &["array", "3"])
+    );
 }
 
 // With room for the input, refusals come one after the other, for the ring and the text. The line that is no command is after
@@ -133,20 +126,22 @@ fn names_a_line_behind_what_is_refused(rt: HostRuntime) {
     let lines = ("push 7\n\n", 3000);
     let script = repeated(&rt, &[lines]);
     let faulty = repeated(&rt, &[lines, ("extend 1 2 x\n", 1)]);
-    let named_line = fails(1, "ringrun: line 6001: not a command\n");
+    let (words, named_line) = (
+        &["grow", "0"],
+        fails(1, "ringrun: line 6001: not a command\n"),
+    );
     let _most = Drought::of_most(rt.alloc()).expect(&rt, "memory");
-    let mut named = 0usize;
-    let mut refused = 0usize;
+    let (mut named, mut refused) = (0usize, 0usize);
     for step in 0..100usize {
         let room = step.saturating_mul(4096);
-        let outcome = run_in_drought(&rt, &["grow", "0"], faulty.as_str(), room);
+        let outcome = serve_in_drought(&rt, words, Source::of(faulty.as_bytes()), room);
         if named == 0 && outcome.status == 3 {
             assert_ended(&rt, room, &outcome, fails(3, NO_MEMORY));
             continue;
         }
         named = named.saturating_add(1);
         assert_ended(&rt, room, &outcome, named_line);
-        let outcome = run_in_drought(&rt, &["grow", "0"], script.as_str(), room);
+        let outcome = serve_in_drought(&rt, words, Source::of(script.as_bytes()), room);
         if outcome.status == 3 {
             refused = refused.saturating_add(1);
         }

@@ -37,26 +37,17 @@ impl<'a> Source<'a> {
 
     /// Makes a source that fails once between two texts.
     pub fn failing_between((first, rest): (&'a [u8], &'a [u8]), fault: ErrorKind) -> Source<'a> {
-        Source {
-            first,
-            fault: Some(fault),
-            rest,
-            after_end: None,
-            most: usize::MAX,
-            calls: 0,
-        }
+        let mut source = Source::of(first);
+        source.fault = Some(fault);
+        source.rest = rest;
+        source
     }
 
     /// Makes a source that gives `text`, ends, and fails if it is read once more.
     pub fn ending_once(text: &'a [u8]) -> Source<'a> {
-        Source {
-            first: text,
-            fault: None,
-            rest: &[],
-            after_end: Some(ErrorKind::BrokenPipe),
-            most: usize::MAX,
-            calls: 0,
-        }
+        let mut source = Source::of(text);
+        source.after_end = Some(ErrorKind::BrokenPipe);
+        source
     }
 
     /// Returns whether no read was made.
@@ -120,23 +111,20 @@ impl Sink {
             most,
             calls: 0,
             first_refused: usize::MAX,
-            last_refused: 0,
+            last_refused: usize::MAX,
             refusal: Refusal::TakesNothing,
         })
     }
 
     /// Makes it refuse one call, counted from 1. A flush counts as a call.
     pub fn refusing(mut self, call: usize, refusal: Refusal) -> Sink {
-        self.first_refused = call;
         self.last_refused = call;
-        self.refusal = refusal;
-        self
+        self.refusing_from(call, refusal)
     }
 
     /// Makes it refuse each call from one on.
     pub fn refusing_from(mut self, call: usize, refusal: Refusal) -> Sink {
         self.first_refused = call;
-        self.last_refused = usize::MAX;
         self.refusal = refusal;
         self
     }
@@ -168,11 +156,8 @@ impl Sink {
     // Counts a call, and returns how it is refused, if it is.
     fn next_refusal(&mut self) -> Option<Refusal> {
         self.calls = self.calls.saturating_add(1);
-        if self.first_refused <= self.calls && self.calls <= self.last_refused {
-            Some(self.refusal)
-        } else {
-            None
-        }
+        let is_refused = self.first_refused <= self.calls && self.calls <= self.last_refused;
+        if is_refused { Some(self.refusal) } else { None }
     }
 }
 
@@ -189,9 +174,8 @@ impl Write for Sink {
     }
 
     fn flush(&mut self) -> io::Result<()> {
-        match self.next_refusal() {
-            Some(Refusal::Fails(kind)) => return Err(io::Error::from(kind)),
-            _ => {}
+        if let Some(Refusal::Fails(kind)) = self.next_refusal() {
+            return Err(io::Error::from(kind));
         }
         self.flushed.extend_from_slice(self.unflushed.as_slice())?;
         self.unflushed.clear();

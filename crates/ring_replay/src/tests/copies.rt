@@ -133,7 +133,13 @@ impl<T: Plain> PlayedCopies<T> for GrowableAllocRingBuffer<T> {
         match player.up_to(8) {
             0..=3 => return play_growable_copies(self, player),
             4..=6 => comparing::play(self, player)?,
-            7 => player.note_each(&self.to_vec_copied(player.alloc)?),
+            7 => {
+                // The items are listed after they were copied onto a ring that held some of them.
+                let mut twin = self.clone()?;
+                twin.truncate(3);
+                self.copy_into(&mut twin)?;
+                player.note_each(&twin.to_vec_copied(player.alloc)?);
+            }
             _ => {
                 let deque = self.clone()?.into_deque();
                 player.note_item(deque.back());

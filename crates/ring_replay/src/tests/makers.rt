@@ -44,6 +44,27 @@ fn heap<T: Drop, M: Maker<T>>(player: &mut Player<M>) -> Result<AllocRingBuffer<
     Ok(ring)
 }
 
+// Makes a ring in an array of a collection. Plain items come with a filler, and what clones may be refused.
+macro_rules! of_collection {
+    ($player:expr, $call:expr, ($($filler:ident)?), [$($may_fail:tt)?]) => {
+        match $call {
+            2 => Self::from_linked_list($($filler,)? list($player)?),
+            3 => Self::from_alloc($($filler,)? heap($player)?),
+            _ => {
+                let mut items: Vec<T> = $player.items()?;
+                match $call {
+                    4 => Self::from_iter($($filler,)? items),
+                    5 => Self::from_vec($($filler,)? items),
+                    6 => Self::from_deque($($filler,)? VecDeque::from(items)),
+                    7 => Self::from_slice($($filler,)? &items)$($may_fail)?,
+                    8 => Self::from_mut_slice($($filler,)? &mut items)$($may_fail)?,
+                    _ => Self::from_growable($($filler,)? GrowableAllocRingBuffer::from(items)),
+                }
+            }
+        }
+    };
+}
+
 impl<T: Clone + Drop, const CAP: usize> Made<T> for ConstGenericRingBuffer<T, CAP> {
     fn play_makers<M: Maker<T>>(&mut self, player: &mut Player<M>) -> Done {
         let (alloc, call) = (player.alloc, player.up_to(9));
@@ -61,19 +82,7 @@ impl<T: Clone + Drop, const CAP: usize> Made<T> for ConstGenericRingBuffer<T, CA
                 let made = GrowableAllocRingBuffer::from_vec(alloc, self.to_vec(alloc)?)?;
                 return try_out(made, player);
             }
-            2 => *self = Self::from_linked_list(list(player)?),
-            3 => *self = Self::from_alloc(heap(player)?),
-            _ => {
-                let mut items: Vec<T> = player.items()?;
-                *self = match call {
-                    4 => Self::from_iter(items),
-                    5 => Self::from_vec(items),
-                    6 => Self::from_deque(VecDeque::from(items)),
-                    7 => Self::from_slice(&items)?,
-                    8 => Self::from_mut_slice(&mut items)?,
-                    _ => Self::from_growable(GrowableAllocRingBuffer::from(items)),
-                };
-            }
+            _ => *self = of_collection!(player, call, (), [?]),
         }
         Ok(())
     }
@@ -96,19 +105,7 @@ impl<T: Plain, const CAP: usize> Made<T> for CopyRingBuffer<T, CAP> {
                 let made = GrowableAllocRingBuffer::from_const(alloc, self.copied())?;
                 return try_out(made, player);
             }
-            2 => *self = Self::from_linked_list(filler, list(player)?),
-            3 => *self = Self::from_alloc(filler, heap(player)?),
-            _ => {
-                let mut items: Vec<T> = player.items()?;
-                *self = match call {
-                    4 => Self::from_iter(filler, items),
-                    5 => Self::from_vec(filler, items),
-                    6 => Self::from_deque(filler, VecDeque::from(items)),
-                    7 => Self::from_slice(filler, &items),
-                    8 => Self::from_mut_slice(filler, &mut items),
-                    _ => Self::from_growable(filler, GrowableAllocRingBuffer::from(items)),
-                };
-            }
+            _ => *self = of_collection!(player, call, (filler), []),
         }
         Ok(())
     }

@@ -4,23 +4,16 @@
 use super::bytes::PlayedBytes;
 use super::calls;
 use super::copies::{Plain, PlayedCopies};
-use super::digests::{BLOCKS, DIGESTS};
+use super::digests::DIGESTS;
 use super::items::{Maker, Values};
 use super::player::Player;
 use super::rings::Played;
-use ringbuffer::{
-    AllocRingBuffer, ConstGenericRingBuffer, CopyRingBuffer, GrowableAllocRingBuffer,
-};
 use std::alloc::Global;
-use std::fmt::Debug;
 use std::process::Abort;
 
-/// Asserts that both are equal. A failure names the test and both values.
-fn assert_equal<T: PartialEq + Debug + Drop>(rt: &impl Abort, found: T, wanted: T) {
-    assert_eq!(rt; found, wanted);
-}
+/// How often a run looks at what its ring holds, and how many calls come between.
+const BLOCKS: usize = 4;
 
-/// How many calls come between two digests.
 const CALLS: usize = 256;
 
 /// A run: its number, its ring, and the capacity that this is made with.
@@ -66,23 +59,18 @@ fn begin<T: Clone + Drop, M: Maker<T>, R: Played<T>>(
     player
 }
 
-/// Asserts that a run's digest is that of the same calls in Rust.
-fn assert_agrees<T: Clone + Drop, M: Maker<T>, R: Played<T>>(
-    rt: &impl Abort,
-    ring: &R,
-    player: &mut Player<M>,
-    run: Run,
-    block: usize,
-) {
+/// Notes what a ring holds, and how many items there are.
+fn look<T: Clone + Drop, M: Maker<T>, R: Played<T>>(ring: &R, player: &mut Player<M>) {
     player.note_ring(ring);
     let (count, sum) = player.maker.alive();
     player.note(count);
     player.note(sum);
-    let first = run.number.wrapping_sub(1).wrapping_mul(BLOCKS);
-    let wanted = DIGESTS.get(first.wrapping_add(block)).copied();
-    let calls = block.wrapping_add(1).wrapping_mul(CALLS);
-    let found = Some(player.digest());
-    assert_equal(rt, (run, calls, found), (run, calls, wanted));
+}
+
+/// Asserts that a run's digest is that of the same calls in Rust.
+fn assert_agrees(rt: &impl Abort, run: Run, digest: u32) {
+    let wanted = DIGESTS.get(run.number.wrapping_sub(1)).copied();
+    assert_eq!(rt; (run, Some(digest)), (run, wanted));
 }
 
 /// A ring that plays runs.
@@ -90,20 +78,17 @@ pub trait Replays<T: Clone + Drop>: Played<T> {
     /// Plays a run that copies no item.
     fn replay<M: Maker<T> + Drop>(&mut self, rt: &(impl Abort + AllocGlobal), maker: M, run: Run) {
         let mut player = begin(self, run, maker, rt.alloc());
-        for block in 0..BLOCKS {
+        for _ in 0..BLOCKS {
             for _ in 0..CALLS {
                 calls::play(self, &mut player).expect(rt, "memory");
             }
-            assert_agrees(rt, self, &mut player, run, block);
+            look(self, &mut player);
         }
+        assert_agrees(rt, run, player.digest());
     }
 }
 
-impl<T: Clone + Drop, const CAP: usize> Replays<T> for ConstGenericRingBuffer<T, CAP> {}
-
-impl<T: Clone + Drop> Replays<T> for AllocRingBuffer<T> {}
-
-impl<T: Clone + Drop> Replays<T> for GrowableAllocRingBuffer<T> {}
+impl<T: Clone + Drop, R: Played<T>> Replays<T> for R {}
 
 /// A ring that plays runs of items that can be copied.
 pub trait ReplaysCopies<T: Plain>: PlayedCopies<T> {
@@ -115,7 +100,7 @@ pub trait ReplaysCopies<T: Plain>: PlayedCopies<T> {
         run: Run,
     ) {
         let mut player = begin(self, run, maker, rt.alloc());
-        for block in 0..BLOCKS {
+        for _ in 0..BLOCKS {
             for call in 1..=CALLS {
                 if call % 4 == 0 {
                     self.play_copies(&mut player).expect(rt, "memory");
@@ -123,25 +108,20 @@ pub trait ReplaysCopies<T: Plain>: PlayedCopies<T> {
                     calls::play(self, &mut player).expect(rt, "memory");
                 }
             }
-            assert_agrees(rt, self, &mut player, run, block);
+            look(self, &mut player);
         }
+        assert_agrees(rt, run, player.digest());
     }
 }
 
-impl<T: Plain, const CAP: usize> ReplaysCopies<T> for ConstGenericRingBuffer<T, CAP> {}
-
-impl<T: Plain, const CAP: usize> ReplaysCopies<T> for CopyRingBuffer<T, CAP> {}
-
-impl<T: Plain> ReplaysCopies<T> for AllocRingBuffer<T> {}
-
-impl<T: Plain> ReplaysCopies<T> for GrowableAllocRingBuffer<T> {}
+impl<T: Plain, R: PlayedCopies<T>> ReplaysCopies<T> for R {}
 
 /// A ring that plays runs of bytes.
 pub trait ReplaysBytes: PlayedBytes {
     /// Plays a run, of which every fourth call copies or compares bytes, or reads or writes a stream.
     fn replay_bytes(&mut self, rt: &(impl Abort + AllocGlobal), maker: Values, run: Run) {
         let mut player = begin::<u8, Values, Self>(self, run, maker, rt.alloc());
-        for block in 0..BLOCKS {
+        for _ in 0..BLOCKS {
             for call in 1..=CALLS {
                 if call % 4 != 0 {
                     calls::play(self, &mut player).expect(rt, "memory");
@@ -151,15 +131,10 @@ pub trait ReplaysBytes: PlayedBytes {
                     self.play_bytes(&mut player).expect(rt, "memory");
                 }
             }
-            assert_agrees::<u8, Values, Self>(rt, self, &mut player, run, block);
+            look::<u8, Values, Self>(self, &mut player);
         }
+        assert_agrees(rt, run, player.digest());
     }
 }
 
-impl<const CAP: usize> ReplaysBytes for ConstGenericRingBuffer<u8, CAP> {}
-
-impl<const CAP: usize> ReplaysBytes for CopyRingBuffer<u8, CAP> {}
-
-impl ReplaysBytes for AllocRingBuffer<u8> {}
-
-impl ReplaysBytes for GrowableAllocRingBuffer<u8> {}
+impl<R: PlayedBytes> ReplaysBytes for R {}

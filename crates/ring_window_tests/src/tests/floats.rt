@@ -2,12 +2,8 @@
 
 use super::assert_equal;
 use super::random_calls::{Call, Sliding, call_window};
-use ring_slots::RingSlots;
-use ring_test_support::{on_array, on_growable, on_heap};
-use ringbuffer::{
-    ConstGenericRingBuffer, CopyRingBuffer, FixedRing, GrowableAllocRingBuffer, RingBuffer,
-    RingBufferExt,
-};
+use ring_test_support::on_ring;
+use ringbuffer::{ConstGenericRingBuffer, CopyRingBuffer, RingBuffer, RingBufferExt};
 use std::collections::VecDeque;
 use std::num::nearest_i64_to_f64;
 use std::process::Abort;
@@ -15,9 +11,9 @@ use window::{CopyWindowFloatSum, Summand, WindowFloatSum};
 
 #[test]
 fn sums_of_floating_point_numbers(rt: HostRuntime) {
-    on_heap!(&rt, 3, assert_sums);
-    on_growable!(&rt, 2, assert_recovers);
-    on_array!(&rt, 2, assert_signs_of_zeros);
+    on_ring!(heap, &rt, 3, assert_sums);
+    on_ring!(growable, &rt, 2, assert_recovers);
+    on_ring!(array, &rt, 2, assert_signs_of_zeros);
     CopyRingBuffer::<Summand, 10>::new(Summand::new(7.0)).assert_ten_tenths(&rt);
 }
 
@@ -125,9 +121,7 @@ trait OfSummands: RingBuffer<Summand> + Drop {
     }
 }
 
-impl<S: RingSlots<Summand>> OfSummands for FixedRing<Summand, S> {}
-
-impl OfSummands for GrowableAllocRingBuffer<Summand> {}
+impl<R: RingBuffer<Summand> + Drop> OfSummands for R {}
 
 impl<R: RingBuffer<Summand> + Drop> Sliding for WindowFloatSum<R> {
     type Answer = f64;
@@ -141,10 +135,8 @@ impl<R: RingBuffer<Summand> + Drop> Sliding for WindowFloatSum<R> {
     }
 
     fn by_walk(samples: &VecDeque<i64>) -> f64 {
-        samples
-            .iter()
-            .map(|sample| nearest_i64_to_f64(*sample))
-            .sum()
+        let samples = samples.iter().map(|sample| nearest_i64_to_f64(*sample));
+        samples.sum()
     }
 }
 

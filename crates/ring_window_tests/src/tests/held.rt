@@ -70,17 +70,9 @@ fn assert_drops<'a, R: RingBuffer<Stamped<Counted<'a>>> + Drop>(
 #[test]
 fn windows_of_time_drop_each_item_once(rt: HostRuntime) -> Result<(), AllocError> {
     let supply = Supply::new(rt.alloc(), 13)?;
-    assert_drops(
-        &rt,
-        AllocWindowTime::on_heap(rt.alloc(), 4, 10)?,
-        &supply,
-        1,
-    );
-    assert_drops(
-        &rt,
-        GrowableAllocWindowTime::growable(rt.alloc(), 10),
-        &supply,
-        0,
-    );
+    let heap = AllocWindowTime::on_heap(rt.alloc(), 4, 10)?;
+    assert_drops(&rt, heap, &supply, 1);
+    let growable = GrowableAllocWindowTime::growable(rt.alloc(), 10);
+    assert_drops(&rt, growable, &supply, 0);
     Ok(())
 }

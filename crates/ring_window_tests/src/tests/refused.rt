@@ -1,10 +1,9 @@
 //! Pushes that are refused memory: the item comes back, and the window answers as before.
 
 use super::assert_equal;
-use ring_slots::RingSlots;
 use ring_test_support::drought::Drought;
-use ring_test_support::on_heap;
-use ringbuffer::{FixedRing, GrowableAllocRingBuffer, RingBuffer};
+use ring_test_support::on_ring;
+use ringbuffer::{GrowableAllocRingBuffer, RingBuffer};
 use std::mem::size_of;
 use std::process::Abort;
 use window::{
@@ -47,15 +46,43 @@ macro_rules! assert_refused {
 }
 
 #[test]
-fn sum_after_a_refused_push(rt: HostRuntime) {
+fn windows_answer_as_before_a_refused_push(rt: HostRuntime) {
+    let rt = &rt;
     assert_refused!(
-        &rt,
+        rt,
         WindowSum::new,
         i64,
-        |window| window.sum(),
+        |w| w.sum(),
         [5, -7, 0],
         8,
         [-2, -7, 0, 8]
+    );
+    assert_refused!(
+        rt,
+        WindowFold::new,
+        Kept<Gcd>,
+        |window| window.fold(),
+        [Gcd(12), Gcd(18), Gcd(20)],
+        Gcd(7),
+        [Gcd(2), Gcd(2), Gcd(20), Gcd(1)]
+    );
+    assert_refused!(
+        rt,
+        WindowFloatSum::new,
+        Summand,
+        |window| window.sum(),
+        [0.5, -7.0, 0.0],
+        8.0,
+        [-6.5, -7.0, 0.0, 8.0]
+    );
+    assert_refused!(
+        rt,
+        WindowMin::new,
+        Candidate<i64>,
+        |window| window.min().copied(),
+        [5, -7, 9],
+        -8,
+        [Some(-7), Some(-7), Some(9), Some(-8)]
     );
 }
 
@@ -70,47 +97,8 @@ fn sum_after_a_refused_first_push(rt: HostRuntime) {
 }
 
 #[test]
-fn fold_after_a_refused_push(rt: HostRuntime) {
-    assert_refused!(
-        &rt,
-        WindowFold::new,
-        Kept<Gcd>,
-        |window| window.fold(),
-        [Gcd(12), Gcd(18), Gcd(20)],
-        Gcd(7),
-        [Gcd(2), Gcd(2), Gcd(20), Gcd(1)]
-    );
-}
-
-#[test]
-fn float_sum_after_a_refused_push(rt: HostRuntime) {
-    assert_refused!(
-        &rt,
-        WindowFloatSum::new,
-        Summand,
-        |window| window.sum(),
-        [0.5, -7.0, 0.0],
-        8.0,
-        [-6.5, -7.0, 0.0, 8.0]
-    );
-}
-
-#[test]
-fn least_after_a_refused_push(rt: HostRuntime) {
-    assert_refused!(
-        &rt,
-        WindowMin::new,
-        Candidate<i64>,
-        |window| window.min().copied(),
-        [5, -7, 9],
-        -8,
-        [Some(-7), Some(-7), Some(9), Some(-8)]
-    );
-}
-
-#[test]
 fn a_window_over_a_fixed_ring_takes_no_memory(rt: HostRuntime) {
-    on_heap!(&rt, 2, assert_sums_take_none);
+    on_ring!(heap, &rt, 2, assert_sums_take_none);
 }
 
 /// A ring that is summed up while memory is refused.
@@ -130,9 +118,7 @@ trait SummedUp: RingBuffer<i64> + Drop {
     }
 }
 
-impl<S: RingSlots<i64>> SummedUp for FixedRing<i64, S> {}
-
-impl SummedUp for GrowableAllocRingBuffer<i64> {}
+impl<R: RingBuffer<i64> + Drop> SummedUp for R {}
 
 /// Makes a window on the heap of each capacity, while there is a block for its slots and no other, and no smaller one.
 macro_rules! assert_made_of_one_block {
@@ -154,24 +140,12 @@ macro_rules! assert_made_of_one_block {
 fn windows_on_the_heap_take_one_block(rt: HostRuntime) {
     let (rt, alloc) = (&rt, rt.alloc());
     let _most = Drought::of_most(alloc).expect(rt, "memory");
-    assert_made_of_one_block!(rt, Candidate<i64>, |capacity| {
-        AllocWindowMin::<i64>::on_heap(alloc, capacity)
-    });
-    assert_made_of_one_block!(rt, Candidate<i64>, |capacity| {
-        AllocWindowMax::<i64>::on_heap(alloc, capacity)
-    });
-    assert_made_of_one_block!(rt, Kept<Gcd>, |capacity| {
-        AllocWindowFold::<Gcd>::on_heap(alloc, capacity)
-    });
-    assert_made_of_one_block!(rt, i64, |capacity| AllocWindowSum::on_heap(alloc, capacity));
-    assert_made_of_one_block!(rt, Summand, |capacity| {
-        AllocWindowFloatSum::on_heap(alloc, capacity)
-    });
-    for span in [0, 3] {
-        assert_made_of_one_block!(rt, Stamped<u32>, |capacity| {
-            AllocWindowTime::<u32>::on_heap(alloc, capacity, span)
-        });
-    }
+    assert_made_of_one_block!(rt, Candidate<i64>, |n| AllocWindowMin::<i64>::on_heap(alloc, n));
+    assert_made_of_one_block!(rt, Candidate<i64>, |n| AllocWindowMax::<i64>::on_heap(alloc, n));
+    assert_made_of_one_block!(rt, Kept<Gcd>, |n| AllocWindowFold::<Gcd>::on_heap(alloc, n));
+    assert_made_of_one_block!(rt, i64, |n| AllocWindowSum::on_heap(alloc, n));
+    assert_made_of_one_block!(rt, Summand, |n| AllocWindowFloatSum::on_heap(alloc, n));
+    assert_made_of_one_block!(rt, Stamped<u32>, |n| AllocWindowTime::<u32>::on_heap(alloc, n, 3));
 }
 
 #[test]
@@ -181,10 +155,7 @@ fn growable_windows_are_made_of_nothing(rt: HostRuntime) {
     let product = GrowableAllocWindowFold::<Gcd>::growable(rt.alloc());
     let timed = GrowableAllocWindowTime::<u32>::growable(rt.alloc(), 0);
     drop(drought);
-    let rooms = (
-        least.ring().capacity(),
-        product.ring().capacity(),
-        timed.ring().capacity(),
-    );
-    assert_equal(&rt, rooms, (0, 0, 0));
+    assert_equal(&rt, least.ring().capacity(), 0);
+    assert_equal(&rt, product.ring().capacity(), 0);
+    assert_equal(&rt, timed.ring().capacity(), 0);
 }

@@ -1,9 +1,8 @@
 //! Sums over each type of ring.
 
 use super::assert_equal;
-use ring_slots::RingSlots;
-use ring_test_support::{on_each, on_fixed, on_growable, on_heap};
-use ringbuffer::{FixedRing, GrowableAllocRingBuffer, RingBuffer};
+use ring_test_support::{on_each, on_fixed, on_ring};
+use ringbuffer::RingBuffer;
 use std::process::Abort;
 use window::WindowSum;
 
@@ -63,10 +62,10 @@ const OF_NOTHING: &[Slide] = &[Slide::Sum(0), Slide::ForgetOldest(None), Slide::
 
 #[test]
 fn a_window_sums_what_its_ring_holds(rt: HostRuntime) {
-    on_heap!(&rt, 3, assert_slides, &[], OF_THREE);
+    on_ring!(heap, &rt, 3, assert_slides, &[], OF_THREE);
     on_fixed!(&rt, 2, assert_slides, &[], LARGE);
     on_fixed!(&rt, 2, assert_slides, &[8, 9], OVER_A_FULL_RING);
-    on_growable!(&rt, 2, assert_slides, &[1, 2, 3], WITHOUT_A_LIMIT);
+    on_ring!(growable, &rt, 2, assert_slides, &[1, 2, 3], WITHOUT_A_LIMIT);
     on_each!(&rt, 2, assert_slides, &[], OF_NOTHING);
 }
 
@@ -85,6 +84,4 @@ trait Slid: RingBuffer<i64> + Drop {
     }
 }
 
-impl<S: RingSlots<i64>> Slid for FixedRing<i64, S> {}
-
-impl Slid for GrowableAllocRingBuffer<i64> {}
+impl<R: RingBuffer<i64> + Drop> Slid for R {}

@@ -1,13 +1,13 @@
 //! Clones and lists of a ring's items, and clones into another ring, where clones or memory are refused part of the way.
 
-use super::{are_numbered, hold_first};
+use super::{are_numbered, hold_first, in_drought};
 use crate::tests::{
     assert_dropped_after, assert_dropped_with, assert_equal, assert_numbered, assert_three,
-    drought, push_items, supply,
+    push_items, supply,
 };
 use ring_test_support::counted::{Counted, Supply};
 use ring_test_support::drought::{is_in_turn, spared};
-use ring_test_support::{on_each_of_any, on_growable_of_any, on_heap_of_any, refused_in_turn};
+use ring_test_support::{on_each_of_any, on_ring_of_any, refused_in_turn};
 use ringbuffer::{ConstGenericRingBuffer, RingBuffer};
 use std::alloc::AllocError;
 use std::process::Abort;
@@ -30,46 +30,29 @@ fn is_copied<'a, R: RingBuffer<Counted<'a>> + Clone + Drop>(
     spare: Option<usize>,
 ) -> bool {
     hold_first(rt, ring, supply, 3, most);
-    let drought = match spare {
-        Some(bytes) => Some(drought(rt, bytes)),
-        None => None,
-    };
-    let is_made = match copying {
+    let drought = in_drought(rt, spare);
+    let mut is_made = true;
+    match copying {
         Copying::Ring => {
             let made: Result<R, AllocError> = ring.clone();
             drop(drought);
-            is_cloned(rt, made)
+            match made {
+                Ok(twin) => assert_three(rt, &twin, 3),
+                Err(_) => is_made = false,
+            }
         }
         Copying::List => {
             let made = ring.to_vec(rt.alloc());
             drop(drought);
-            is_listed(rt, made)
+            match made {
+                Ok(list) => assert_equal(rt, (list.len(), are_numbered(&list, 3)), (3, true)),
+                Err(_) => is_made = false,
+            }
         }
-    };
+    }
     assert_dropped_after(rt, supply, 3);
     assert_three(rt, ring, 0);
     is_made
-}
-
-/// Tells whether a clone of three items was made. It holds the next three.
-fn is_cloned<'a, R: RingBuffer<Counted<'a>> + Drop>(
-    rt: &impl Abort,
-    made: Result<R, AllocError>,
-) -> bool {
-    let Ok(ring) = made else {
-        return false;
-    };
-    assert_three(rt, &ring, 3);
-    true
-}
-
-/// Tells whether a list of three clones was made. It has the next three.
-fn is_listed(rt: &impl Abort, made: Result<Vec<Counted<'_>>, AllocError>) -> bool {
-    let Ok(items) = made else {
-        return false;
-    };
-    assert_equal(rt, (items.len(), are_numbered(&items, 3)), (3, true));
-    true
 }
 
 /// Clones the items of a ring where from none to three clones are had.
@@ -106,8 +89,15 @@ fn assert_copies_refused<'a, R: RingBuffer<Counted<'a>> + Clone + Drop>(
 fn a_refused_clone_of_an_item_ends_a_clone_or_a_list(rt: HostRuntime) {
     let supply = supply(&rt, 6);
     on_each_of_any!(&rt, 3, assert_clones_refused, &supply, Copying::Ring);
-    on_heap_of_any!(&rt, 3, assert_clones_refused, &supply, Copying::List);
-    on_growable_of_any!(&rt, 3, assert_clones_refused, &supply, Copying::List);
+    on_ring_of_any!(heap, &rt, 3, assert_clones_refused, &supply, Copying::List);
+    on_ring_of_any!(
+        growable,
+        &rt,
+        3,
+        assert_clones_refused,
+        &supply,
+        Copying::List
+    );
 }
 
 /// Clones the three items of a ring into another that holds three, where from none to three clones are had.
@@ -133,19 +123,29 @@ fn assert_clone_into_refused<'a>(
 #[test]
 fn a_refused_clone_into_a_ring_leaves_those_before_it(rt: HostRuntime) {
     let supply = supply(&rt, 9);
-    assert_clone_into_refused(
-        &rt,
-        ConstGenericRingBuffer::new(),
-        ConstGenericRingBuffer::new(),
-        &supply,
-    );
+    let (ring, other) = (ConstGenericRingBuffer::new(), ConstGenericRingBuffer::new());
+    assert_clone_into_refused(&rt, ring, other, &supply);
 }
 
 #[test]
 fn a_clone_and_a_list_are_refused_in_turn(rt: HostRuntime) {
     let supply = supply(&rt, 6);
-    on_heap_of_any!(&rt, 3, assert_copies_refused, &supply, Copying::Ring);
-    on_growable_of_any!(&rt, 0, assert_copies_refused, &supply, Copying::Ring);
-    on_heap_of_any!(&rt, 3, assert_copies_refused, &supply, Copying::List);
-    on_growable_of_any!(&rt, 3, assert_copies_refused, &supply, Copying::List);
+    on_ring_of_any!(heap, &rt, 3, assert_copies_refused, &supply, Copying::Ring);
+    on_ring_of_any!(
+        growable,
+        &rt,
+        0,
+        assert_copies_refused,
+        &supply,
+        Copying::Ring
+    );
+    on_ring_of_any!(heap, &rt, 3, assert_copies_refused, &supply, Copying::List);
+    on_ring_of_any!(
+        growable,
+        &rt,
+        3,
+        assert_copies_refused,
+        &supply,
+        Copying::List
+    );
 }

@@ -1,16 +1,14 @@
-//! Fills that are refused part of the way, and calls that no refusal of memory meets.
+//! Fills that are refused part of the way.
 
 use super::hold_first;
 use crate::tests::own::OwnRing;
 use crate::tests::{
-    assert_dropped_with, assert_drops, assert_equal, assert_holds, assert_numbered, drought, next,
-    push_all, push_first, supply,
+    assert_dropped_with, assert_drops, assert_equal, assert_numbered, drought, next, push_first,
+    supply,
 };
 use ring_test_support::counted::{Counted, Supply};
-use ring_test_support::{on_each, on_each_of_any, on_growable_of_any};
-use ringbuffer::{
-    AllocRingBuffer, ConstGenericRingBuffer, CopyRingBuffer, GrowableAllocRingBuffer, RingBuffer,
-};
+use ring_test_support::{on_each_of_any, on_ring_of_any};
+use ringbuffer::RingBuffer;
 use std::process::Abort;
 
 /// Fills a ring where from none to more clones are had than there is room for.
@@ -61,36 +59,7 @@ fn a_refused_clone_or_memory_ends_a_fill(rt: HostRuntime) {
     let supply = supply(&rt, 40);
     on_each_of_any!(&rt, 3, assert_fill_refused, &supply);
     assert_fill_refused(&rt, OwnRing::new(rt.alloc()), &supply);
-    on_growable_of_any!(&rt, 3, assert_filled_in_a_drought, &supply, false);
-    on_growable_of_any!(&rt, 3, assert_filled_in_a_drought, &supply, true);
+    on_ring_of_any!(growable, &rt, 3, assert_filled_in_a_drought, &supply, false);
+    on_ring_of_any!(growable, &rt, 3, assert_filled_in_a_drought, &supply, true);
     assert_filled_in_a_drought(&rt, OwnRing::new(rt.alloc()), &supply, true);
 }
-
-#[test]
-fn comparisons_ask_for_no_memory(rt: HostRuntime) {
-    on_each!(&rt, 2, assert_comparison_takes_none);
-}
-
-/// A ring that is compared while memory is refused.
-trait ComparedWithNone: RingBuffer<i64> + PartialEq + Clone + Drop {
-    /// Compares a ring with its clone, and then with a shorter one.
-    fn assert_comparison_takes_none(&mut self, rt: &(impl Abort + AllocGlobal)) {
-        push_all(rt, self, &[1, 2]);
-        let mut other = self.clone().expect(rt, "memory");
-        let drought = drought(rt, 0);
-        let equal = *self == other;
-        other.skip();
-        let differ = *self != other;
-        drop(drought);
-        assert_equal(rt, (equal, differ), (true, true));
-        assert_holds(rt, self, &[1, 2]);
-    }
-}
-
-impl<const CAP: usize> ComparedWithNone for ConstGenericRingBuffer<i64, CAP> {}
-
-impl<const CAP: usize> ComparedWithNone for CopyRingBuffer<i64, CAP> {}
-
-impl ComparedWithNone for AllocRingBuffer<i64> {}
-
-impl ComparedWithNone for GrowableAllocRingBuffer<i64> {}

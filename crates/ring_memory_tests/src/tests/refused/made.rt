@@ -1,9 +1,6 @@
 //! What a ring of two items is made of, and how a ring of each type is made of it.
 
-use Source::{
-    Array, ArrayRef, ArrayRing, Deque, GrowableRing, HeapRing, Iterated, List, MutArray, MutSlice,
-    Slice, Vector,
-};
+use Source::*;
 use ring_test_support::counted::Counted;
 use ringbuffer::{AllocRingBuffer, ConstGenericRingBuffer, GrowableAllocRingBuffer, RingBuffer};
 use std::alloc::{AllocError, Global};
@@ -41,7 +38,7 @@ pub const MOVED: &[Source] = &[
 /// The sources whose items are cloned.
 pub const LENT: &[Source] = &[Slice, MutSlice, ArrayRef, MutArray];
 
-/// Two items in what holds them.
+/// Two items in what holds them before they are moved.
 #[derive(Drop)]
 pub enum Pair<'a> {
     Array(Counted<'a>, Counted<'a>),
@@ -55,7 +52,7 @@ pub enum Pair<'a> {
 }
 
 impl<'a> Pair<'a> {
-    /// Puts two items into what holds them before they are moved.
+    /// Puts two items into what holds them.
     pub fn of(
         alloc: Global,
         source: Source,
@@ -86,17 +83,28 @@ impl<'a> Pair<'a> {
     }
 }
 
+/// Makes a ring of clones.
+macro_rules! of_clones {
+    ($ring:ident, $source:expr, $($argument:expr),*) => {
+        match $source {
+            MutSlice => $ring::from_mut_slice($($argument),*),
+            ArrayRef => $ring::from_array_ref($($argument),*),
+            MutArray => $ring::from_mut_array($($argument),*),
+            _ => $ring::from_slice($($argument),*),
+        }
+    };
+}
+
+/// Two items that are lent.
+type Lent<'a> = [Counted<'a>; 2];
+
 /// A ring that can be made of two items.
 pub trait Made<'a>: Sized {
     /// Makes a ring of items that are moved.
     fn of(alloc: Global, source: Pair<'a>) -> Result<Self, AllocError>;
 
     /// Makes a ring of clones.
-    fn of_clones(
-        alloc: Global,
-        items: &mut [Counted<'a>; 2],
-        source: Source,
-    ) -> Result<Self, AllocError>;
+    fn of_clones(alloc: Global, items: &mut Lent<'a>, source: Source) -> Result<Self, AllocError>;
 }
 
 impl<'a> Made<'a> for ConstGenericRingBuffer<Counted<'a>, 2> {
@@ -113,17 +121,8 @@ impl<'a> Made<'a> for ConstGenericRingBuffer<Counted<'a>, 2> {
         })
     }
 
-    fn of_clones(
-        _: Global,
-        items: &mut [Counted<'a>; 2],
-        source: Source,
-    ) -> Result<Self, AllocError> {
-        match source {
-            MutSlice => ConstGenericRingBuffer::from_mut_slice(items),
-            ArrayRef => ConstGenericRingBuffer::from_array_ref(items),
-            MutArray => ConstGenericRingBuffer::from_mut_array(items),
-            _ => ConstGenericRingBuffer::from_slice(items),
-        }
+    fn of_clones(_: Global, items: &mut Lent<'a>, source: Source) -> Result<Self, AllocError> {
+        of_clones!(ConstGenericRingBuffer, source, items)
     }
 }
 
@@ -147,17 +146,8 @@ impl<'a> Made<'a> for AllocRingBuffer<Counted<'a>> {
         }
     }
 
-    fn of_clones(
-        alloc: Global,
-        items: &mut [Counted<'a>; 2],
-        source: Source,
-    ) -> Result<Self, AllocError> {
-        match source {
-            MutSlice => AllocRingBuffer::from_mut_slice(alloc, items),
-            ArrayRef => AllocRingBuffer::from_array_ref(alloc, items),
-            MutArray => AllocRingBuffer::from_mut_array(alloc, items),
-            _ => AllocRingBuffer::from_slice(alloc, items),
-        }
+    fn of_clones(alloc: Global, items: &mut Lent<'a>, source: Source) -> Result<Self, AllocError> {
+        of_clones!(AllocRingBuffer, source, alloc, items)
     }
 }
 
@@ -175,16 +165,7 @@ impl<'a> Made<'a> for GrowableAllocRingBuffer<Counted<'a>> {
         }
     }
 
-    fn of_clones(
-        alloc: Global,
-        items: &mut [Counted<'a>; 2],
-        source: Source,
-    ) -> Result<Self, AllocError> {
-        match source {
-            MutSlice => GrowableAllocRingBuffer::from_mut_slice(alloc, items),
-            ArrayRef => GrowableAllocRingBuffer::from_array_ref(alloc, items),
-            MutArray => GrowableAllocRingBuffer::from_mut_array(alloc, items),
-            _ => GrowableAllocRingBuffer::from_slice(alloc, items),
-        }
+    fn of_clones(alloc: Global, items: &mut Lent<'a>, source: Source) -> Result<Self, AllocError> {
+        of_clones!(GrowableAllocRingBuffer, source, alloc, items)
     }
 }

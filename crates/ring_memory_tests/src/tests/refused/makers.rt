@@ -91,10 +91,7 @@ fn a_maker_takes_one_block_or_is_refused(rt: HostRuntime) {
     for (maker, capacity, slots, wanted) in MADE {
         let made = made_by(&rt, *maker, *capacity, slots.saturating_mul(8));
         assert_equal(&rt, (*maker, made), (*maker, Some(*wanted)));
-        assert_equal(
-            &rt,
-            (*maker, made_by(&rt, *maker, *capacity, 0)),
-            (*maker, None),
-        );
+        let refused = made_by(&rt, *maker, *capacity, 0);
+        assert_equal(&rt, (*maker, refused), (*maker, None));
     }
 }

@@ -82,7 +82,7 @@ fn a_refused_extension_leaves_a_beginning(rt: HostRuntime) {
         let refused = refused_in_turn!(
             &rt,
             step,
-            is_extended(&rt, &supply, by_command, spared(step))
+            { is_extended(&rt, &supply, by_command, spared(step)) }
         );
         assert!(rt; is_in_turn(refused) && refused > 1);
     }

@@ -76,14 +76,6 @@ impl Script {
         }
     }
 
-    /// Asserts that its first `done` commands are replied to like this.
-    fn assert_replies(&self, rt: &impl Abort, replies: &[Reply<Counted<'_>>], done: usize) {
-        assert_equal(rt, replies.len(), done);
-        for (i, reply) in replies.iter().enumerate() {
-            assert_equal(rt, (i, self.is_reply(reply, i)), (i, true));
-        }
-    }
-
     /// Asserts that the places hold the replies to its first `done` commands, and no other.
     fn assert_places(&self, rt: &impl Abort, places: &[Option<Reply<Counted<'_>>>], done: usize) {
         for (i, place) in places.iter().enumerate() {
@@ -104,19 +96,13 @@ impl Script {
     ) {
         let first = if done > 2 { 1 } else { 0 };
         let found = ring.len().saturating_add(first);
-        let end = match done {
-            0 => 0,
-            1 => {
-                assert!(rt; 1 <= found && found <= self.extension);
-                found
-            }
-            3 => self.extension.saturating_add(1),
-            _ => {
-                assert_equal(rt, done, 4);
-                self.items()
-            }
+        let is_right = match done {
+            0 => found == 0,
+            1 => 1 <= found && found <= self.extension,
+            3 => found == self.extension.saturating_add(1),
+            _ => done == 4 && found == self.items(),
         };
-        assert_equal(rt, found, end);
+        assert_equal(rt, (done, found, is_right), (done, found, true));
         assert_numbered(rt, &ring, first);
     }
 }
@@ -144,7 +130,10 @@ fn done_by_run<'a, R: RingBuffer<Counted<'a>> + Drop>(
         }
     };
     let count = done.unwrap_or(0);
-    script.assert_replies(rt, replies.as_slice(), count);
+    assert_equal(rt, replies.len(), count);
+    for (i, reply) in replies.iter().enumerate() {
+        assert_equal(rt, (i, script.is_reply(reply, i)), (i, true));
+    }
     script.assert_done(rt, ring, count);
     assert_dropped_with(rt, supply, replies);
     done
@@ -211,12 +200,7 @@ fn done_into_places(
     supply.begin_again();
     let mut ring = GrowableAllocRingBuffer::new(rt.alloc());
     let commands = script.commands(rt, supply);
-    let mut places = [
-        Some(Reply::Cleared),
-        Some(Reply::Cleared),
-        Some(Reply::Cleared),
-        Some(Reply::Cleared),
-    ];
+    let mut places = [const { Some(Reply::Cleared) }; 4];
     assert_eq!(rt; commands.len(), 4);
     let drought = drought(rt, spare);
     let answered = run_into(&mut ring, commands, &mut places);
@@ -238,7 +222,7 @@ fn places_hold_the_replies_before_a_refusal(rt: HostRuntime) {
     let refused = refused_in_turn!(
         &rt,
         step,
-        done_into_places(&rt, &supply, &script, spared(step)) == 4
+        { done_into_places(&rt, &supply, &script, spared(step)) == 4 }
     );
     assert!(rt; is_in_turn(refused) && refused > 1);
 }

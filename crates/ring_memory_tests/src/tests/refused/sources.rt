@@ -1,12 +1,13 @@
 //! Rings made of two items of each source, or of a text, with memory for it and without.
 
+use super::in_drought;
 use super::made::Source::{
     self, Array, ArrayRing, Deque, GrowableRing, HeapRing, Iterated, List, Vector,
 };
 use super::made::{LENT, MOVED, Made, Pair};
 use crate::tests::{assert_equal, assert_numbered, drought, next, supply};
 use ring_test_support::counted::{Counted, Supply};
-use ring_test_support::drought::{Drought, is_in_turn, spared};
+use ring_test_support::drought::{is_in_turn, spared};
 use ring_test_support::refused_in_turn;
 use ring_test_support::spelled::Spelled;
 use ringbuffer::{AllocRingBuffer, ConstGenericRingBuffer, GrowableAllocRingBuffer, RingBuffer};
@@ -45,14 +46,6 @@ fn is_made<'a, R: RingBuffer<Counted<'a>> + Made<'a> + Drop>(
     drop(lent);
     assert_equal(rt, supply.first_fault(0), None);
     is_made
-}
-
-/// Makes a drought, if it is said what it spares.
-fn in_drought(rt: &(impl Abort + AllocGlobal), spare: Option<usize>) -> Option<Drought> {
-    match spare {
-        Some(bytes) => Some(drought(rt, bytes)),
-        None => None,
-    }
 }
 
 /// Makes a ring of each source, and of fewer clones than items.
