@@ -20,7 +20,7 @@ use std::rt::Env;
 use std::{env, io};
 
 fn main(rt: HostRuntime) -> io::Result<()> {
-    let words: Vec<String> = env::args(&rt)?.skip(1).collect(rt.alloc())?;
+    let words = words(&rt)?;
     let [job, seed, rounds] = words.as_slice() else {
         return eprintln!(rt; "usage: ring_jobs JOB SEED ROUNDS");
     };
@@ -32,6 +32,11 @@ fn main(rt: HostRuntime) -> io::Result<()> {
         job => one(rt.alloc(), job, u64::from(seed), rounds)?,
     };
     println!(rt; "{digest}")
+}
+
+/// Returns the program's arguments after its name.
+fn words(rt: &(impl Env + AllocGlobal)) -> io::Result<Vec<String>> {
+    Ok(env::args(rt)?.skip(1).collect(rt.alloc())?)
 }
 
 /// Does the job of this name, if there is one, and returns its digest.

@@ -119,22 +119,6 @@ impl Pipes {
     }
 }
 
-/// Goes over a text in pieces of up to `most` bytes.
-macro_rules! for_each_piece {
-    ($text:expr, $random:expr, $most:expr, |$piece:ident| $body:block) => {
-        let mut rest = $text;
-        for _ in 0..$text.len() {
-            if rest.is_empty() {
-                break;
-            }
-            let count = rest.len().min(1 + $random.below($most));
-            let ($piece, later) = rest.split_at(count);
-            rest = later;
-            $body
-        }
-    };
-}
-
 /// Sends a text through a pipe in pieces of up to `most` bytes, and takes out about as many as came in.
 #[inline(never)]
 fn send_on(
@@ -147,12 +131,19 @@ fn send_on(
 )
     requires { 0 < most }
 {
-    for_each_piece!(text, random, most, |piece| {
-        digest.add(pipe.receive(piece) as u64);
+    let mut rest = text;
+    for _ in 0..text.len() {
+        if rest.is_empty() {
+            break;
+        }
+        let piece = rest.len().min(1 + random.below(most));
+        let (now, later) = rest.split_at(piece);
+        digest.add(pipe.receive(now) as u64);
+        rest = later;
         let places = buffer.len().min(1 + random.below(most));
         let sent = pipe.send(&mut buffer[..places]);
         digest_piece(buffer, sent, digest);
-    });
+    }
 }
 
 /// Adds the number of bytes that came out to the digest, and all of them.
@@ -176,12 +167,19 @@ fn stream<R: Read + Write>(
 ) -> io::Result<()>
     requires { 0 < most }
 {
-    for_each_piece!(text, random, most, |piece| {
-        digest.add(ring.write(piece)? as u64);
+    let mut rest = text;
+    for _ in 0..text.len() {
+        if rest.is_empty() {
+            break;
+        }
+        let piece = rest.len().min(1 + random.below(most));
+        let (now, later) = rest.split_at(piece);
+        digest.add(ring.write(now)? as u64);
+        rest = later;
         let places = buffer.len().min(1 + random.below(most));
         let count = ring.read(&mut buffer[..places])?;
         digest_piece(buffer, count, digest);
-    });
+    }
     Ok(())
 }
 
@@ -196,10 +194,17 @@ fn log<W: Write>(
 ) -> io::Result<()>
     requires { 0 < most }
 {
-    for_each_piece!(text, random, most, |piece| {
-        last.write_all(piece)?;
-        digest.add(piece.len() as u64);
-    });
+    let mut rest = text;
+    for _ in 0..text.len() {
+        if rest.is_empty() {
+            break;
+        }
+        let piece = rest.len().min(1 + random.below(most));
+        let (now, later) = rest.split_at(piece);
+        last.write_all(now)?;
+        rest = later;
+        digest.add(piece as u64);
+    }
     Ok(())
 }
 

@@ -5,6 +5,41 @@ use crate::random::Random;
 use crate::script::{Numerals, Shape, write_script};
 use ringrun_service::serve;
 use std::alloc::{AllocError, Global};
+use std::io;
+use std::io::{Read, Write};
+
+/// Bytes that are read from memory.
+#[derive(Drop)]
+struct Source<'a> {
+    rest: &'a [u8],
+}
+
+impl Read for Source<'_> {
+    fn read(&mut self, buf: &mut [u8]) -> io::Result<usize> {
+        let count = buf.len().min(self.rest.len());
+        let (given, left) = self.rest.split_at(count);
+        buf[..count].copy_from_slice(given);
+        self.rest = left;
+        Ok(count)
+    }
+}
+
+/// What was written, in memory.
+#[derive(Drop)]
+struct Sink {
+    bytes: Vec<u8>,
+}
+
+impl Write for Sink {
+    fn write(&mut self, buf: &[u8]) -> io::Result<usize> {
+        self.bytes.extend_from_slice(buf)?;
+        Ok(buf.len())
+    }
+
+    fn flush(&mut self) -> io::Result<()> {
+        Ok(())
+    }
+}
 
 /// The shapes of scripts, in turn. Most lines that users write are of the first.
 const SHAPES: [Shape; 8] = [
@@ -46,9 +81,15 @@ fn arguments(alloc: Global, kind: &str, capacity: &str) -> Result<Vec<String>, A
 
 /// Serves a script, and adds its status and what it wrote to the digest.
 fn serve_script(alloc: Global, words: &[String], script: &[u8], digest: &mut Digest) {
-    let (mut input, mut output, mut errors) = (script, Vec::new(alloc), Vec::new(alloc));
+    let mut input = Source { rest: script };
+    let mut output = Sink {
+        bytes: Vec::new(alloc),
+    };
+    let mut errors = Sink {
+        bytes: Vec::new(alloc),
+    };
     let status = serve(alloc, words, &mut input, &mut output, &mut errors);
     digest.add(u64::from(status));
-    digest.add_bytes(output.as_slice());
-    digest.add_bytes(errors.as_slice());
+    digest.add_bytes(output.bytes.as_slice());
+    digest.add_bytes(errors.bytes.as_slice());
 }

@@ -62,15 +62,24 @@ pub fn run(alloc: Global, seed: u64, rounds: u32) -> Result<u64, AllocError> {
         let reads_all = round % 4 == 0;
         for number in 0..16 {
             blocks.renew(&mut random)?;
-            let (bits16, block) = (blocks.bits16.as_slice(), blocks.bits64.as_slice());
-            read_at_delays(&mut delay, bits16, &mut random, &mut digest);
+            read_at_delays(
+                &mut delay,
+                blocks.bits16.as_slice(),
+                &mut random,
+                &mut digest,
+            );
             let is_whole = reads_all && number == 15;
             filter(&mut signal, blocks.floats.as_slice(), is_whole, &mut digest);
-            history.extend_from_slice(block);
+            history.extend_from_slice(blocks.bits64.as_slice());
             let is_whole = is_whole && round % 64 == 16;
-            read_back(&mut wide, block, is_whole, &mut digest);
-            pass_on(&mut queue, block, &mut random, &mut digest)?;
-            digest_few(block, &mut digest);
+            read_back(&mut wide, blocks.bits64.as_slice(), is_whole, &mut digest);
+            pass_on(
+                &mut queue,
+                blocks.bits64.as_slice(),
+                &mut random,
+                &mut digest,
+            )?;
+            digest_few(blocks.bits64.as_slice(), &mut digest);
         }
         snapshot(&history, &mut kept, &mut digest)?;
         copy_out(alloc, &blocks, &mut digest)?;

@@ -47,19 +47,18 @@ impl Numerals {
 
     /// Returns a random one of the short numerals.
     fn short(&self, random: &mut Random) -> &str {
-        any_of(&self.short, random)
+        match self.short.get(random.below(NUMERALS)) {
+            Some(numeral) => numeral.as_str(),
+            None => "0",
+        }
     }
 
     /// Returns a random one of the long numerals.
     fn long(&self, random: &mut Random) -> &str {
-        any_of(&self.long, random)
-    }
-}
-
-fn any_of<'n>(numerals: &'n [String], random: &mut Random) -> &'n str {
-    match numerals.get(random.below(NUMERALS)) {
-        Some(numeral) => numeral.as_str(),
-        None => "0",
+        match self.long.get(random.below(NUMERALS)) {
+            Some(numeral) => numeral.as_str(),
+            None => "0",
+        }
     }
 }
 
@@ -143,10 +142,15 @@ fn write_mixed_line(
         42..46 => script.extend_from_slice(b"\n"),
         46..48 => script.extend_from_slice(b"  dequeue\t\r\n"),
         48 => script.extend_from_slice(b"clear\n"),
-        line => {
+        49..60 => {
             script.extend_from_slice(b"push ")?;
             script.extend_from_slice(numerals.short(random).as_bytes())?;
-            script.extend_from_slice(if line < 60 { b"\r\n" } else { b"\n".as_slice() })
+            script.extend_from_slice(b"\r\n")
+        }
+        _ => {
+            script.extend_from_slice(b"push ")?;
+            script.extend_from_slice(numerals.short(random).as_bytes())?;
+            script.extend_from_slice(b"\n")
         }
     }
 }

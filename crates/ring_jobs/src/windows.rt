@@ -49,101 +49,110 @@ impl Walk {
     }
 }
 
-/// Where stretches of a series come from, and how many do.
-#[derive(Drop)]
-struct Stretches {
-    alloc: Global,
-    random: Random,
-    rounds: u32,
-}
-
-/// Goes over the stretches of a new walk.
-macro_rules! for_each_stretch {
-    ($stretches:expr, |$samples:ident| $body:block) => {
-        let mut walk = Walk::new();
-        let mut stretch = Vec::with_capacity($stretches.alloc, SAMPLES as usize)?;
-        for _ in 0..$stretches.rounds {
-            stretch.clear();
-            for _ in 0..SAMPLES {
-                stretch.push(walk.sample(&mut $stretches.random))?;
-            }
-            let $samples = stretch.as_slice();
-            $body
-        }
-    };
+/// Puts the next samples in place of the old ones.
+fn renew(samples: &mut Vec<i64>, walk: &mut Walk, random: &mut Random) -> Result<(), AllocError> {
+    samples.clear();
+    for _ in 0..SAMPLES {
+        samples.push(walk.sample(random))?;
+    }
+    Ok(())
 }
 
 /// Pushes `rounds` stretches of a series onto windows of each kind, and returns a digest of what was read after each push.
 pub fn run(alloc: Global, seed: u64, rounds: u32) -> Result<u64, AllocError> {
+    let mut random = Random::new(seed);
     let mut digest = Digest::new();
-    let mut stretches = Stretches {
-        alloc,
-        random: Random::new(seed),
-        rounds,
-    };
-    sums(&mut stretches, &mut digest)?;
-    leasts(&mut stretches, &mut digest)?;
-    large_leasts(&mut stretches, &mut digest)?;
-    folds(&mut stretches, &mut digest)?;
+    sums(alloc, &mut random, rounds, &mut digest)?;
+    leasts(alloc, &mut random, rounds, &mut digest)?;
+    large_leasts(alloc, &mut random, rounds, &mut digest)?;
+    folds(alloc, &mut random, rounds, &mut digest)?;
     Ok(digest.value())
 }
 
 /// Pushes samples onto windows that know their sum.
-fn sums(stretches: &mut Stretches, digest: &mut Digest) -> Result<(), AllocError> {
-    let alloc = stretches.alloc;
+fn sums(
+    alloc: Global,
+    random: &mut Random,
+    rounds: u32,
+    digest: &mut Digest,
+) -> Result<(), AllocError> {
+    let mut walk = Walk::new();
+    let mut samples = Vec::with_capacity(alloc, SAMPLES as usize)?;
     let mut heap = AllocWindowSum::on_heap(alloc, 1000)?;
     let mut array = ConstGenericWindowSum::<100>::in_array();
     let mut queue = GrowableAllocWindowSum::growable(alloc);
     let mut moments = AllocWindowMoments::on_heap(alloc, 100)?;
-    for_each_stretch!(stretches, |samples| {
-        slide_sum(&mut heap, samples, usize::MAX, digest);
-        slide_sum(&mut array, samples, usize::MAX, digest);
-        slide_sum(&mut queue, samples, 1000, digest);
-        slide_moments(&mut moments, samples, digest);
-    });
+    for _ in 0..rounds {
+        renew(&mut samples, &mut walk, random)?;
+        slide_sum(&mut heap, &samples, usize::MAX, digest);
+        slide_sum(&mut array, &samples, usize::MAX, digest);
+        slide_sum(&mut queue, &samples, 1000, digest);
+        slide_moments(&mut moments, &samples, digest);
+    }
     Ok(())
 }
 
 /// Pushes samples onto windows that know their least sample, or their greatest.
-fn leasts(stretches: &mut Stretches, digest: &mut Digest) -> Result<(), AllocError> {
-    let alloc = stretches.alloc;
+fn leasts(
+    alloc: Global,
+    random: &mut Random,
+    rounds: u32,
+    digest: &mut Digest,
+) -> Result<(), AllocError> {
+    let mut walk = Walk::new();
+    let mut samples = Vec::with_capacity(alloc, SAMPLES as usize)?;
     let mut heap = AllocWindowMin::on_heap(alloc, 1000)?;
     let mut small = ConstGenericWindowMin::<i64, 3>::in_array();
     let mut greatest = ConstGenericWindowMax::<i64, 100>::in_array();
     let mut queue = GrowableAllocWindowMin::growable(alloc);
-    for_each_stretch!(stretches, |samples| {
-        slide_least(&mut heap, samples, usize::MAX, digest);
-        slide_least(&mut small, samples, usize::MAX, digest);
-        slide_least(&mut greatest, samples, usize::MAX, digest);
-        slide_least(&mut queue, samples, 1000, digest);
-    });
+    for _ in 0..rounds {
+        renew(&mut samples, &mut walk, random)?;
+        slide_least(&mut heap, &samples, usize::MAX, digest);
+        slide_least(&mut small, &samples, usize::MAX, digest);
+        slide_least(&mut greatest, &samples, usize::MAX, digest);
+        slide_least(&mut queue, &samples, 1000, digest);
+    }
     Ok(())
 }
 
 /// Pushes samples onto large windows that know their least sample, or their greatest: a walk, and a long rise and fall.
-fn large_leasts(stretches: &mut Stretches, digest: &mut Digest) -> Result<(), AllocError> {
-    let alloc = stretches.alloc;
+fn large_leasts(
+    alloc: Global,
+    random: &mut Random,
+    rounds: u32,
+    digest: &mut Digest,
+) -> Result<(), AllocError> {
+    let mut walk = Walk::new();
+    let mut samples = Vec::with_capacity(alloc, SAMPLES as usize)?;
     let mut greatest = AllocWindowMax::on_heap(alloc, 65536)?;
     let mut least = AllocWindowMin::on_heap(alloc, 65536)?;
     let mut tide = 0;
-    for_each_stretch!(stretches, |samples| {
-        slide_least(&mut greatest, samples, usize::MAX, digest);
+    for _ in 0..rounds {
+        renew(&mut samples, &mut walk, random)?;
+        slide_least(&mut greatest, &samples, usize::MAX, digest);
         tide = slide_tide(&mut least, tide, digest);
-    });
+    }
     Ok(())
 }
 
 /// Pushes bytes and matrices onto windows that fold them.
-fn folds(stretches: &mut Stretches, digest: &mut Digest) -> Result<(), AllocError> {
-    let alloc = stretches.alloc;
+fn folds(
+    alloc: Global,
+    random: &mut Random,
+    rounds: u32,
+    digest: &mut Digest,
+) -> Result<(), AllocError> {
+    let mut walk = Walk::new();
+    let mut samples = Vec::with_capacity(alloc, SAMPLES as usize)?;
     let mut hash = AllocWindowFold::on_heap(alloc, 1000)?;
     let mut product = ConstGenericWindowFold::<Matrix, 100>::in_array();
     let mut queue = GrowableAllocWindowFold::growable(alloc);
-    for_each_stretch!(stretches, |samples| {
-        slide_hash(&mut hash, samples, digest);
-        slide_product(&mut product, samples, usize::MAX, digest);
-        slide_product(&mut queue, samples, 1000, digest);
-    });
+    for _ in 0..rounds {
+        renew(&mut samples, &mut walk, random)?;
+        slide_hash(&mut hash, &samples, digest);
+        slide_product(&mut product, &samples, usize::MAX, digest);
+        slide_product(&mut queue, &samples, 1000, digest);
+    }
     Ok(())
 }
 

@@ -145,7 +145,9 @@ fn windows_on_the_heap_take_one_block(rt: HostRuntime) {
     assert_made_of_one_block!(rt, Kept<Gcd>, |n| AllocWindowFold::<Gcd>::on_heap(alloc, n));
     assert_made_of_one_block!(rt, i64, |n| AllocWindowSum::on_heap(alloc, n));
     assert_made_of_one_block!(rt, Summand, |n| AllocWindowFloatSum::on_heap(alloc, n));
-    assert_made_of_one_block!(rt, Stamped<u32>, |n| AllocWindowTime::<u32>::on_heap(alloc, n, 3));
+    for span in [0, 3] {
+        assert_made_of_one_block!(rt, Stamped<u32>, |n| AllocWindowTime::on_heap(alloc, n, span));
+    }
 }
 
 #[test]
