@@ -153,6 +153,9 @@ const MANY: &[Call<'static>] = &[
     RemoveRange(10, 50),
     RetainOdd,
     TakeAll,
+    Push(100),
+    TakeAll,
+    Dropped(0, 240),
 ];
 
 /// Types of ring, a capacity, what the calls are about, and the calls.
