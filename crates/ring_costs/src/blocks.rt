@@ -2,7 +2,6 @@
 
 use crate::item::Item;
 use crate::ring::Measured;
-use crate::sums::{sum_of, xor_of};
 use ringbuffer::RingBufferExt;
 
 #[inline(never)]
@@ -90,7 +89,11 @@ pub fn bring_clones<T: Item, R: Measured<T>>(ring: &mut R, items: &[T], times: u
 
 #[inline(never)]
 pub fn copy<T: Item, R: Measured<T>>(ring: &R, output: &mut [T], times: u32) -> u64 {
-    sum_of!(times, |_| ring.copy(output) as u64)
+    let mut sum = 0u64;
+    for _ in 0..times {
+        sum = sum.wrapping_add(ring.copy(output) as u64);
+    }
+    sum
 }
 
 #[inline(never)]
@@ -100,11 +103,12 @@ pub fn take_in<T: Item, R: Measured<T>>(
     output: &mut [T],
     times: u32,
 ) -> u64 {
-    sum_of!(times, |_| {
-        let count = ring.take(output);
+    let mut sum = 0u64;
+    for _ in 0..times {
+        sum = sum.wrapping_add(ring.take(output) as u64);
         ring.bring(items);
-        count as u64
-    })
+    }
+    sum
 }
 
 #[inline(never)]
@@ -147,8 +151,10 @@ pub fn keep_newest_in<T: Item, R: Measured<T>>(
 // Pushes move the first item on, so that the ring goes round its slots again.
 #[inline(never)]
 pub fn bring_contiguous<T: Item, R: Measured<T>>(ring: &mut R, items: &[T], times: u32) -> u64 {
-    xor_of!(times, |_| {
+    let mut sum = 0u64;
+    for _ in 0..times {
         ring.bring(items);
-        ring.contiguous()
-    })
+        sum ^= ring.contiguous();
+    }
+    sum
 }

@@ -2,7 +2,6 @@
 ghost use Rattle.std.specs.Prelude.{IsSome};
 
 use crate::case::Case;
-use crate::sums::xor_of;
 use ringbuffer::{LastBytes, RingBuffer};
 use std::alloc::{AllocError, Global};
 use std::io::{BufRead, Read, Write};
@@ -19,29 +18,39 @@ pub fn by<R: RingBuffer<u8> + Read + BufRead + Write + Drop>(
     case: Case<'_>,
 ) -> Result<u64, AllocError> {
     case.fill(&mut ring);
-    let (bytes, mut output) = (case.block::<u8>(alloc)?, case.block::<u8>(alloc)?);
+    let bytes = case.block::<u8>(alloc)?;
+    let mut output = case.block::<u8>(alloc)?;
     Ok(match case.call {
-        "write_read" => write_read(&mut ring, &bytes, &mut output, case.times),
-        _ => write_consume(&mut ring, &bytes, case.times),
+        "write_read" => write_read(
+            &mut ring,
+            bytes.as_slice(),
+            output.as_mut_slice(),
+            case.times,
+        ),
+        _ => write_consume(&mut ring, bytes.as_slice(), case.times),
     })
 }
 
 #[inline(never)]
 fn write_read<R: Read + Write>(ring: &mut R, bytes: &[u8], output: &mut [u8], times: u32) -> u64 {
-    xor_of!(times, |_| {
-        let written = ring.write(bytes).unwrap_or(0);
-        (written ^ ring.read(output).unwrap_or(0)) as u64
-    })
+    let mut sum = 0u64;
+    for _ in 0..times {
+        sum ^= ring.write(bytes).unwrap_or(0) as u64;
+        sum ^= ring.read(output).unwrap_or(0) as u64;
+    }
+    sum
 }
 
 #[inline(never)]
 fn write_consume<R: BufRead + Write>(ring: &mut R, bytes: &[u8], times: u32) -> u64 {
-    xor_of!(times, |_| {
-        let written = ring.write(bytes).unwrap_or(0);
+    let mut sum = 0u64;
+    for _ in 0..times {
+        sum ^= ring.write(bytes).unwrap_or(0) as u64;
         let lent = ring.fill_buf().map_or(0, |bytes| bytes.len());
+        sum ^= lent as u64;
         ring.consume(lent.min(bytes.len()));
-        (written ^ lent) as u64
-    })
+    }
+    sum
 }
 
 /// Writes blocks to the end of a log over a ring that is empty, and returns what it found, as a number.
@@ -61,5 +70,9 @@ fn last_bytes<R: RingBuffer<u8> + Drop>(ring: R, bytes: &[u8], times: u32) -> u6
     requires { IsSome (R.limit ring) }
 {
     let mut log = LastBytes::new(ring);
-    xor_of!(times, |_| log.write(bytes).unwrap_or(0) as u64)
+    let mut sum = 0u64;
+    for _ in 0..times {
+        sum ^= log.write(bytes).unwrap_or(0) as u64;
+    }
+    sum
 }

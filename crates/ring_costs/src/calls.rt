@@ -1,24 +1,27 @@
 //! The calls of every ring, each in a loop of its own.
 
-use crate::blocks;
+use crate::blocks::{
+    bring, bring_clones, bring_contiguous, clear_extend, copy, drain_extend, extend, extend_more,
+    fill, keep_newest_in, remove_range_extend, retain_push, take_in, truncate_in,
+};
 use crate::case::Case;
 use crate::item::Item;
 use crate::ring::Measured;
-use crate::sums::{sum_of, xor_of};
-use crate::whole::{self, found};
+use crate::whole::{clone, clone_into, eq, eq_slice, found, to_vec};
 use ringbuffer::{RingBufferIterator, partition_point};
 use std::alloc::{AllocError, Global};
 
-/// Makes the call of a case on a ring that is empty, and returns what it found, as a number.
-pub fn by<T: Item, R: Measured<T> + Drop>(
+/// Makes the call of a case, and returns what it found, as a number.
+pub fn repeat<T: Item, R: Measured<T> + Drop>(
     alloc: Global,
-    mut ring: R,
+    ring: &mut R,
     case: Case<'_>,
 ) -> Result<u64, AllocError> {
-    case.fill(&mut ring);
-    let (ring, times) = (&mut ring, case.times);
-    let (items, mut output) = (case.block::<T>(alloc)?, case.block::<T>(alloc)?);
-    let (items, output) = (items.as_slice(), output.as_mut_slice());
+    let times = case.times;
+    let items = case.block::<T>(alloc)?;
+    let items = items.as_slice();
+    let mut output = case.block::<T>(alloc)?;
+    let output = output.as_mut_slice();
     Ok(match case.call {
         "push" => push(ring, times),
         "push_dequeue" => push_dequeue(ring, times),
@@ -32,71 +35,79 @@ pub fn by<T: Item, R: Measured<T> + Drop>(
         "contains" => contains(ring, times),
         "partition_point" => point(ring, times),
         "iter" => iter(ring, times),
-        "to_vec" => whole::to_vec(alloc, ring, times),
-        "clone" => whole::clone(ring, times),
-        "clone_into" => whole::clone_into(ring, times),
-        "eq" => whole::eq(ring, times),
-        "eq_slice" => whole::eq_slice(alloc, ring, times),
-        "fill" => blocks::fill(ring, times),
-        "clear_extend" => blocks::clear_extend(ring, items, times),
-        "extend" => blocks::extend(ring, items, times),
-        "extend_more" => blocks::extend_more(ring, items, times),
-        "drain_extend" => blocks::drain_extend(ring, items, times),
-        "retain_push" => blocks::retain_push(ring, times),
-        "in" => blocks::bring(ring, items, times),
-        "clones_in" => blocks::bring_clones(ring, items, times),
-        "in_contiguous" => blocks::bring_contiguous(ring, items, times),
-        "copy" => blocks::copy(ring, output, times),
-        "take_in" => blocks::take_in(ring, items, output, times),
+        "to_vec" => to_vec(alloc, ring, times),
+        "clone" => clone(ring, times),
+        "clone_into" => clone_into(ring, times),
+        "eq" => eq(ring, times),
+        "eq_slice" => eq_slice(alloc, ring, times),
+        "fill" => fill(ring, times),
+        "clear_extend" => clear_extend(ring, items, times),
+        "extend" => extend(ring, items, times),
+        "extend_more" => extend_more(ring, items, times),
+        "drain_extend" => drain_extend(ring, items, times),
+        "retain_push" => retain_push(ring, times),
+        "in" => bring(ring, items, times),
+        "clones_in" => bring_clones(ring, items, times),
+        "in_contiguous" => bring_contiguous(ring, items, times),
+        "copy" => copy(ring, output, times),
+        "take_in" => take_in(ring, items, output, times),
         "remove_insert" => remove_insert(ring, case.count, times),
-        "remove_range_extend" => blocks::remove_range_extend(ring, items, times),
+        "remove_range_extend" => remove_range_extend(ring, items, times),
         "swap" => swap(ring, case.count, times),
         "rotate_left" => rotate_left(ring, case.count, times),
-        "truncate_in" => blocks::truncate_in(ring, items, case.held, times),
-        "keep_newest_in" => blocks::keep_newest_in(ring, items, case.held, times),
+        "truncate_in" => truncate_in(ring, items, case.held, times),
+        "keep_newest_in" => keep_newest_in(ring, items, case.held, times),
         _ => 0,
     })
 }
 
 #[inline(never)]
 fn push<T: Item, R: Measured<T>>(ring: &mut R, times: u32) -> u64 {
-    xor_of!(
-        times,
-        |number| found(ring.push(T::numbered(u64::from(number))).unwrap_or(None))
-    )
+    let mut sum = 0u64;
+    for number in 0..times {
+        sum ^= found(ring.push(T::numbered(u64::from(number))).unwrap_or(None));
+    }
+    sum
 }
 
 #[inline(never)]
 fn push_dequeue<T: Item, R: Measured<T>>(ring: &mut R, times: u32) -> u64 {
-    xor_of!(times, |number| {
+    let mut sum = 0u64;
+    for number in 0..times {
         let _ = ring.push(T::numbered(u64::from(number)));
-        found(ring.dequeue())
-    })
+        sum ^= found(ring.dequeue());
+    }
+    sum
 }
 
 #[inline(never)]
 fn push_pop_back<T: Item, R: Measured<T>>(ring: &mut R, times: u32) -> u64 {
-    xor_of!(times, |number| {
+    let mut sum = 0u64;
+    for number in 0..times {
         let _ = ring.push(T::numbered(u64::from(number)));
-        found(ring.pop_back())
-    })
+        sum ^= found(ring.pop_back());
+    }
+    sum
 }
 
 #[inline(never)]
 fn push_front<T: Item, R: Measured<T>>(ring: &mut R, times: u32) -> u64 {
-    xor_of!(times, |number| {
+    let mut sum = 0u64;
+    for number in 0..times {
         let old = ring.push_front(T::numbered(u64::from(number)));
-        found(old.unwrap_or(None))
-    })
+        sum ^= found(old.unwrap_or(None));
+    }
+    sum
 }
 
 #[inline(never)]
 fn try_push_skip<T: Item, R: Measured<T>>(ring: &mut R, times: u32) -> u64 {
-    xor_of!(times, |number| {
-        let is_pushed = ring.try_push(T::numbered(u64::from(number))).is_ok();
+    let mut sum = 0u64;
+    for number in 0..times {
+        sum ^= u64::from(ring.try_push(T::numbered(u64::from(number))).is_ok());
         ring.skip();
-        u64::from(is_pushed)
-    })
+    }
+    sum
 }
 
 #[inline(never)]
@@ -112,12 +123,14 @@ fn get<T: Item, R: Measured<T>>(ring: &R, count: usize, times: u32) -> u64 {
 
 #[inline(never)]
 fn get_signed<T: Item, R: Measured<T>>(ring: &mut R, times: u32) -> u64 {
-    xor_of!(times, |number| {
+    let mut sum = 0u64;
+    for number in 0..times {
         if let Some(newest) = ring.get_mut_signed(-1) {
             *newest = T::numbered(u64::from(number));
         }
-        found(ring.get_signed(-2).copied())
-    })
+        sum ^= found(ring.get_signed(-2).copied());
+    }
+    sum
 }
 
 #[inline(never)]
@@ -134,33 +147,39 @@ fn get_mut<T: Item, R: Measured<T>>(ring: &mut R, count: usize, times: u32) -> u
 
 #[inline(never)]
 fn front_back<T: Item, R: Measured<T>>(ring: &mut R, times: u32) -> u64 {
-    xor_of!(times, |number| {
+    let mut sum = 0u64;
+    for number in 0..times {
         if let Some(oldest) = ring.front_mut() {
             *oldest = T::numbered(u64::from(number));
         }
-        found(ring.front().copied()) ^ found(ring.back().copied())
-    })
+        sum ^= found(ring.front().copied()) ^ found(ring.back().copied());
+    }
+    sum
 }
 
 #[inline(never)]
 fn contains<T: Item, R: Measured<T>>(ring: &R, times: u32) -> u64 {
-    sum_of!(times, |number| {
+    let mut sum = 0u64;
+    for number in 0..times {
         let item = T::numbered(u64::from(number).wrapping_add(1 << 32));
-        u64::from(ring.contains(&item))
-    })
+        sum = sum.wrapping_add(u64::from(ring.contains(&item)));
+    }
+    sum
 }
 
 #[inline(never)]
 fn point<T: Item, R: Measured<T>>(ring: &R, times: u32) -> u64 {
     let oldest = found(ring.front().copied());
-    sum_of!(times, |number| {
+    let mut sum = 0u64;
+    for number in 0..times {
         // The bits are mixed twice, so that no branch on what a search finds is foretold.
         let once = u64::from(number).wrapping_mul(0x9E37_79B9_7F4A_7C15);
         let twice = (once ^ (once >> 32)).wrapping_mul(0xD6E8_FEB8_6659_FD93);
         let wanted = oldest.wrapping_add((twice >> 40).wrapping_mul(ring.len() as u64) >> 24);
         let index = partition_point(ring, |item: &T| item.number() < wanted);
-        index as u64
-    })
+        sum = sum.wrapping_add(index as u64);
+    }
+    sum
 }
 
 #[inline(never)]
@@ -176,13 +195,14 @@ fn iter<T: Item, R: Measured<T>>(ring: &R, times: u32) -> u64 {
 
 #[inline(never)]
 fn remove_insert<T: Item, R: Measured<T>>(ring: &mut R, index: usize, times: u32) -> u64 {
-    xor_of!(times, |number| {
-        let removed = ring.remove(index);
+    let mut sum = 0u64;
+    for number in 0..times {
+        sum ^= found(ring.remove(index));
         if index <= ring.len() {
             let _ = ring.insert(index, T::numbered(u64::from(number)));
         }
-        found(removed)
-    })
+    }
+    sum
 }
 
 #[inline(never)]

@@ -17,10 +17,18 @@ pub struct Case<'a> {
 }
 
 impl<'a> Case<'a> {
-    /// Returns the case of a call that these words name: COUNT, HELD, START and TIMES.
-    pub fn of(call: &'a str, words: [&str; 4]) -> Option<Case<'a>> {
-        let [Ok(count), Ok(held), Ok(start), Ok(times)] = words.map(|word| word.parse::<u32>())
-        else {
+    /// Returns the case that these words name.
+    pub fn of(
+        call: &'a str,
+        count: &str,
+        held: &str,
+        start: &str,
+        times: &str,
+    ) -> Option<Case<'a>> {
+        let (Ok(count), Ok(held)) = (count.parse::<u32>(), held.parse::<u32>()) else {
+            return None;
+        };
+        let (Ok(start), Ok(times)) = (start.parse::<u32>(), times.parse::<u32>()) else {
             return None;
         };
         Some(Case {

@@ -4,21 +4,18 @@
 use crate::case::Case;
 use crate::item::Item;
 use crate::ring::Measured;
-use crate::sums::{sum_of, xor_of};
 use ringbuffer::{DoubleEndedRingExt, RingBufferExt, binary_search};
 use std::alloc::{AllocError, Global};
 use std::hash::{DefaultHasher, Hasher};
 
-type Pair = [u64; 2];
-
 /// Makes the call of a case on a ring that is empty, and returns what it found, as a number.
-pub fn by<R: Measured<Pair> + Drop>(
+pub fn by<R: Measured<[u64; 2]> + Drop>(
     alloc: Global,
     mut ring: R,
     case: Case<'_>,
 ) -> Result<u64, AllocError> {
     case.fill(&mut ring);
-    let items = case.block::<Pair>(alloc)?;
+    let items = case.block::<[u64; 2]>(alloc)?;
     let (ring, items, times) = (&mut ring, items.as_slice(), case.times);
     Ok(match case.call {
         "to_vec_copied" => to_vec_copied(alloc, ring, times),
@@ -39,35 +36,45 @@ pub fn by<R: Measured<Pair> + Drop>(
 }
 
 #[inline(never)]
-fn to_vec_copied<R: Measured<Pair>>(alloc: Global, ring: &R, times: u32) -> u64 {
-    sum_of!(times, |_| ring.copies(alloc) as u64)
+pub fn to_vec_copied<T: Item, R: Measured<T>>(alloc: Global, ring: &R, times: u32) -> u64 {
+    let mut sum = 0u64;
+    for _ in 0..times {
+        sum = sum.wrapping_add(ring.copies(alloc) as u64);
+    }
+    sum
 }
 
 // Nothing where the ring has no such call.
 #[inline(never)]
-fn copy_into<R: Measured<Pair> + Drop>(ring: &R, times: u32) -> u64 {
+pub fn copy_into<T: Item, R: Measured<T> + Drop>(ring: &R, times: u32) -> u64 {
     let Ok(mut other) = ring.clone() else {
         return 0;
     };
-    xor_of!(times, |_| ring.copy_onto(&mut other))
+    let mut sum = 0u64;
+    for _ in 0..times {
+        sum ^= ring.copy_onto(&mut other);
+    }
+    sum
 }
 
 #[inline(never)]
-fn order<R: Measured<Pair> + Drop>(ring: &R, times: u32) -> u64 {
+pub fn order<T: Item, R: Measured<T> + Drop>(ring: &R, times: u32) -> u64 {
     let Ok(mut other) = ring.clone() else {
         return 0;
     };
+    let mut sum = 0u64;
     // The newest item changes between two calls, so that none can be left out.
-    sum_of!(times, |number| {
+    for number in 0..times {
         if let Some(newest) = other.back_mut() {
-            *newest = Pair::numbered(u64::from(number));
+            *newest = T::numbered(u64::from(number));
         }
-        u64::from(*ring < other)
-    })
+        sum = sum.wrapping_add(u64::from(*ring < other));
+    }
+    sum
 }
 
 #[inline(never)]
-fn hash<R: Measured<Pair>>(ring: &R, times: u32) -> u64 {
+pub fn hash<T: Item, R: Measured<T>>(ring: &R, times: u32) -> u64 {
     let mut state = DefaultHasher::new();
     for _ in 0..times {
         ring.hash(&mut state);
@@ -76,35 +83,39 @@ fn hash<R: Measured<Pair>>(ring: &R, times: u32) -> u64 {
 }
 
 #[inline(never)]
-fn search<R: Measured<Pair>>(ring: &R, times: u32) -> u64 {
-    sum_of!(times, |number| {
-        let wanted = Pair::numbered(u64::from(number).wrapping_mul(0x9E37_79B9_7F4A_7C15) >> 54);
-        binary_search(ring, &wanted).unwrap_or(0) as u64
-    })
+pub fn search<T: Item, R: Measured<T>>(ring: &R, times: u32) -> u64 {
+    let mut sum = 0u64;
+    for number in 0..times {
+        let wanted = T::numbered(u64::from(number).wrapping_mul(0x9E37_79B9_7F4A_7C15) >> 54);
+        sum = sum.wrapping_add(binary_search(ring, &wanted).unwrap_or(0) as u64);
+    }
+    sum
 }
 
 #[inline(never)]
-fn map_each<R: Measured<Pair>>(ring: &mut R, times: u32) -> u64 {
+pub fn map_each<T: Item, R: Measured<T>>(ring: &mut R, times: u32) -> u64 {
     for number in 0..times {
-        ring.map_each(|item| Pair::numbered(item.number() ^ u64::from(number)));
+        ring.map_each(|item| T::numbered(item.number() ^ u64::from(number)));
     }
     0
 }
 
 // Nothing where the ring has no such call.
 #[inline(never)]
-fn turn_contiguous<R: Measured<Pair>>(ring: &mut R, count: usize, times: u32) -> u64 {
-    xor_of!(times, |_| {
+pub fn turn_contiguous<T: Item, R: Measured<T>>(ring: &mut R, count: usize, times: u32) -> u64 {
+    let mut sum = 0u64;
+    for _ in 0..times {
         if count <= ring.len() {
             ring.rotate_left(count);
         }
-        ring.contiguous()
-    })
+        sum ^= ring.contiguous();
+    }
+    sum
 }
 
 // Makes room for `count` more, and gives it back. Nothing where the ring has no such call.
 #[inline(never)]
-fn set_capacity<R: Measured<Pair>>(ring: &mut R, count: usize, times: u32) -> u64 {
+pub fn set_capacity<T: Item, R: Measured<T>>(ring: &mut R, count: usize, times: u32) -> u64 {
     let capacity = ring.capacity();
     for _ in 0..times {
         ring.resize(capacity.saturating_add(count));
@@ -115,7 +126,7 @@ fn set_capacity<R: Measured<Pair>>(ring: &mut R, count: usize, times: u32) -> u6
 
 // All blocks are numbered from 0, so that as many items pass the test each time.
 #[inline(never)]
-fn dequeue_while_in<R: Measured<Pair>>(ring: &mut R, items: &[Pair], times: u32) -> u64 {
+pub fn dequeue_while_in<T: Item, R: Measured<T>>(ring: &mut R, items: &[T], times: u32) -> u64 {
     let mut sum = 0u64;
     let mut left = items.len();
     for _ in 0..times {
@@ -130,42 +141,54 @@ fn dequeue_while_in<R: Measured<Pair>>(ring: &mut R, items: &[Pair], times: u32)
     sum
 }
 
-// Takes a block out, or none where memory is refused, and brings as many items in.
 #[inline(never)]
-fn drain_range_in<R: Measured<Pair>>(
+pub fn drain_range_in<T: Item, R: Measured<T>>(
     alloc: Global,
     ring: &mut R,
-    items: &[Pair],
+    items: &[T],
     times: u32,
 ) -> u64 {
-    sum_of!(times, |_| {
-        let count = count_of(ring.drain_range(1..=items.len(), alloc));
+    let mut sum = 0u64;
+    for _ in 0..times {
+        if let Ok(taken) = ring.drain_range(1..=items.len(), alloc) {
+            sum = sum.wrapping_add(taken.len() as u64);
+        }
         ring.bring(items);
-        count
-    })
+    }
+    sum
 }
 
 #[inline(never)]
-fn split_off_in<R: Measured<Pair>>(alloc: Global, ring: &mut R, items: &[Pair], times: u32) -> u64 {
-    sum_of!(times, |_| {
+pub fn split_off_in<T: Item, R: Measured<T>>(
+    alloc: Global,
+    ring: &mut R,
+    items: &[T],
+    times: u32,
+) -> u64 {
+    let mut sum = 0u64;
+    for _ in 0..times {
         let at = ring.len().saturating_sub(items.len());
-        let count = count_of(ring.split_off(at, alloc));
+        if let Ok(newest) = ring.split_off(at, alloc) {
+            sum = sum.wrapping_add(newest.len() as u64);
+        }
         ring.bring(items);
-        count
-    })
+    }
+    sum
 }
 
 #[inline(never)]
-fn take_all_in<R: Measured<Pair>>(alloc: Global, ring: &mut R, items: &[Pair], times: u32) -> u64 {
-    sum_of!(times, |_| {
-        let count = count_of(ring.take_all(alloc));
+pub fn take_all_in<T: Item, R: Measured<T>>(
+    alloc: Global,
+    ring: &mut R,
+    items: &[T],
+    times: u32,
+) -> u64 {
+    let mut sum = 0u64;
+    for _ in 0..times {
+        if let Ok(taken) = ring.take_all(alloc) {
+            sum = sum.wrapping_add(taken.len() as u64);
+        }
         ring.bring(items);
-        count
-    })
-}
-
-/// Counts the items that a call took out, and drops them.
-#[inline]
-fn count_of(taken: Result<Vec<Pair>, AllocError>) -> u64 {
-    taken.map_or(0, |items| items.len() as u64)
+    }
+    sum
 }

@@ -2,7 +2,6 @@
 
 use crate::item::Item;
 use crate::ring::Measured;
-use crate::sums::sum_of;
 use std::alloc::Global;
 
 /// Returns the number of an item, if there is one.
@@ -13,18 +12,24 @@ pub fn found<T: Item>(item: Option<T>) -> u64 {
 
 #[inline(never)]
 pub fn to_vec<T: Item, R: Measured<T>>(alloc: Global, ring: &R, times: u32) -> u64 {
-    sum_of!(
-        times,
-        |_| ring.to_vec(alloc).map_or(0, |items| items.len() as u64)
-    )
+    let mut sum = 0u64;
+    for _ in 0..times {
+        if let Ok(items) = ring.to_vec(alloc) {
+            sum = sum.wrapping_add(items.len() as u64);
+        }
+    }
+    sum
 }
 
 #[inline(never)]
 pub fn clone<T: Item, R: Measured<T> + Drop>(ring: &R, times: u32) -> u64 {
-    sum_of!(times, |_| match ring.clone() {
-        Ok(other) => found(other.back().copied()),
-        Err(_) => 0,
-    })
+    let mut sum = 0u64;
+    for _ in 0..times {
+        if let Ok(other) = ring.clone() {
+            sum = sum.wrapping_add(found(other.back().copied()));
+        }
+    }
+    sum
 }
 
 #[inline(never)]
@@ -47,13 +52,15 @@ pub fn eq<T: Item, R: Measured<T> + Drop>(ring: &R, times: u32) -> u64 {
     let Ok(mut other) = ring.clone() else {
         return 0;
     };
+    let mut sum = 0u64;
     // The newest item changes between two calls, so that none can be left out.
-    sum_of!(times, |number| {
+    for number in 0..times {
         if let Some(newest) = other.back_mut() {
             *newest = T::numbered(u64::from(number));
         }
-        u64::from(*ring == other)
-    })
+        sum = sum.wrapping_add(u64::from(*ring == other));
+    }
+    sum
 }
 
 #[inline(never)]
@@ -61,11 +68,13 @@ pub fn eq_slice<T: Item, R: Measured<T>>(alloc: Global, ring: &R, times: u32) ->
     let Ok(mut items) = ring.to_vec(alloc) else {
         return 0;
     };
+    let mut sum = 0u64;
     // The newest item changes between two calls, so that none can be left out.
-    sum_of!(times, |number| {
+    for number in 0..times {
         if let Some(newest) = items.last_mut() {
             *newest = T::numbered(u64::from(number));
         }
-        u64::from(ring.eq_slice(&items))
-    })
+        sum = sum.wrapping_add(u64::from(ring.eq_slice(&items)));
+    }
+    sum
 }

@@ -11,30 +11,36 @@ use window::{
 
 /// Slides the window that a case names over a random walk, and returns what it found, as a number.
 pub fn slide(alloc: Global, kind: &str, case: Case<'_>) -> Result<u64, AllocError> {
-    let (capacity, times) = (case.held.max(1), case.times);
+    let capacity = case.held.max(1);
     Ok(match (kind, case.call) {
-        ("heap", "sum") => sum(&mut AllocWindowSum::on_heap(alloc, capacity)?, times),
-        ("array", "sum") => sum(&mut ConstGenericWindowSum::<1000>::in_array(), times),
+        ("heap", "sum") => sum(&mut AllocWindowSum::on_heap(alloc, capacity)?, case.times),
+        ("array", "sum") => sum(&mut ConstGenericWindowSum::<1000>::in_array(), case.times),
         ("heap", "float_sum") => float_sum(
             &mut AllocWindowFloatSum::on_heap(alloc, capacity)?,
-            times,
+            case.times,
         ),
         ("array", "float_sum") => float_sum(
             &mut ConstGenericWindowFloatSum::<1000>::in_array(),
-            times,
+            case.times,
         ),
-        ("heap", "least") => least(&mut AllocWindowMin::<i64>::on_heap(alloc, capacity)?, times),
-        ("array", "least") => least(&mut ConstGenericWindowMin::<i64, 1000>::in_array(), times),
+        ("heap", "least") => least(
+            &mut AllocWindowMin::<i64>::on_heap(alloc, capacity)?,
+            case.times,
+        ),
+        ("array", "least") => least(
+            &mut ConstGenericWindowMin::<i64, 1000>::in_array(),
+            case.times,
+        ),
         ("heap", "time") => {
             let half = (capacity / 2) as u64;
             time(
                 &mut AllocWindowTime::on_heap(alloc, capacity, half.saturating_mul(5))?,
-                (capacity as u64).saturating_add(u64::from(times)),
+                (capacity as u64).saturating_add(u64::from(case.times)),
             )
         }
         ("heap", "fold") => fold(
             &mut AllocWindowFold::<Gcd>::on_heap(alloc, capacity)?,
-            times,
+            case.times,
         ),
         _ => 0,
     })
