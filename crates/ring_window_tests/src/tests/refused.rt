@@ -146,7 +146,7 @@ fn windows_on_the_heap_take_one_block(rt: HostRuntime) {
     assert_made_of_one_block!(rt, i64, |n| AllocWindowSum::on_heap(alloc, n));
     assert_made_of_one_block!(rt, Summand, |n| AllocWindowFloatSum::on_heap(alloc, n));
     for span in [0, 3] {
-        assert_made_of_one_block!(rt, Stamped<u32>, |n| AllocWindowTime::on_heap(alloc, n, span));
+        assert_made_of_one_block!(rt, Stamped<u32>, |n| AllocWindowTime::<u32>::on_heap(alloc, n, span));
     }
 }
 
