@@ -63,6 +63,7 @@ fn room_stays_where_items_leave(rt: HostRuntime) -> Result<(), AllocError> {
     assert_equal(&rt, ring.capacity(), room);
     ring.extend_from_slice(block(rt.alloc(), 0, 20)?.as_slice())?;
     let _ = ring.remove(19);
+    assert!(rt; 5 <= ring.len());
     ring.rotate_left(5);
     ring.make_contiguous().reverse();
     assert_equal(&rt, ring.capacity(), room);
