@@ -45,7 +45,7 @@ pub fn end<E: Write>(fault: Fault, errors: &mut E) -> u8
     fault.status()
 }
 
-/// Writes the line of `fault` to `errors`.
+/// Writes the line of `fault` to `errors` as `write_all` would, which doesn't say what it wrote before an error.
 ///
 /// # Errors
 ///
@@ -60,16 +60,7 @@ fn tell<E: Write>(fault: Fault, errors: &mut E) -> io::Result<()>
         len: 0,
     };
     writeln!(line, "{fault}")?;
-    write_from(errors, &line.bytes[..line.len])
-}
-
-/// Writes `line` to `errors` as `write_all` does, which doesn't say what it wrote before an error.
-fn write_from<E: Write>(errors: &mut E, line: &[u8]) -> io::Result<()>
-    ensures whole { OnOk result
-        (Appends (E.contents errors.old) (E.contents errors.new) line.now) }
-    ensures begun { Begins (E.contents errors.old) (E.contents errors.new) line.now }
-{
-    let mut rest = line;
+    let mut rest = &line.bytes[..line.len];
     // The loop has a bound since a writer might be interrupted for ever.
     for _ in 0..u64::MAX {
         if rest.is_empty() {

@@ -2,7 +2,7 @@
 
 ghost use Rattle.std.specs.Prelude.{◌≡◌, ◌++◌, OnOk, codes};
 ghost use Rattle.std.specs.Fmt.{signed_decimal};
-ghost use Rattle.ringrun_service.specs.Replies.{item_text, items_line, reply_line};
+ghost use Rattle.ringrun_service.specs.Replies.{items_line, reply_line};
 
 use decimal::push_decimal;
 use ringbuffer::{Reply, RingBuffer, RingBufferIterator};
@@ -53,15 +53,8 @@ pub fn push_items<R: RingBuffer<i64>>(text: &mut Vec<u8>, ring: &R) -> Result<()
 {
     text.extend_from_slice(b"items")?;
     for item in RingBufferIterator::new(ring) {
-        push_item(text, item)?;
+        text.push(b' ')?;
+        push_decimal(text, *item)?;
     }
     text.extend_from_slice(b"\n")
-}
-
-/// Puts an item after a space at the end of `text`.
-fn push_item(text: &mut Vec<u8>, item: &i64) -> Result<(), AllocError>
-    ensures { OnOk result (text.new.items ≡ text.old.items ++ item_text item.now) }
-{
-    text.push(b' ')?;
-    push_decimal(text, *item)
 }

@@ -1,11 +1,11 @@
 //! A script: a command a line, its words apart by ASCII white space. It is read from its front, a line at a time.
 
-ghost use Rattle.std.specs.Prelude.{◌≡◌, ℤ, ◌+◌, codes, count_by, List, Err, Ok, ◌-◌, ◌<◌, ◌≤◌, IfErr, IfOk, IfSome, IsTrue, MatchOption, None, OnOk, Some, length};
+ghost use Rattle.std.specs.Prelude.{◌≡◌, ℤ, ◌+◌, codes, count_by, List, Err, Ok, ◌-◌, ◌<◌, ◌≤◌, IfErr, IfOk, IfSome, MatchOption, None, OnOk, Some, length};
 ghost use Rattle.ringrun_service.specs.Fault.{NamesALine};
 ghost use Rattle.ringrun_service.specs.Line.{IsLine};
 ghost use Rattle.ringrun_service.specs.Parsing.{CommandAt, HasNoCommand, NumbersAt, after_blanks, after_end, after_name, number_at};
 ghost use Rattle.ringrun_service.specs.Rest.{IsRest, NamesFirstBad, next_number, script_left};
-ghost use Rattle.ringrun_service.specs.Script.{is_blank, is_line_feed, script_of, with_front};
+ghost use Rattle.ringrun_service.specs.Script.{is_line_feed, script_of, with_front};
 ghost use Rattle.ringbuffer.specs.declared.Command.{Command};
 
 use crate::fault::Fault;
@@ -108,20 +108,13 @@ impl<'a> Script<'a> {
             × (self.new ≡ self.old) × (fault ≡ Fault.NotACommand (next_number self.old))) }
     {
         let Some(rest) = after_line(rest) else {
-            return Err(self.not_a_command());
+            let read = self.text.len().saturating_sub(self.rest.len());
+            return Err(Fault::NotACommand {
+                line: count_line_feeds(&self.text[..read]) + 1,
+            });
         };
         self.rest = rest;
         Ok(())
-    }
-
-    /// Returns the fault of the first line that is left.
-    fn not_a_command(&self) -> Fault
-        ensures { result ≡ Fault.NotACommand (next_number self.now) }
-    {
-        let read = self.text.len().saturating_sub(self.rest.len());
-        Fault::NotACommand {
-            line: count_line_feeds(&self.text[..read]) + 1,
-        }
     }
 }
 
@@ -209,9 +202,9 @@ pub fn split_number(text: &[u8]) -> Option<(i64, &[u8])>
         (λ found. number_at text.now ≡ Some (found.0, found.1.now)) }
     ensures shorter { IfSome result (λ found. length found.1.now < length text.now) }
 {
-    // Most numbers stand after one space, which is told without a loop.
+    // Most numbers stand after one space, with a byte above all blanks, which is told without a loop.
     let word = match text {
-        [b' ', word @ ..] if starts_word(word) => word,
+        [b' ', word @ ..] if matches!(word, [byte, ..] if *byte > b' ') => word,
         _ => {
             let word = skip_blanks(text);
             if word.len() == text.len() {
@@ -240,30 +233,15 @@ fn after_line(text: &[u8]) -> Option<&[u8]>
     }
 }
 
-/// Returns whether a byte above all blanks comes first in `text`, which one comparison tells.
-#[inline(always)]
-fn starts_word(text: &[u8]) -> bool
-    ensures { IsTrue result → after_blanks text.now ≡ text.now }
-{
-    matches!(text, [byte, ..] if *byte > b' ')
-}
-
 /// Returns what follows the blanks at the front of `text`.
 fn skip_blanks(text: &[u8]) -> &[u8]
     ensures rest { result.now ≡ after_blanks text.now }
     ensures within { length result.now ≤ length text.now }
 {
+    // Most bytes are above all blanks, and are told by one comparison.
     let end = text
         .iter()
-        .position(|byte| !is_blank(*byte))
+        .position(|byte| *byte > b' ' || !matches!(*byte, b' ' | b'\t' | b'\x0c' | b'\r'))
         .unwrap_or(text.len());
     &text[end..]
-}
-
-/// Returns whether `byte` may stand between the words of a line.
-fn is_blank(byte: u8) -> bool
-    ensures { result ≡ is_blank byte }
-{
-    // Most bytes are above them all, and are told by one comparison.
-    byte <= b' ' && matches!(byte, b' ' | b'\t' | b'\x0c' | b'\r')
 }

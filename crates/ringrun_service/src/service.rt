@@ -1,7 +1,7 @@
 //! The program's work, over any reader and writers.
 
 ghost use Rattle.std.specs.Prelude.{◌≡◌, ◌≢◌, ℕ, ℤ, ◌+◌, ◌++◌, ◌<◌, ◌≤◌, ◌↔◌, Err, IfErr, IfOk, IfSome, IsErr, IsErrOf, List, Ok, OnOk, Some, [], flat_map, length, map, string_bytes};
-ghost use Rattle.std.specs.Io.KnownBytes.{Appends, IsAtEnd};
+ghost use Rattle.std.specs.Io.KnownBytes.{IsAtEnd};
 ghost use Rattle.ringbuffer.specs.Contents.{keep_last};
 ghost use Rattle.ringbuffer.specs.Meaning.{after_all, replies_to};
 ghost use Rattle.ringbuffer.specs.declared.Command.{Command};
@@ -84,7 +84,10 @@ fn attempt<I: Read, O: Write>(
     ensures written_last { (¬ IsAtEnd (I.remaining input.new)) → output.new ≡ output.old }
 {
     let text = text_for(alloc, words, input)?;
-    print(text.as_slice(), output)
+    if output.write_all(text.as_slice()).is_err() || output.flush().is_err() {
+        return Err(Fault::InputOrOutput);
+    }
+    Ok(())
 }
 
 /// Returns the text that the program prints. No byte of the input is read before the arguments are checked.
@@ -138,7 +141,10 @@ fn run_input<R: MakesRoom, I: Read>(
     ensures faults { IfErr result (λ fault. fault ≢ Fault.BadArguments) }
     ensures whole_input { IfLinesRead result (IsAtEnd (I.remaining input.new)) }
 {
-    let bytes = read_all(alloc, input)?;
+    let mut bytes = Vec::new(alloc);
+    if let Err(error) = input.read_to_end(&mut bytes) {
+        return Err(Fault::from_error(&error, Fault::InputOrOutput));
+    }
     run_script(ring, alloc, bytes.as_slice())
 }
 
@@ -243,30 +249,4 @@ fn push_numbers<'a, R: MakesRoom>(ring: &mut R, text: &'a [u8]) -> Result<&'a [u
         rest = after;
     }
     Ok(rest)
-}
-
-/// Returns the whole input.
-fn read_all<I: Read>(alloc: Global, input: &mut I) -> Result<Vec<u8>, Fault>
-    ensures bytes { IfOk result
-        (λ all. IfSome (I.remaining input.old) (λ bytes. all.items ≡ bytes)) }
-    ensures no_line { IfErr result (λ fault. status_of fault ≢ 1) }
-    ensures faults { IfErr result (λ fault. fault ≢ Fault.BadArguments) }
-    ensures whole_input { IfLinesRead result (IsAtEnd (I.remaining input.new)) }
-{
-    let mut bytes = Vec::new(alloc);
-    if let Err(error) = input.read_to_end(&mut bytes) {
-        return Err(Fault::from_error(&error, Fault::InputOrOutput));
-    }
-    Ok(bytes)
-}
-
-/// Writes `text` to `output`, whole.
-fn print<O: Write>(text: &[u8], output: &mut O) -> Result<(), Fault>
-    ensures ok { OnOk result (Appends (O.contents output.old) (O.contents output.new) text.now) }
-    ensures err { IfErr result (λ fault. fault ≡ Fault.InputOrOutput) }
-{
-    if output.write_all(text).is_err() || output.flush().is_err() {
-        return Err(Fault::InputOrOutput);
-    }
-    Ok(())
 }

@@ -48,19 +48,22 @@ impl<S> CountedTally<S> {
         self.tally.add(newest);
     }
 
-    /// Removes `oldest`, and counts it.
+    /// Removes `oldest`, if there is one, and counts it.
     #[inline]
-    pub(crate) fn remove<T>(&mut self, oldest: &T)
+    pub(crate) fn remove<T>(&mut self, oldest: &Option<T>)
     where
         S: Tally<T>,
-        requires { (xs : List T) × S.tells self.old.tally (oldest.now ∷ xs) × (length xs + 1 < 2 ^ 64) }
-        ensures tells { (xs : List T) → S.tells self.old.tally (oldest.now ∷ xs)
+        requires { (xs : List T) × S.tells self.old.tally (option_to_list oldest.now ++ xs)
+            × (length (option_to_list oldest.now ++ xs) < 2 ^ 64) }
+        ensures tells { (xs : List T) → S.tells self.old.tally (option_to_list oldest.now ++ xs)
             → S.tells self.new.tally xs }
         ensures added { self.new.added ≡ self.old.added }
-        ensures removed { self.new.removed ≡ self.old.removed + 1 }
+        ensures removed { self.new.removed ≡ self.old.removed + length (option_to_list oldest.now) }
     {
-        self.removed.add_one();
-        self.tally.remove(oldest);
+        if let Some(item) = oldest {
+            self.removed.add_one();
+            self.tally.remove(item);
+        }
     }
 
     /// Removes `oldest`, if there is one, adds `newest`, and counts both.

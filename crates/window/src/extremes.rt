@@ -107,21 +107,14 @@ impl Monoid for BoundingBox {
 
     fn combine(&self, later: &Self) -> Self {
         match (self.0, later.0) {
-            (Some(x), Some(y)) => BoundingBox(Some(around(x, y))),
+            (Some(x), Some(y)) => BoundingBox(Some(Corners {
+                left: x.left.min(y.left),
+                bottom: x.bottom.min(y.bottom),
+                right: x.right.max(y.right),
+                top: x.top.max(y.top),
+            })),
             (None, y) => BoundingBox(y),
             (x, None) => BoundingBox(x),
         }
-    }
-}
-
-/// Returns the least box that holds the boxes `x` and `y`.
-fn around(x: Corners, y: Corners) -> Corners
-    ensures { result ≡ join_boxes x y }
-{
-    Corners {
-        left: x.left.min(y.left),
-        bottom: x.bottom.min(y.bottom),
-        right: x.right.max(y.right),
-        top: x.top.max(y.top),
     }
 }

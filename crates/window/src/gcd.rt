@@ -1,8 +1,5 @@
 //! The greatest common divisor as a monoid.
 
-ghost use Rattle.std.specs.Prelude.{◌≡◌};
-ghost use Rattle.window.specs.Gcd.{gcd};
-
 use crate::monoid::Monoid;
 
 /// A number, which combines with another to their greatest common divisor. It is 0 for no number.
@@ -23,19 +20,12 @@ impl Monoid for Gcd {
         Gcd(0)
     }
 
+    // Euclid's algorithm.
     fn combine(&self, later: &Self) -> Self {
-        Gcd(greatest_divisor(self.0, later.0))
+        let (mut a, mut b) = (self.0, later.0);
+        while b != 0 {
+            (a, b) = (b, a % b);
+        }
+        Gcd(a)
     }
-}
-
-/// Returns the greatest common divisor of `a` and `b`, by Euclid's algorithm.
-fn greatest_divisor(mut a: u64, mut b: u64) -> u64
-    ensures { result ≡ gcd a b }
-{
-    while b != 0 {
-        let rest = a % b;
-        a = b;
-        b = rest;
-    }
-    a
 }

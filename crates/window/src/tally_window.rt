@@ -1,6 +1,6 @@
 //! A window over a ring, with a tally of its items.
 
-ghost use Rattle.std.specs.Prelude.{◌≡◌, ◌+◌, ◌<◌, ◌^◌, ◌↔◌, [], ◌∷◌, ◌++◌, IfErr, IfOk, IsOk, IsSome, IsTrue, List, OnOk, drop, length, option_to_list, slice_get};
+ghost use Rattle.std.specs.Prelude.{◌≡◌, ◌+◌, ◌<◌, ◌↔◌, [], ◌∷◌, ◌++◌, IfErr, IfOk, IsOk, IsSome, IsTrue, OnOk, drop, length, option_to_list, slice_get};
 ghost use Rattle.ringbuffer.specs.Contents.{IsWithin, keep_last, overwritten};
 
 use crate::counted::CountedTally;
@@ -37,7 +37,12 @@ impl<T: Copy, S: Tally<T>, R: RingBuffer<T>> WindowTally<T, S, R> {
         ensures added { result.added ≡ length (R.contents ring) }
         ensures removed { result.removed ≡ 0 }
     {
-        let counted = tally_of(&ring);
+        // For the proof: the contents are within the limit.
+        let _ = ring.len();
+        let mut counted = CountedTally::none();
+        for item in RingBufferIterator::new(&ring) {
+            counted.add(item);
+        }
         WindowTally {
             ring,
             counted,
@@ -83,7 +88,7 @@ impl<T: Copy, S: Tally<T>, R: RingBuffer<T>> WindowTally<T, S, R> {
         // For the proof: the contents are within the limit.
         let _ = self.ring.len();
         let oldest = self.ring.dequeue();
-        remove_if_some(&mut self.counted, &oldest);
+        self.counted.remove(&oldest);
         oldest
     }
 
@@ -134,35 +139,5 @@ impl<T: Copy, S: Tally<T>, R: RingBuffer<T>> WindowTally<T, S, R> {
         ensures limit { R.limit result ≡ self.limit }
     {
         self.ring
-    }
-}
-
-/// Returns the tally of what `ring` holds, by a walk.
-fn tally_of<T: Copy, S: Tally<T>, R: RingBuffer<T>>(ring: &R) -> CountedTally<S>
-    ensures tells { S.tells result.tally (R.contents ring.now) }
-    ensures added { result.added ≡ length (R.contents ring.now) }
-    ensures removed { result.removed ≡ 0 }
-{
-    // For the proof: the contents are within the limit.
-    let _ = ring.len();
-    let mut counted = CountedTally::none();
-    for item in RingBufferIterator::new(ring) {
-        counted.add(item);
-    }
-    counted
-}
-
-/// Removes `oldest`, if an item left, from the tally.
-fn remove_if_some<T: Copy, S: Tally<T>>(counted: &mut CountedTally<S>, oldest: &Option<T>)
-    requires { (xs : List T) × S.tells counted.old.tally (option_to_list oldest.now ++ xs)
-        × (length (option_to_list oldest.now ++ xs) < 2 ^ 64) }
-    ensures tells { (xs : List T) → S.tells counted.old.tally (option_to_list oldest.now ++ xs)
-        → S.tells counted.new.tally xs }
-    ensures added { counted.new.added ≡ counted.old.added }
-    ensures removed { counted.new.removed
-        ≡ counted.old.removed + length (option_to_list oldest.now) }
-{
-    if let Some(item) = oldest {
-        counted.remove(item);
     }
 }

@@ -1,5 +1,0 @@
-use Rattle.ringrun_service.proofs.WrittenSoFar.{Written}
-use Rattle.ringrun_service.proofs.error_line.write_from.Given as goal
-
-abbrev pub invariant-loop : goal.invariant-loop
-invariant-loop g l = Written (g.E.Write.contents l.fn.errors) (g.E.Write.contents l.errors) l.line l.rest
