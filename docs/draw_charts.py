@@ -9,7 +9,7 @@ import sys
 DOCS = pathlib.Path(__file__).resolve().parent
 COUNTS = DOCS.parent / "bench" / "rivals.tsv"
 # Each ring of this repository, with the others that a program could take in its place.
-FIXED = ["Rust array", "Rust heap", "VecDeque", "Boost"]
+FIXED = ["Rust array", "Rust heap", "VecDeque", "Boost", "circular_buffer"]
 RIVALS = {"heap": FIXED, "copy": FIXED, "array": FIXED, "growable": ["Rust growable", "growing VecDeque"]}
 TYPES = {"heap": "AllocRingBuffer", "copy": "CopyRingBuffer", "array": "ConstGenericRingBuffer", "growable": "GrowableAllocRingBuffer"}
 
