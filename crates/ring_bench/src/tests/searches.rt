@@ -1,11 +1,13 @@
-//! How often a search in a ring compares items.
+//! How often items are compared by a search in a ring, and by a comparison of two.
 
 ghost use Rattle.std.specs.Prelude.{refl};
 ghost use Rattle.std.specs.Cmp.{eq_by_cmp_equiv, nat_cmp_total, on_total, partial_equiv_from_equiv, partial_order_from_total};
 ghost use Rattle.std.specs.Ordering.{as_partial_cmp, eq_by_cmp, nat_cmp, on};
 
 use super::assert_equal;
-use ringbuffer::{GrowableAllocRingBuffer, RingBuffer, binary_search};
+use ringbuffer::{
+    AllocRingBuffer, ConstGenericRingBuffer, GrowableAllocRingBuffer, RingBuffer, binary_search,
+};
 use std::alloc::{AllocError, Global};
 use std::cell::Cell;
 use std::cmp::Ordering;
@@ -77,8 +79,77 @@ fn assert_compared(rt: &impl Abort, alloc: Global, levels: u32) -> Result<(), Al
 
 #[test]
 fn a_search_compares_once_a_binary_digit_and_once_more(rt: HostRuntime) -> Result<(), AllocError> {
-    for levels in [0, 1, 2, 3, 4, 7, 8, 100] {
+    for levels in [0, 1, 2, 3, 4, 7, 8, 100, 1023] {
         assert_compared(&rt, rt.alloc(), levels)?;
     }
+    Ok(())
+}
+
+// Each item is asked whether it equals its counterpart, and the two that differ are compared then.
+#[test]
+fn an_order_compares_once_where_items_differ(rt: HostRuntime) {
+    let compared = &Cell::new(0);
+    let mut low = ConstGenericRingBuffer::<Level<'_>, 3>::new();
+    let mut high = ConstGenericRingBuffer::<Level<'_>, 3>::new();
+    for (one, other) in [(0, 0), (1, 1), (2, 3)] {
+        let _ = low.push(Level {
+            height: one,
+            compared,
+        });
+        let _ = high.push(Level {
+            height: other,
+            compared,
+        });
+    }
+    assert_equal(&rt, low.partial_cmp(&high), Some(Ordering::Less));
+    assert_equal(&rt, compared.get(), 4);
+}
+
+/// Fills a ring of 16, so that its items go round its slots: one of this height, and those from 5 on.
+fn fill_round<'a, R: RingBuffer<Level<'a>>>(
+    rt: &impl Abort,
+    ring: &mut R,
+    first: u32,
+    compared: &'a Cell<u32>,
+) {
+    for number in 0..20 {
+        if ring.len() == 16 {
+            ring.skip();
+        }
+        let height = if number == 4 { first } else { number };
+        assert!(rt; ring.push(Level { height, compared }).is_ok());
+    }
+}
+
+/// Compares a ring with another, and with a slice, that differ in the first item alone.
+fn assert_first_decides<'a, R: RingBuffer<Level<'a>> + PartialEq + Drop>(
+    rt: &(impl Abort + AllocGlobal),
+    mut one: R,
+    mut other: R,
+    compared: &'a Cell<u32>,
+) {
+    fill_round(rt, &mut one, 3, compared);
+    fill_round(rt, &mut other, 4, compared);
+    compared.set(0);
+    assert_equal(rt, one == other, false);
+    assert_equal(rt, compared.get(), 1);
+    let mut others = Vec::new(rt.alloc());
+    for height in 4..20 {
+        others.push(Level { height, compared }).expect(rt, "memory");
+    }
+    assert_equal(rt, one.eq_slice(&others), false);
+    assert_equal(rt, compared.get(), 2);
+}
+
+#[test]
+fn the_first_items_that_differ_decide(rt: HostRuntime) -> Result<(), AllocError> {
+    let compared = &Cell::new(0);
+    let array = ConstGenericRingBuffer::<Level<'_>, 16>::new();
+    assert_first_decides(&rt, array, ConstGenericRingBuffer::new(), compared);
+    let heap = AllocRingBuffer::new(rt.alloc(), 16)?;
+    assert_first_decides(&rt, heap, AllocRingBuffer::new(rt.alloc(), 16)?, compared);
+    let growable = GrowableAllocRingBuffer::with_capacity(rt.alloc(), 16)?;
+    let other = GrowableAllocRingBuffer::with_capacity(rt.alloc(), 16)?;
+    assert_first_decides(&rt, growable, other, compared);
     Ok(())
 }

@@ -79,6 +79,9 @@ const IN_THE_MIDDLE: &[Call<'static>] = &[
     Holds(&[5, 1, 3, 4]),
     RemoveRange(1, 3),
     Holds(&[5, 4]),
+    Push(2),
+    RemoveRange(2, 3),
+    Holds(&[5, 4, 7]),
 ];
 
 const PUT_FIRST: &[Call<'static>] = &[Push(4), PushFront(Some(3)), Holds(&[4, 0, 1, 2])];

@@ -2,7 +2,8 @@
 
 use super::{assert_equal, assert_holds, drought, push_all};
 use ringbuffer::{
-    AllocRingBuffer, CopyRingBuffer, GrowableAllocRingBuffer, RingBuffer, RingBufferExt,
+    AllocRingBuffer, CopyRingBuffer, DoubleEndedRing, GrowableAllocRingBuffer, RingBuffer,
+    RingBufferExt,
 };
 use std::alloc::AllocError;
 use std::mem::size_of;
@@ -107,6 +108,10 @@ fn a_growable_ring_that_is_emptied_keeps_its_room(rt: HostRuntime) -> Result<(),
     for _ in ring.drain() {}
     assert_emptied(&rt, &mut ring, room);
     assert_equal(&rt, ring.dequeue_into(&mut [0; 4]), 3);
+    assert_emptied(&rt, &mut ring, room);
+    for (last, item) in [(2, 3), (1, 2), (0, 1)] {
+        assert_equal(&rt, ring.remove(last), Some(item));
+    }
     assert_emptied(&rt, &mut ring, room);
     Ok(())
 }

@@ -110,11 +110,13 @@ fn items_that_go_round_are_taken_in_one_block(rt: HostRuntime) -> Result<(), All
     let copied = sparing!(&rt, 40, array.to_vec_copied(rt.alloc()));
     assert_equal(&rt, copied.len(), 5);
     let mut heap = AllocRingBuffer::new(rt.alloc(), 70_000)?;
-    heap.extend_from_slice(block(rt.alloc(), 0, 131_000)?.as_slice());
+    heap.extend_from_slice(block(rt.alloc(), 0, 70_000)?.as_slice());
+    heap.extend_from_slice(block(rt.alloc(), 70_000, 62_000)?.as_slice());
+    assert_equal(&rt, heap.as_slices().1.len(), 928);
     let copied = sparing!(&rt, 8 * 70_000, heap.to_vec_copied(rt.alloc()));
-    assert_equal(&rt, copied.first().copied(), Some(61_000));
+    assert_equal(&rt, copied.first().copied(), Some(62_000));
     sparing!(&rt, 8 << 16, heap.set_capacity(60_000));
-    assert_numbers(&rt, &heap, 71_000, 60_000);
+    assert_numbers(&rt, &heap, 72_000, 60_000);
     Ok(())
 }
 
@@ -125,10 +127,11 @@ fn bytes_of(count: usize) -> usize {
 
 /// A ring whose items are taken out, with as much memory as these need.
 trait Taken: DoubleEndedRing<u64> + Drop {
-    /// Fills a ring of a capacity, so that its items go round its slots.
+    /// Fills a ring of a capacity, so that its items go round its slots: the first lies in the last of them.
     fn fill_round(&mut self, rt: &impl Abort, count: usize) {
         self.clear();
-        for number in 0..count.saturating_add(2) {
+        let pushes = count.saturating_add(self.buffer_size()).saturating_sub(1);
+        for number in 0..pushes {
             if self.len() == count {
                 self.skip();
             }
@@ -136,13 +139,16 @@ trait Taken: DoubleEndedRing<u64> + Drop {
         }
     }
 
-    /// Takes out items of a full ring: all, a few from each end, and the others.
+    /// Takes out items of a full ring: all, from either end, a few from each, and the others.
     fn assert_taken(mut self, rt: &(impl Abort + AllocGlobal), count: usize) {
         let (alloc, few) = (rt.alloc(), count.min(3));
         self.fill_round(rt, count);
         let listed = sparing!(rt, bytes_of(count), self.to_vec(alloc));
         let all = sparing!(rt, bytes_of(count), self.take_all(alloc));
         assert!(rt; listed == all && self.is_empty());
+        self.fill_round(rt, count);
+        let all_back = sparing!(rt, bytes_of(count), self.split_off(0, alloc));
+        assert!(rt; all_back == all && self.is_empty());
         self.fill_round(rt, count);
         let first = sparing!(rt, bytes_of(few), self.drain_range(..few, alloc));
         let (front, rest) = all.split_at(few.min(all.len()));

@@ -1,10 +1,15 @@
-//! How often windows combine two values and compare two items. The values and the order count it themselves.
+//! How often windows combine two values, compare two items, and ask about one. The values, the order and the items count it
+//! themselves.
 
+use super::assert_equal;
 use super::random_calls::next_number;
 use ringbuffer::{ConstGenericRingBuffer, RingBuffer};
 use std::cell::Cell;
 use std::process::Abort;
-use window::{AllocWindowFold, Candidate, Kept, Monoid, Order, WindowFold, WindowLeast};
+use window::{
+    AllocWindowFold, Candidate, CountIf, Kept, Monoid, Order, Predicate, WindowFold, WindowLeast,
+    WindowTally,
+};
 
 /// How many samples are pushed.
 const PUSHES: u64 = 1000;
@@ -47,7 +52,7 @@ impl Monoid for Last<'_> {
 }
 
 /// Asserts how often a window without items combines values while it takes some in: at most twice a push, and so often but
-/// for the items that are not folded yet.
+/// for the items that are not folded yet. To read what they combine to takes one call more.
 fn assert_combined<'a, R: RingBuffer<Kept<Last<'a>>> + Drop>(
     rt: &impl Abort,
     mut window: WindowFold<Last<'a>, R>,
@@ -64,6 +69,9 @@ fn assert_combined<'a, R: RingBuffer<Kept<Last<'a>>> + Drop>(
     }
     let most = PUSHES.saturating_mul(2);
     assert!(rt; calls.get() <= most && calls.get() >= most.saturating_sub(len));
+    calls.set(0);
+    let _ = window.fold();
+    assert_equal(rt, calls.get(), 1);
 }
 
 #[test]
@@ -118,4 +126,30 @@ fn levels_are_compared_at_most_twice_a_push(rt: HostRuntime) {
     let compared = Cell::new(0);
     let ring = ConstGenericRingBuffer::<Candidate<Level<'_>>, 7>::new();
     assert_compared(&rt, WindowLeast::new(ring), &compared);
+}
+
+/// Every item, each of which counts how often it is asked about.
+#[derive(Drop)]
+struct Every;
+
+impl<'a> Predicate<&'a Cell<u64>> for Every {
+    ghost use Rattle.std.specs.Prelude.{true};
+
+    ghost holds = { λ _. true };
+
+    fn holds(item: &&'a Cell<u64>) -> bool {
+        item.set(item.get().saturating_add(1));
+        true
+    }
+}
+
+#[test]
+fn a_tally_asks_about_each_item_once(rt: HostRuntime) {
+    let asked = Cell::new(0);
+    let mut ring = ConstGenericRingBuffer::<&Cell<u64>, 7>::new();
+    for _ in 0..5 {
+        assert!(rt; ring.push(&asked).is_ok());
+    }
+    let window = WindowTally::<&Cell<u64>, CountIf<Every>, _>::new(ring);
+    assert_equal(&rt, (window.tally().get(), asked.get()), (5, 5));
 }

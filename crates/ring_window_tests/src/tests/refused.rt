@@ -8,9 +8,9 @@ use std::mem::size_of;
 use std::process::Abort;
 use window::{
     AllocWindowFloatSum, AllocWindowFold, AllocWindowMax, AllocWindowMin, AllocWindowSum,
-    AllocWindowTime, Candidate, Gcd, GrowableAllocWindowFold, GrowableAllocWindowMin,
-    GrowableAllocWindowTime, Kept, Stamped, Summand, WindowFloatSum, WindowFold, WindowMin,
-    WindowSum,
+    AllocWindowTime, Candidate, Gcd, GrowableAllocWindowFloatSum, GrowableAllocWindowFold,
+    GrowableAllocWindowMin, GrowableAllocWindowSum, GrowableAllocWindowTime, Kept, Stamped,
+    Summand, WindowFloatSum, WindowFold, WindowMin, WindowSum,
 };
 
 /// Makes a growable ring that has room for four items, or for some more.
@@ -152,12 +152,15 @@ fn windows_on_the_heap_take_one_block(rt: HostRuntime) {
 
 #[test]
 fn growable_windows_are_made_of_nothing(rt: HostRuntime) {
-    let drought = Drought::total(rt.alloc()).expect(&rt, "memory");
-    let least = GrowableAllocWindowMin::<i64>::growable(rt.alloc());
-    let product = GrowableAllocWindowFold::<Gcd>::growable(rt.alloc());
-    let timed = GrowableAllocWindowTime::<u32>::growable(rt.alloc(), 0);
-    drop(drought);
+    let alloc = rt.alloc();
+    let least = GrowableAllocWindowMin::<i64>::growable(alloc);
+    let product = GrowableAllocWindowFold::<Gcd>::growable(alloc);
+    let sum = GrowableAllocWindowSum::growable(alloc);
+    let float_sum = GrowableAllocWindowFloatSum::growable(alloc);
+    let timed = GrowableAllocWindowTime::<u32>::growable(alloc, 0);
     assert_equal(&rt, least.ring().capacity(), 0);
     assert_equal(&rt, product.ring().capacity(), 0);
+    assert_equal(&rt, sum.ring().capacity(), 0);
+    assert_equal(&rt, float_sum.ring().capacity(), 0);
     assert_equal(&rt, timed.ring().capacity(), 0);
 }

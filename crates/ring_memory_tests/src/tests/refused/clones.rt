@@ -2,7 +2,7 @@
 
 use super::{are_numbered, hold_first, in_drought};
 use crate::tests::{
-    assert_dropped_after, assert_dropped_with, assert_equal, assert_numbered, assert_three,
+    assert_dropped_after, assert_dropped_with, assert_equal, assert_numbered, assert_three, items,
     push_items, supply,
 };
 use ring_test_support::counted::{Counted, Supply};
@@ -125,6 +125,39 @@ fn a_refused_clone_into_a_ring_leaves_those_before_it(rt: HostRuntime) {
     let supply = supply(&rt, 9);
     let (ring, other) = (ConstGenericRingBuffer::new(), ConstGenericRingBuffer::new());
     assert_clone_into_refused(&rt, ring, other, &supply);
+}
+
+/// Pushes clones of three items onto an empty ring with room for three, and puts clones of a ring's three items in the place of
+/// others, where from none to three clones are had. Those that are had stay, and none is asked for twice.
+fn assert_clones_of_slices_refused<'a, R: RingBuffer<Counted<'a>> + Drop>(
+    rt: &(impl Abort + AllocGlobal),
+    mut ring: R,
+    supply: &'a Supply,
+) {
+    for clones in 0..4 {
+        hold_first(rt, &mut ring, supply, 0, clones + 3);
+        let lent = items(rt, supply, 3);
+        let is_extended = RingBuffer::extend_from_slice(&mut ring, &lent).is_ok();
+        assert_equal(rt, (is_extended, ring.len()), (clones == 3, clones));
+        assert_numbered(rt, &ring, 3);
+        drop(lent);
+        hold_first(rt, &mut ring, supply, 3, clones + 6);
+        let mut places = items(rt, supply, 3);
+        let is_copied = RingBuffer::copy_to_slice(&ring, &mut places).is_ok();
+        assert_equal(rt, (clones, is_copied), (clones, clones == 3));
+        for (i, place) in places.iter().enumerate() {
+            let first = if i < clones { 6 } else { 3 };
+            assert_equal(rt, place.number, i.saturating_add(first));
+        }
+        assert_three(rt, &ring, 0);
+    }
+    assert_dropped_with(rt, supply, ring);
+}
+
+#[test]
+fn a_refused_clone_ends_what_goes_from_a_slice_or_to_it(rt: HostRuntime) {
+    let supply = supply(&rt, 9);
+    on_each_of_any!(&rt, 3, assert_clones_of_slices_refused, &supply);
 }
 
 #[test]

@@ -19,6 +19,10 @@ fn texts_and_empty_rings_need_no_memory(rt: HostRuntime) {
     assert!(rt; clone.is_ok_and(|clone| clone.is_empty()));
     assert_equal(&rt, (of_text.len(), of_text == of_string), (2, true));
     assert_equal(&rt, (array.is_empty(), growable.is_empty()), (true, true));
+    // Where there is memory they take none either.
+    let growable = GrowableAllocRingBuffer::<i64>::default(rt.alloc());
+    let clone = growable.clone().expect(&rt, "a clone of nothing");
+    assert_equal(&rt, (growable.capacity(), clone.capacity()), (0, 0));
 }
 
 /// What makes an empty ring.
