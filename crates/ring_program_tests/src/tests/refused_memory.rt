@@ -83,6 +83,23 @@ fn keeps_no_more_room_than_two_long_lines_need(rt: HostRuntime) {
     assert_ended(&rt, &arguments, &outcome, ending);
 }
 
+// The first run would be refused room for the longest text that so many items have, and the second for its input twice.
+#[test]
+fn keeps_its_input_and_its_text_once(rt: HostRuntime) {
+    let zeros = (" 0", 147_448);
+    let script = repeated(&rt, &[("extend", 1), zeros, ("\n", 1)]);
+    let shown = repeated(&rt, &[("extended\nitems", 1), zeros, ("\n", 1)]);
+    let blank = repeated(&rt, &[("\n", 250_000)]);
+    let cases = [
+        (["heap", "147448"], script.as_str(), 4 << 20, shown.as_str()),
+        (["array", "3"], blank.as_str(), 450_000, "items\n"),
+    ];
+    for (arguments, script, room, output) in cases {
+        let outcome = serve_in_drought(&rt, &arguments, Source::of(script.as_bytes()), room);
+        assert_ended(&rt, room, &outcome, prints(output));
+    }
+}
+
 /// Returns the least room, in steps of 8 bytes, with which a run reads from its input.
 fn room_to_read(rt: &(impl Abort + AllocGlobal), arguments: &[&str]) -> usize {
     let _most = Drought::of_most(rt.alloc()).expect(rt, "memory");
