@@ -142,14 +142,28 @@ fn assert_first_decides<'a, R: RingBuffer<Level<'a>> + PartialEq + Drop>(
 }
 
 #[test]
-fn the_first_items_that_differ_decide(rt: HostRuntime) -> Result<(), AllocError> {
-    let compared = &Cell::new(0);
+fn the_first_items_that_differ_decide(rt: HostRuntime) {
+    let compared = Cell::new(0);
     let array = ConstGenericRingBuffer::<Level<'_>, 16>::new();
-    assert_first_decides(&rt, array, ConstGenericRingBuffer::new(), compared);
-    let heap = AllocRingBuffer::new(rt.alloc(), 16)?;
-    assert_first_decides(&rt, heap, AllocRingBuffer::new(rt.alloc(), 16)?, compared);
-    let growable = GrowableAllocRingBuffer::with_capacity(rt.alloc(), 16)?;
-    let other = GrowableAllocRingBuffer::with_capacity(rt.alloc(), 16)?;
-    assert_first_decides(&rt, growable, other, compared);
+    assert_first_decides(&rt, array, ConstGenericRingBuffer::new(), &compared);
+}
+
+/// Compares heap rings, and growable ones.
+fn assert_first_decides_on_the_heap(
+    rt: &(impl Abort + AllocGlobal),
+    alloc: Global,
+) -> Result<(), AllocError> {
+    let compared = Cell::new(0);
+    let heap = AllocRingBuffer::new(alloc, 16)?;
+    let other_heap = AllocRingBuffer::new(alloc, 16)?;
+    assert_first_decides(rt, heap, other_heap, &compared);
+    let growable = GrowableAllocRingBuffer::new(alloc);
+    let other = GrowableAllocRingBuffer::new(alloc);
+    assert_first_decides(rt, growable, other, &compared);
     Ok(())
+}
+
+#[test]
+fn the_first_items_that_differ_decide_on_the_heap(rt: HostRuntime) -> Result<(), AllocError> {
+    assert_first_decides_on_the_heap(&rt, rt.alloc())
 }
